@@ -8,15 +8,14 @@ use Rattle.amd_symbolic.proofs.children.greatest_child.Goals.{then-ptr-greatest,
 
 pub children-preserved : goal.children-preserved
 children-preserved g c =
-    let i = c.children.invariant in
     let child = c.in-Some-next.child in
     let size : ℕ → ℕ = λ m. slice_index c.args.ptr.now (m + 1) - slice_index c.args.ptr.now m in
-    let is : IsChild g.c child = subst (LeadsTo g.c.order g.c.place) c.in-Some-next.is i.leads in
+    let is : IsChild g.c child = subst (LeadsTo g.c.order g.c.place) c.in-Some-next.is c.children.invariant.leads in
     let previous : IsLastChild g.c.order g.c.place child (slice_index_or c.args.link.now child None) =
     c.requires.1.1.0.previous child g.c.place is.entry.0 is in
     let far : (greatest : ℕ) → size child ≤ size greatest → size c.children.greatest ≤ size greatest → (m : ℕ) → IsChild g.c m →
     IsAhead (slice_index_or c.args.link.now child None) m ⊎ (size m ≤ size greatest) =
-    (λ greatest a b m p. elim (i.greatest m p) [
+    (λ greatest a b m p. elim (c.children.invariant.greatest m p) [
       | inl x ↦ elim (cases_eq m child) [
         | inl q ↦ inr (subst (λ y. size y ≤ size greatest) (sym q) a)
         | inr ne ↦ inl (ahead_past g.c.order g.c.place child m (slice_index_or c.args.link.now child None) previous p
@@ -31,7 +30,7 @@ children-preserved g c =
         greatest = far child (omega arith) (omega (arith, t));
       }))
       | else-ptr-greatest w ↦ (let t = w.if-ptr-greatest.false in rw w.greatest-is (record {
-        child = i.child;
+        child = c.children.invariant.child;
         leads = leads g.c.order g.c.place child (slice_index_or c.args.link.now child None) previous;
         greatest = far c.children.greatest t (omega arith);
       }))

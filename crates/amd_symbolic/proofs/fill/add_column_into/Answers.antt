@@ -7,22 +7,22 @@ use Rattle.amd_symbolic.proofs.fill.add_column_into.Goals as goal
 
 pub overflow_add-size : goal.overflow_add-size
 overflow_add-size g c =
-    let r = c.requires.1.1 in
-    let filled = r.1.1.1.1.0 in
-    let plan = c.plan_column-plan.result in let e = c.plan_column-plan.ensures in
-    let count = e.count in
+    let filled = c.requires.1.1.1.1.1.1.0 in
+    let plan = c.plan_column-plan.result in let count = c.plan_column-plan.ensures.count in
     let short = taken_short g.o c.args.k c.args.ptr.now (counts (map g.N.Number.value (take (slice_index c.args.ptr.now c.args.k)
-    c.args.rows.now))) (take plan.count c.plan_column-plan.new.fresh) plan.from plan.to filled.filled.columns e.plans in
-    let room = filled.filled.parents.room in let same = c.plan_column-plan.auto.fresh in let all = r.1.1.1.1.1 in
+    c.args.rows.now))) (take plan.count c.plan_column-plan.new.fresh) plan.from plan.to filled.filled.columns
+    c.plan_column-plan.ensures.plans in
+    let room = filled.filled.parents.room in let same = c.plan_column-plan.auto.fresh in let all = c.requires.1.1.1.1.1.1.1 in
     omega (arith, short, count, room, same, all)
 
 pub returns-then-rows-begin-clause-filled : goal.returns-then-rows-begin-clause-filled
 returns-then-rows-begin-clause-filled g c =
-    let r = c.requires.1.1 in
-    let filled = r.1.1.1.1.0 in
-    let plan = c.plan_column-plan.result in let e = c.plan_column-plan.ensures in
-    let count = length-take-le plan.count c.plan_column-plan.new.fresh e.count in
+    let filled = c.requires.1.1.1.1.1.1.0 in
+    let plan = c.plan_column-plan.result in let count = length-take-le plan.count c.plan_column-plan.new.fresh
+    c.plan_column-plan.ensures.count in
     let more = c.if-rows-begin.true in let within = filled.within in
-    passes g.o r.0 c.args.k c.args.ptr.now (counts (map g.N.Number.value (take (slice_index c.args.ptr.now c.args.k) c.args.rows.now)))
-    (take plan.count c.plan_column-plan.new.fresh) plan.from plan.to (length c.args.rows.now) r.1.0 filled.filled.columns e.plans
+    passes g.o c.requires.1.1.0 c.args.k c.args.ptr.now
+    (counts (map g.N.Number.value (take (slice_index c.args.ptr.now c.args.k) c.args.rows.now)))
+    (take plan.count c.plan_column-plan.new.fresh) plan.from plan.to (length c.args.rows.now) c.requires.1.1.1.0 filled.filled.columns
+    c.plan_column-plan.ensures.plans
     (omega (arith, count, more, within))

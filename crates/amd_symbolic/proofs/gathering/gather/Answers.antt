@@ -12,12 +12,11 @@ place_at-requires-clause-small g c =
     let l = e.1 in let r = c.rows.invariant.marks.room in let s = c.rows.auto.mark in omega (arith, l, r, s)
 
 pub list_row-listed-requires : goal.list_row-listed-requires
-list_row-listed-requires g c =
-    let i = c.rows.invariant in (
-      subst (EntryOf g.c) (sym c.place_at.ensures)
-          (c.requires.1.1.1.0 _ (place_of g.N.Number.value c.args.rows.now c.rows.k c.rows-test.true)),
-      (c.rows.auto.fresh ∙ c.requires.1.1.1.1.0, (i.listed, i.marks)),
-    )
+list_row-listed-requires g c = (
+  subst (EntryOf g.c) (sym c.place_at.ensures)
+      (c.requires.1.1.1.0 _ (place_of g.N.Number.value c.args.rows.now c.rows.k c.rows-test.true)),
+  (c.rows.auto.fresh ∙ c.requires.1.1.1.1.0, (c.rows.invariant.listed, c.rows.invariant.marks)),
+)
 
 pub returns-clause-all : goal.returns-clause-all
 returns-clause-all g c = λ j h.

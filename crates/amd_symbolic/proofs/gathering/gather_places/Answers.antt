@@ -5,11 +5,10 @@ use Rattle.amd_symbolic.proofs.NewRows.{place_in}
 use Rattle.amd_symbolic.proofs.gathering.gather_places.Goals as goal
 
 pub list_row-listed-requires : goal.list_row-listed-requires
-list_row-listed-requires g c =
-    let i = c.rows.invariant in (
-      c.requires.0 _ (Contains-get_or c.args.rows.now c.rows.row-index 0 c.rows-test.true),
-      (c.rows.auto.fresh ∙ c.requires.1.0, (i.listed, i.marks)),
-    )
+list_row-listed-requires g c = (
+  c.requires.0 _ (Contains-get_or c.args.rows.now c.rows.row-index 0 c.rows-test.true),
+  (c.rows.auto.fresh ∙ c.requires.1.0, (c.rows.invariant.listed, c.rows.invariant.marks)),
+)
 
 pub returns-clause-all : goal.returns-clause-all
 returns-clause-all g c = λ j h.

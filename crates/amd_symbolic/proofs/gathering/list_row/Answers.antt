@@ -6,29 +6,27 @@ use Rattle.amd_symbolic.proofs.gathering.list_row.Goals as goal
 
 pub bounds-fresh-listed : goal.bounds-fresh-listed
 bounds-fresh-listed g c =
-    let r = c.requires in
-    let m = room_for_one g.c c.args.stamp (take c.args.listed c.args.fresh.now) c.args.mark.now r.1.1.1 c.args.row r.0
+    let m = room_for_one g.c c.args.stamp (take c.args.listed c.args.fresh.now) c.args.mark.now c.requires.1.1.1 c.args.row c.requires.0
     c.if-mark-row.false in
-    let l = length-take-le c.args.listed c.args.fresh.now r.1.1.0 in
-    let s = r.1.0 in omega (arith, m, l, s)
+    let l = length-take-le c.args.listed c.args.fresh.now c.requires.1.1.0 in
+    let s = c.requires.1.0 in omega (arith, m, l, s)
 
 pub returns-clause-count : goal.returns-clause-count
 returns-clause-count g c =
-    let r = c.requires in
-    let m = room_for_one g.c c.args.stamp (take c.args.listed c.args.fresh.now) c.args.mark.now r.1.1.1 c.args.row r.0
+    let m = room_for_one g.c c.args.stamp (take c.args.listed c.args.fresh.now) c.args.mark.now c.requires.1.1.1 c.args.row c.requires.0
     c.if-mark-row.false in
-    let l = length-take-le c.args.listed c.args.fresh.now r.1.1.0 in
+    let l = length-take-le c.args.listed c.args.fresh.now c.requires.1.1.0 in
     let n = length-set c.args.fresh.now c.args.listed c.args.row in
-    let s = r.1.0 in omega (arith, m, l, s, n)
+    let s = c.requires.1.0 in omega (arith, m, l, s, n)
 
 pub returns-clause-marks : goal.returns-clause-marks
 returns-clause-marks g c =
-    let r = c.requires in
-    let m = room_for_one g.c c.args.stamp (take c.args.listed c.args.fresh.now) c.args.mark.now r.1.1.1 c.args.row r.0
+    let m = room_for_one g.c c.args.stamp (take c.args.listed c.args.fresh.now) c.args.mark.now c.requires.1.1.1 c.args.row c.requires.0
     c.if-mark-row.false in
-    let l = length-take-le c.args.listed c.args.fresh.now r.1.1.0 in
-    let s = r.1.0 in
+    let l = length-take-le c.args.listed c.args.fresh.now c.requires.1.1.0 in
+    let s = c.requires.1.0 in
     let inside : c.args.listed < length c.args.fresh.now = omega (arith, m, l, s) in
     listed_more c.args.fresh.now c.args.listed c.args.row inside
     (λ xs. Marks g.c c.args.stamp xs (set c.args.mark.now c.args.row c.args.stamp))
-    (marks_more g.c c.args.stamp (take c.args.listed c.args.fresh.now) c.args.mark.now r.1.1.1 c.args.row r.0 c.if-mark-row.false)
+    (marks_more g.c c.args.stamp (take c.args.listed c.args.fresh.now) c.args.mark.now c.requires.1.1.1 c.args.row c.requires.0
+    c.if-mark-row.false)

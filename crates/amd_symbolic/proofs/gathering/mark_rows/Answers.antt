@@ -24,7 +24,6 @@ bounds-mark-place_at g c =
 
 pub rows-preserved : goal.rows-preserved
 rows-preserved g c =
-    let i = c.rows.invariant in
     let rows = counts (map g.N.Number.value c.args.rows.now) in
     let row = slice_index rows c.rows.k in
     let w = c.requires.within _ (place_of g.N.Number.value c.args.rows.now c.rows.k c.rows-test.true) in
@@ -35,13 +34,13 @@ rows-preserved g c =
       marked = λ k l. elim (cases_eq (slice_index rows k) row) [
         | inl q ↦ ap (slice_index (set c.rows.mark row c.args.stamp)) q ∙ here
         | inr ne ↦ get_or-set_other c.rows.mark row (slice_index rows k) c.args.stamp 0 ne ∙
-            i.marked k (elim (cases_eq k c.rows.k) [
+            c.rows.invariant.marked k (elim (cases_eq k c.rows.k) [
               | inl e ↦ absurd (ne (ap (slice_index rows) e))
               | inr low ↦ omega (arith, l, low)
             ])
       ];
       others = λ j none. get_or-set_other c.rows.mark row j c.args.stamp 0 (λ q. none c.rows.k (omega arith) (sym q)) ∙
-          i.others j (λ k l. none k (omega (arith, l)));
+          c.rows.invariant.others j (λ k l. none k (omega (arith, l)));
     })
 
 pub returns-clause-marked : goal.returns-clause-marked
