@@ -1,6 +1,7 @@
 use Rattle.std.proofs.Common.{◌≤◌, ◌+◌, ◌-◌, ◌⊎◌, ℕ, inl, inr, subst, sym, arith}
 use Rattle.std.specs.Prelude.{slice_index, slice_index_or, None}
 use Rattle.std.proofs.lemmas.Bool.{cases_eq}
+use Rattle.std.proofs.lemmas.Grind.{common_steps}
 use Rattle.amd_symbolic.specs.Gathering.{IsChild, IsLastChild}
 use Rattle.amd_symbolic.proofs.Descent.{IsAhead, LeadsTo, ahead_past, leads}
 use Rattle.amd_symbolic.proofs.children.greatest_child.Goals as goal
@@ -35,3 +36,6 @@ children-preserved g c =
         greatest = far c.children.greatest t (omega arith);
       }))
     ]
+
+pub children-smaller : goal.children-smaller
+children-smaller g c = grind (arith, common_steps)

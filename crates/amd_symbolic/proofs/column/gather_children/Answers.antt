@@ -1,6 +1,7 @@
-use Rattle.std.proofs.Common.{ℕ, ◌≡◌, ◌⊎◌, inl, inr, subst, sym, ◌∙◌, map}
+use Rattle.std.proofs.Common.{ℕ, ◌≡◌, ◌⊎◌, inl, inr, subst, sym, ◌∙◌, map, arith}
 use Rattle.std.specs.Prelude.{slice_index_or, None, Contains}
 use Rattle.std.proofs.lemmas.Bool.{cases_eq}
+use Rattle.std.proofs.lemmas.Grind.{common_steps}
 use Rattle.amd_symbolic.specs.Trees.{Entry}
 use Rattle.amd_symbolic.specs.Gathering.{IsChild, IsLastChild}
 use Rattle.amd_symbolic.proofs.ByChildren.{entry_by_child}
@@ -80,3 +81,9 @@ children-preserved g c =
         ];
       })
     ]
+
+pub offset_bounds-rows-from : goal.offset_bounds-rows-from
+offset_bounds-rows-from g c = grind (arith, common_steps)
+
+pub slice_bounds-gather-end : goal.slice_bounds-gather-end
+slice_bounds-gather-end g c = grind (arith, common_steps)

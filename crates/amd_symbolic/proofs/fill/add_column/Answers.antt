@@ -1,6 +1,7 @@
 use Rattle.std.proofs.Common.{◌≡◌, ◌∙◌, sym, subst, arith, map, take, take_all}
 use Rattle.std.specs.Prelude.{slice_index}
 use Rattle.std.proofs.lemmas.List.{length-take-le}
+use Rattle.std.proofs.lemmas.Grind.{common_steps}
 use Rattle.amd_types.specs.Counts.{counts}
 use Rattle.amd_symbolic.specs.Gathering.{HoldBefore}
 use Rattle.amd_symbolic.proofs.Fronts.{passes}
@@ -19,3 +20,9 @@ returns-then-room-begin-clause-filled g c =
     (take plan.count c.plan_column-plan.new.fresh)
     plan.from plan.to c.args.room c.requires.1.1.1.1.0 columns c.plan_column-plan.ensures.plans
     (omega (arith, count, begin, more, within, full))
+
+pub returns-clause-within : goal.returns-clause-within
+returns-clause-within g c = grind (arith, common_steps)
+
+pub returns-clause-full : goal.returns-clause-full
+returns-clause-full g c = grind (arith, common_steps)
