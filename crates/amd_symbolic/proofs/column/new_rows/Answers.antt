@@ -1,12 +1,24 @@
-use Rattle.std.proofs.Common.{◌≡◌, sym, ◌∙◌, subst, length, take}
+use Rattle.std.proofs.Common.{ℕ, List, ◌≡◌, ◌+◌, sym, ◌∙◌, subst, arith, length, take}
+use Rattle.std.specs.Prelude.{Option}
 use Rattle.std.proofs.lemmas.Bool.{eqb-true}
 use Rattle.std.proofs.lemmas.List.{length-take-le, take_at}
 use Rattle.std.proofs.lemmas.List.Sorted.{IsNonDecreasingBy-from_sort}
-use Rattle.amd_symbolic.specs.Gathering.{Completes}
+use Rattle.amd_symbolic.specs.Gathering.{Completes, MarksTell}
+use Rattle.amd_symbolic.specs.Orders.{Order}
 use Rattle.amd_symbolic.proofs.Completing.{all_marked, base_marked, completes_alone, inherited_gives, neighbour_gives, tell_next}
 use Rattle.amd_symbolic.proofs.NewRows.{completes}
 use Rattle.amd_symbolic.proofs.PlaceNumbers.{are_range, counts_range}
 use Rattle.amd_symbolic.proofs.column.new_rows.Goals as goal
+
+-- marks that tell a column still tell it one place later
+tell_later : (o : Order) (k : ℕ) (column : Option ℕ) (stamp : ℕ) (mark : List ℕ) → MarksTell o k column stamp mark →
+    MarksTell o (k + 1) column stamp mark
+tell_later o k column stamp mark h = record {
+  room = h.room;
+  recent = (let r = h.recent in omega (arith, r));
+  low = λ j l. (let a = h.low j l in omega (arith, a));
+  tell = λ m e. ((let a = (h.tell m e).0 in omega (arith, a)), (h.tell m e).1);
+}
 
 pub returns-then-not-tells-clause-completes : goal.returns-then-not-tells-clause-completes
 returns-then-not-tells-clause-completes g c =
@@ -100,3 +112,7 @@ returns-clause-marks g c =
     (all_marked g.c c.requires.1.1.0 c.args.neighbours.now c.gather_places-count.new.mark c.mark_base-stamp.result
     c.requires.1.1.1.1.1.1.1.1.1.1.1.1.1.0 c.gather_places-count.ensures.all
     (λ m j p behind x. c.gather_places-count.ensures.kept j (c.gather_children-count.ensures.children m j p behind x)))
+
+pub returns-then-not-tells-clause-marks : goal.returns-then-not-tells-clause-marks
+returns-then-not-tells-clause-marks g c =
+    tell_later g.c.order g.c.place c.args.marked.column c.args.marked.stamp c.args.mark.now c.requires.1.1.1.1.1.1.1.1.1.1.1.1.1.1.0
