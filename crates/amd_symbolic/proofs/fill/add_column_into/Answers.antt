@@ -5,6 +5,33 @@ use Rattle.amd_types.specs.Counts.{counts}
 use Rattle.amd_symbolic.proofs.Fronts.{passes, taken_short}
 use Rattle.amd_symbolic.proofs.fill.add_column_into.Goals as goal
 
+pub plan_column-plan-requires : goal.plan_column-plan-requires
+plan_column-plan-requires g c κs inside = (
+  inside.0,
+  (
+    inside.1,
+    (
+      c.requires.1.1.0,
+      (
+        c.requires.1.1.1.0,
+        (
+          c.requires.1.1.1.1.1.0,
+          (
+            c.requires.1.1.1.1.1.1.0.filled.links,
+            (
+              c.requires.1.1.1.1.1.1.0.numbers,
+              (
+                c.requires.1.1.1.1.1.1.0.filled.columns,
+                (c.requires.1.1.1.1.1.1.0.filled.marks, c.requires.1.1.1.1.1.1.1),
+              ),
+            ),
+          ),
+        ),
+      ),
+    ),
+  ),
+)
+
 pub overflow_add-size : goal.overflow_add-size
 overflow_add-size g c =
     let filled = c.requires.1.1.1.1.1.1.0 in
