@@ -1,6 +1,7 @@
 use Rattle.std.proofs.Common.{◌≡◌, ◌+◌, ◌*◌, ◌<◌, ◌≤◌, ℕ, Fits, w64, map, length, get_or, arith, add-one}
 use Rattle.std.proofs.Math.Nat.{mul-le-mul_right}
 use Rattle.std.proofs.lemmas.List.{length-map}
+use Rattle.std.proofs.lemmas.Grind.{common_steps}
 use Rattle.amd_types.specs.Counts.{counts}
 use Rattle.amd_edges.proofs.Forms.{pointer_fits, row_fits, place_within}
 use Rattle.amd_symbolic.proofs.Entries.{far_first, far_last}
@@ -92,8 +93,7 @@ pub entries-preserved : goal.entries-preserved
 entries-preserved g c =
     let end = c.count_at-end.ensures.count in
     let row = c.count_at.ensures.count in
-    let old = c.entries.invariant in
-    let from = old.from in
+    let from = c.entries.invariant.from in
     let n = c.args.size in
     let j = c.args.column in
     let q = c.entries.entry in
@@ -108,20 +108,21 @@ entries-preserved g c =
             let up : get_or places (get_or (counts (map g.I.Number.value c.args.a_i.now)) q 0) 0 < get_or places j 0 =
             rw (← row) w.if-there-here.true in
             rw (w.visitor-is, far_up n _ _ c.requires.form j q c.requires.column_in high order.0 places order.1 from up, ← row)
-            (w.arc.ensures _ _ _ old.held
+            (w.arc.ensures _ _ _ c.entries.invariant.held
             (rw row (next_up n _ _ c.requires.form j q c.requires.column_in high order.0 places order.1 from up))))
         | else-there-here+then-here-there w ↦ (
             let down : get_or places j 0 < get_or places (get_or (counts (map g.I.Number.value c.args.a_i.now)) q 0) 0 =
             rw (← row) w.if-here-there.true in
             rw (w.visitor-is, far_down n _ _ c.requires.form j q c.requires.column_in high order.0 places order.1 from down, ← row)
-            (w.arc-then-here-there.ensures _ _ _ old.held
+            (w.arc-then-here-there.ensures _ _ _ c.entries.invariant.held
             (rw row (next_down n _ _ c.requires.form j q c.requires.column_in high order.0 places order.1 from down))))
         | else-there-here+else-here-there w ↦ (
             let least : get_or places j 0 ≤ get_or places (get_or (counts (map g.I.Number.value c.args.a_i.now)) q 0) 0 =
             rw (← row) w.if-there-here.false in
             let most : get_or places (get_or (counts (map g.I.Number.value c.args.a_i.now)) q 0) 0 ≤ get_or places j 0 =
             rw (← row) w.if-here-there.false in
-            rw (w.visitor-is, far_same n _ _ c.requires.form j q c.requires.column_in high order.0 places order.1 from least most) old.held)
+            rw (w.visitor-is, far_same n _ _ c.requires.form j q c.requires.column_in high order.0 places order.1 from least most)
+            c.entries.invariant.held)
       ];
     }
 
@@ -136,3 +137,9 @@ returns g c =
     let least = c.entries-test.false in
     let all : c.entries.entry ≡ get_or ap' (c.args.column + 1) 0 = omega (arith, end, most, least) in
     record { held = rw (add-one, ← far_last c.args.places.now ap' ai c.args.column c.entries.entry all) c.entries.invariant.held }
+
+pub count_at-entry-requires-clause-within : goal.count_at-entry-requires-clause-within
+count_at-entry-requires-clause-within g c = grind (arith, common_steps)
+
+pub count_at-end-requires-clause-within : goal.count_at-end-requires-clause-within
+count_at-end-requires-clause-within g c = grind (arith, common_steps)

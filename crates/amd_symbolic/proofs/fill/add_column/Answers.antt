@@ -66,3 +66,6 @@ returns-clause-within g c = grind (arith, common_steps)
 
 pub returns-clause-full : goal.returns-clause-full
 returns-clause-full g c = grind (arith, common_steps)
+
+pub returns-clause-filled : goal.returns-clause-filled
+returns-clause-filled g c = grind (arith, common_steps)

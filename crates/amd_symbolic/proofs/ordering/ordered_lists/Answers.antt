@@ -1,5 +1,6 @@
-use Rattle.std.proofs.Common.{ℤ, pos, ◌≡◌, List, map, rules}
+use Rattle.std.proofs.Common.{pos, ◌≡◌, map, rules, arith}
 use Rattle.std.specs.Prelude.{IfErr}
+use Rattle.std.proofs.lemmas.Grind.{common_steps}
 use Rattle.amd_types.specs.Counts.{counts}
 use Rattle.amd_symbolic.specs.declared.factor.Fault.TheVariants.{OutOfMemory}
 use Rattle.amd_symbolic.specs.Counted.{IsCountsFault}
@@ -19,3 +20,6 @@ returns-in_default-clause-fault g c = ((λ _. c.requires.form), rw c.in_default.
 pub earlier_lists-requires-clause-places : goal.earlier_lists-requires-clause-places
 earlier_lists-requires-clause-places g c =
     (counts (map g.I.Number.value c.args.p.now), rw c.deref.ensures.value (rw c.in-Some.is at c.in_ok-places.ensures.places))
+
+pub returns-clause-lists : goal.returns-clause-lists
+returns-clause-lists g c = grind (arith, common_steps)
