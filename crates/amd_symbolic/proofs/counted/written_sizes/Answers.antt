@@ -9,16 +9,26 @@ pub count_by_meetings-requires : goal.count_by_meetings-requires
 count_by_meetings-requires g c =
     let h = c.requires.1.1 in
     let columns : length c.args.starts.now - 1 ≡ length g.o.rows = (let room = h.room in omega (arith, room)) in
-    let parent : length c.deref_mut.result.now ≡ length c.args.starts.now - 1 = search rules in
-    let sizes : length c.deref_mut-2.result.now ≡ length c.args.starts.now - 1 = search rules in
-    let order : length c.deref_mut-3.result.now ≡ length c.args.starts.now - 1 = search rules in
-    let up : length c.deref_mut-4.result.now ≡ length c.args.starts.now - 1 = search rules in
-    let last : length c.deref_mut-5.result.now ≡ length c.args.starts.now - 1 = search rules in
-    let subtree : length c.deref_mut-6.result.now ≡ length c.args.starts.now = search rules in
-    let link : length c.deref_mut-7.result.now ≡ length c.args.starts.now = search rules in
-    let rank : length c.deref_mut-8.result.now ≡ length c.args.starts.now = search rules in
-    let plus : length c.deref_mut-9.result.now ≡ length c.args.starts.now = search rules in
-    let minus : length c.deref_mut-10.result.now ≡ length c.args.starts.now = search rules in (
+    let parent : length c.deref_mut.result.now ≡ length c.args.starts.now - 1 =
+    omega (arith, c.deref_mut.ensures, c.in_ok-parent.ensures) in
+    let sizes : length c.deref_mut-2.result.now ≡ length c.args.starts.now - 1 =
+    omega (arith, c.deref_mut-2.ensures, c.in_ok-sizes.ensures) in
+    let order : length c.deref_mut-3.result.now ≡ length c.args.starts.now - 1 =
+    omega (arith, c.deref_mut-3.ensures, c.in_ok-order.ensures) in
+    let up : length c.deref_mut-4.result.now ≡ length c.args.starts.now - 1 =
+    omega (arith, c.deref_mut-4.ensures, c.in_ok-up.ensures) in
+    let last : length c.deref_mut-5.result.now ≡ length c.args.starts.now - 1 =
+    omega (arith, c.deref_mut-5.ensures, c.in_ok-last.ensures) in
+    let subtree : length c.deref_mut-6.result.now ≡ length c.args.starts.now =
+    omega (arith, c.deref_mut-6.ensures, c.in_ok-subtree.ensures) in
+    let link : length c.deref_mut-7.result.now ≡ length c.args.starts.now =
+    omega (arith, c.deref_mut-7.ensures, c.in_ok-link.ensures) in
+    let rank : length c.deref_mut-8.result.now ≡ length c.args.starts.now =
+    omega (arith, c.deref_mut-8.ensures, c.in_ok-rank.ensures) in
+    let plus : length c.deref_mut-9.result.now ≡ length c.args.starts.now =
+    omega (arith, c.deref_mut-9.ensures, c.in_ok-plus.ensures) in
+    let minus : length c.deref_mut-10.result.now ≡ length c.args.starts.now =
+    omega (arith, c.deref_mut-10.ensures, c.in_ok-minus.ensures) in (
       c.requires.1.0,
       (
         h,
