@@ -8,10 +8,10 @@ up-init g c = record { links = c.requires.1.1; most = c.requires.1.0; over = its
 
 pub up-preserved : goal.up-preserved
 up-preserved g c =
-    let i = c.up.invariant in
-    let r = two g.at.0 g.at.1 c.up.link i.links c.up.x i.most in record {
-      links = drawn g.at.0 g.at.1 c.up.link i.links c.up.x i.most;
+    let r = two g.at.0 g.at.1 c.up.link c.up.invariant.links c.up.x c.up.invariant.most in record {
+      links = drawn g.at.0 g.at.1 c.up.link c.up.invariant.links c.up.x c.up.invariant.most;
       most = r.2;
-      over = above-trans g.at.0.up i.over r.3;
-      lowest = λ q m a h. two-keeps g.at.0 g.at.1 c.up.link i.links c.up.x i.most q m (i.lowest q m a h) h;
+      over = above-trans g.at.0.up c.up.invariant.over r.3;
+      lowest = λ q m a h. two-keeps g.at.0 g.at.1 c.up.link c.up.invariant.links c.up.x c.up.invariant.most q m
+          (c.up.invariant.lowest q m a h) h;
     }
