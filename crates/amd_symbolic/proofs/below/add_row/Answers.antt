@@ -10,47 +10,46 @@ use Rattle.amd_symbolic.proofs.below.add_row.Goals as goal
 
 pub earlier-init : goal.earlier-init
 earlier-init g c =
-    let r = c.requires.1.1 in let rows = counts (map g.I.Number.value c.args.rows.now) in record {
+    let rows = counts (map g.I.Number.value c.args.rows.now) in record {
       climbs = subst (λ xs. Climbs g.b c.args.j (slice_index g.b.owner c.args.j) c.args.next.now
-          (set c.args.mark.now (slice_index xs c.args.j) (c.args.j + 1)) rows) (sym r.1.1.1.0)
-          (climbs-begin g.b c.args.j c.args.next.now rows r.1.0 c.args.mark.now r.1.1.1.1.1.1.0 r.1.1.1.1.1.1.1.0);
-      told = r.1.1.1.1.1.1.1.1;
+          (set c.args.mark.now (slice_index xs c.args.j) (c.args.j + 1)) rows) (sym c.requires.1.1.1.1.1.0)
+          (climbs-begin g.b c.args.j c.args.next.now rows c.requires.1.1.1.0 c.args.mark.now c.requires.1.1.1.1.1.1.1.1.0
+          c.requires.1.1.1.1.1.1.1.1.1.0);
+      told = c.requires.1.1.1.1.1.1.1.1.1.1;
       marked = λ s l. absurd (omega (arith, l));
     }
 
 pub offset_bounds-owner-i : goal.offset_bounds-owner-i
 offset_bounds-owner-i g c =
-    let r = c.requires.1.1 in
-    let e = (neighbour g.b.order c.args.j c.args.earlier.now c.earlier.i-index r.1.1.1.1.1.0 c.earlier-test.true).0 in
-    let j = r.1.0 in let o = ap length r.1.1.1.0 in omega (arith, e, j, o)
+    let e = (neighbour g.b.order c.args.j c.args.earlier.now c.earlier.i-index c.requires.1.1.1.1.1.1.1.0 c.earlier-test.true).0 in
+    let j = c.requires.1.1.1.0 in let o = ap length c.requires.1.1.1.1.1.0 in omega (arith, e, j, o)
 
 pub bounds-owner-i : goal.bounds-owner-i
 bounds-owner-i g c =
-    let r = c.requires.1.1 in
-    let e = (neighbour g.b.order c.args.j c.args.earlier.now c.earlier.i-index r.1.1.1.1.1.0 c.earlier-test.true).0 in
-    let j = r.1.0 in let o = ap length r.1.1.1.0 in omega (arith, e, j, o)
+    let e = (neighbour g.b.order c.args.j c.args.earlier.now c.earlier.i-index c.requires.1.1.1.1.1.1.1.0 c.earlier-test.true).0 in
+    let j = c.requires.1.1.1.0 in let o = ap length c.requires.1.1.1.1.1.0 in omega (arith, e, j, o)
 
 pub climb-requires : goal.climb-requires
 climb-requires g c κs within =
-    let r = c.requires.1.1 in let i = c.earlier.invariant.climbs in
+    let i = c.earlier.invariant.climbs in
     let rows = counts (map g.I.Number.value c.earlier.rows) in
-    let e = neighbour g.b.order c.args.j c.args.earlier.now c.earlier.i-index r.1.1.1.1.1.0 c.earlier-test.true in
+    let e = neighbour g.b.order c.args.j c.args.earlier.now c.earlier.i-index c.requires.1.1.1.1.1.1.1.0 c.earlier-test.true in
     let place = slice_index c.args.earlier.now c.earlier.i-index in (
       within.0,
       (
         within.1,
         (
-          r.0,
+          c.requires.1.1.0,
           (
-            r.1.0,
+            c.requires.1.1.1.0,
             (
-              r.1.1.0,
+              c.requires.1.1.1.1.0,
               (
-                r.1.1.1.1.0,
+                c.requires.1.1.1.1.1.1.0,
                 (
-                  subst (λ xs. Climbs g.b c.args.j (slice_index xs place) c.earlier.next c.earlier.mark rows) (sym r.1.1.1.0)
+                  subst (λ xs. Climbs g.b c.args.j (slice_index xs place) c.earlier.next c.earlier.mark rows) (sym c.requires.1.1.1.1.1.0)
                       (climbs-from g.b c.args.j (slice_index g.b.owner place) c.earlier.next c.earlier.mark rows i
-                      (begins g.b i.cut.columns i.cut.partition r.0 place c.args.j e.0 r.1.0 e.1)),
+                      (begins g.b i.cut.columns i.cut.partition c.requires.1.1.0 place c.args.j e.0 c.requires.1.1.1.0 e.1)),
                   c.earlier.invariant.told,
                 ),
               ),
@@ -62,19 +61,21 @@ climb-requires g c κs within =
 
 pub earlier-preserved : goal.earlier-preserved
 earlier-preserved g c =
-    let r = c.requires.1.1 in let e = c.climb.ensures in record {
-      climbs = e.climbs;
-      told = e.told;
+    record {
+      climbs = c.climb.ensures.climbs;
+      told = c.climb.ensures.told;
       marked = λ s l. elim (cases_eq s c.earlier.i-index) [
         | inl q ↦ subst (λ x. IsMarkedBy c.climb.new.mark c.args.j (slice_index g.b.owner (slice_index c.args.earlier.now x))) (sym q)
             (subst (λ xs. IsMarkedBy c.climb.new.mark c.args.j (slice_index xs (slice_index c.args.earlier.now c.earlier.i-index)))
-            r.1.1.1.0 e.marked)
-        | inr ne ↦ e.kept (slice_index g.b.owner (slice_index c.args.earlier.now s)) (c.earlier.invariant.marked s (omega (arith, l, ne)))
+            c.requires.1.1.1.1.1.0 c.climb.ensures.marked)
+        | inr ne ↦ c.climb.ensures.kept (slice_index g.b.owner (slice_index c.args.earlier.now s))
+            (c.earlier.invariant.marked s (omega (arith, l, ne)))
       ];
     }
 
 pub returns-clause-written : goal.returns-clause-written
 returns-clause-written g c =
-    let r = c.requires.1.1 in let i = c.earlier.invariant in let t = c.earlier-test.false in
-    climbs-end g.b c.args.j c.earlier.next (counts (map g.I.Number.value c.earlier.rows)) r.1.0 r.0 c.earlier.mark i.climbs
-    c.args.earlier.now r.1.1.1.1.1.0 (λ s l. i.marked s (omega (arith, l, t)))
+    let t = c.earlier-test.false in
+    climbs-end g.b c.args.j c.earlier.next (counts (map g.I.Number.value c.earlier.rows)) c.requires.1.1.1.0 c.requires.1.1.0
+    c.earlier.mark c.earlier.invariant.climbs
+    c.args.earlier.now c.requires.1.1.1.1.1.1.1.0 (λ s l. c.earlier.invariant.marked s (omega (arith, l, t)))

@@ -1,4 +1,4 @@
-use Rattle.std.proofs.Common.{◌≡◌, pos, ap, subst, length, map}
+use Rattle.std.proofs.Common.{pos, ap, subst, length, map}
 use Rattle.amd_types.specs.Counts.{counts}
 use Rattle.amd_symbolic.specs.Partitions.{WrittenTo}
 use Rattle.amd_symbolic.proofs.SupernodeRows.{hold-supernodes}
@@ -8,37 +8,36 @@ use Rattle.amd_symbolic.proofs.below.fill_rows.Goals as goal
 
 pub unreachable-requires : goal.unreachable-requires
 unreachable-requires g c =
-    let r = c.requires.1.1 in
-    let below = in-range c.rows.j (length c.args.owner.now) (length g.b.owner) c.rows-test.true (ap length r.1.1.1.0) in
+    let below = in-range c.rows.j (length c.args.owner.now) (length g.b.owner) c.rows-test.true (ap length c.requires.1.1.1.1.1.0) in
     let exact = g.met.I.Integral.exact_law in
     c.in_default.ensures (g.I.Number.between_law (pos 0) (pos c.rows.j) (pos (length g.b.owner)) exact
-    (g.met.I.Zero.zero_fits_law exact) r.1.1.1.1.1.1.1.1.1.1 (pos-low c.rows.j) (pos-most c.rows.j (length g.b.owner) below))
+    (g.met.I.Zero.zero_fits_law exact) c.requires.1.1.1.1.1.1.1.1.1.1.1.1 (pos-low c.rows.j) (pos-most c.rows.j (length g.b.owner) below))
 
 pub add_row-requires : goal.add_row-requires
 add_row-requires g c κs within =
-    let r = c.requires.1.1 in let i = c.rows.invariant in let t = c.rows-test.true in
-    let o = ap length r.1.1.1.0 in let p = places g.b r.1.0.columns r.1.0.partition in
+    let t = c.rows-test.true in
+    let o = ap length c.requires.1.1.1.1.1.0 in let p = places g.b c.requires.1.1.1.0.columns c.requires.1.1.1.0.partition in
     let here = in-range c.rows.j (length c.args.owner.now) (length g.b.owner) t o in (
       within.0,
       (
         within.1,
         (
-          r.0,
+          c.requires.1.1.0,
           (
             here,
             (
               c.in-Some.ensures.1,
               (
-                r.1.1.1.0,
+                c.requires.1.1.1.1.1.0,
                 (
-                  r.1.1.1.1.1.0,
+                  c.requires.1.1.1.1.1.1.1.0,
                   (
-                    r.1.1.1.1.1.1.0.each c.rows.j (in-range c.rows.j (length g.b.owner) (length g.b.order.rows) here p),
+                    c.requires.1.1.1.1.1.1.1.1.0.each c.rows.j (in-range c.rows.j (length g.b.owner) (length g.b.order.rows) here p),
                     (
-                      i.written,
+                      c.rows.invariant.written,
                       (
-                        i.marks,
-                        i.told,
+                        c.rows.invariant.marks,
+                        c.rows.invariant.told,
                       ),
                     ),
                   ),
@@ -52,7 +51,7 @@ add_row-requires g c κs within =
 
 pub returns-clause-rows : goal.returns-clause-rows
 returns-clause-rows g c =
-    let r = c.requires.1.1 in
-    let all = at-end c.rows.j (length c.args.owner.now) (length g.b.owner) c.rows-test.false c.rows.auto.j-end (ap length r.1.1.1.0) in
-    hold-supernodes g.b r.0 c.rows.next (counts (map g.I.Number.value c.rows.rows))
+    let all = at-end c.rows.j (length c.args.owner.now) (length g.b.owner) c.rows-test.false c.rows.auto.j-end
+    (ap length c.requires.1.1.1.1.1.0) in
+    hold-supernodes g.b c.requires.1.1.0 c.rows.next (counts (map g.I.Number.value c.rows.rows))
     (subst (λ m. WrittenTo g.b m c.rows.next (counts (map g.I.Number.value c.rows.rows))) all c.rows.invariant.written)

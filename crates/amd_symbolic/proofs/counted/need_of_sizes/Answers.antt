@@ -9,9 +9,8 @@ columns-init c = λ columns h. cut-need-none
 
 pub columns-preserved : goal.columns-preserved
 columns-preserved c =
-    let next = c.with_size-need.ensures in
     λ columns h. cut-need-next columns c.args.sizes.now h c.columns.size-index c.columns-test.true _ _ (c.columns.invariant columns h)
-    next.lnz next.ldl next.lu next.greatest
+    c.with_size-need.ensures.lnz c.with_size-need.ensures.ldl c.with_size-need.ensures.lu c.with_size-need.ensures.greatest
 
 pub returns : goal.returns
 returns c = λ columns h.

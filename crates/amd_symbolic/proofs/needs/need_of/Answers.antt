@@ -11,13 +11,13 @@ pub column_size-requires-clause-ascending : goal.column_size-requires-clause-asc
 column_size-requires-clause-ascending c = sizes-ascend c.args.ptr.now c.columns.k c.requires (omega arith)
 
 pub columns-preserved : goal.columns-preserved
-columns-preserved c =
-    let next = c.with_column-need.ensures in (
-      λ columns h. need-next columns c.args.ptr.now _ _ _ _ h (omega arith) c.column_size.ensures
-          (c.columns.invariant.0 columns h) next.lnz next.ldl next.lu next.greatest,
-      omega (arith, next.lnz, c.column_size.ensures, c.columns.invariant.1),
-      next.small,
-    )
+columns-preserved c = (
+  λ columns h. need-next columns c.args.ptr.now _ _ _ _ h (omega arith) c.column_size.ensures
+      (c.columns.invariant.0 columns h) c.with_column-need.ensures.lnz c.with_column-need.ensures.ldl c.with_column-need.ensures.lu
+      c.with_column-need.ensures.greatest,
+  omega (arith, c.with_column-need.ensures.lnz, c.column_size.ensures, c.columns.invariant.1),
+  c.with_column-need.ensures.small,
+)
 
 pub returns : goal.returns
 returns c = λ columns h.

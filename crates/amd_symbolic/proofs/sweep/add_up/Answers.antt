@@ -23,9 +23,8 @@ overflow_add-total c =
 
 pub numbers-preserved : goal.numbers-preserved
 numbers-preserved c =
-    let old = c.numbers.invariant in
-    let total = old.total in
-    let here = old.rest c.numbers.k (omega arith) in
+    let total = c.numbers.invariant.total in
+    let here = c.numbers.invariant.rest c.numbers.k (omega arith) in
     let next = sum-next (λ a. slice_index c.args.numbers.now a) c.numbers.k in
     let sum = c.numbers.total + slice_index c.numbers.numbers c.numbers.k in
     let same = c.numbers.auto.numbers in let inside = c.numbers-test.true in
@@ -33,8 +32,9 @@ numbers-preserved c =
       before = λ i h. elim (cases_eq i c.numbers.k) [
         | inl e ↦ subst (λ v. slice_index (set c.numbers.numbers c.numbers.k sum) v ≡ sum_to c.args.numbers.now (v + 1)) (sym e)
             (omega (arith, at, total, here, next))
-        | inr ne ↦ get_or-set_other c.numbers.numbers c.numbers.k i sum 0 ne ∙ old.before i (omega (arith, h, ne))
+        | inr ne ↦ get_or-set_other c.numbers.numbers c.numbers.k i sum 0 ne ∙ c.numbers.invariant.before i (omega (arith, h, ne))
       ];
-      rest = λ i h. get_or-set_other c.numbers.numbers c.numbers.k i sum 0 (λ e. omega (arith, e, h)) ∙ old.rest i (omega (arith, h));
+      rest = λ i h. get_or-set_other c.numbers.numbers c.numbers.k i sum 0 (λ e. omega (arith, e, h)) ∙ c.numbers.invariant.rest i
+          (omega (arith, h));
       total = omega (arith, total, here, next);
     }

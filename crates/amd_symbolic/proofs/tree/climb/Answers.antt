@@ -13,23 +13,26 @@ up-init g c = record {
 
 pub up-preserved-then-next-k : goal.up-preserved-then-next-k
 up-preserved-then-next-k g c =
-    let i = c.up.invariant in record {
-      climbing = ended g.o c.requires.0 c.args.i c.requires.1.0 c.up.k c.up.parent c.up.ancestor i.climbing c.up-test.true c.if-next-k.true;
-      waits = λ r l h. ends g.o c.requires.0 c.args.i c.requires.1.0 c.up.k c.up.parent c.up.ancestor i.climbing c.up-test.true
+    record {
+      climbing = ended g.o c.requires.0 c.args.i c.requires.1.0 c.up.k c.up.parent c.up.ancestor c.up.invariant.climbing c.up-test.true
+          c.if-next-k.true;
+      waits = λ r l h. ends g.o c.requires.0 c.args.i c.requires.1.0 c.up.k c.up.parent c.up.ancestor c.up.invariant.climbing c.up-test.true
           c.if-next-k.true
-          r l (i.waits r l h);
-      kept = λ m h. done-more g.o c.requires.0 c.args.i c.requires.1.0 c.up.k c.up.parent c.up.ancestor i.climbing c.up-test.true
-          c.if-next-k.true m (i.kept m h);
+          r l (c.up.invariant.waits r l h);
+      kept = λ m h. done-more g.o c.requires.0 c.args.i c.requires.1.0 c.up.k c.up.parent c.up.ancestor c.up.invariant.climbing
+          c.up-test.true
+          c.if-next-k.true m (c.up.invariant.kept m h);
     }
 
 pub up-preserved : goal.up-preserved
 up-preserved g c =
-    let i = c.up.invariant in record {
-      climbing = onward g.o c.requires.0 c.args.i c.requires.1.0 c.up.k c.up.parent c.up.ancestor i.climbing c.up-test.true
+    record {
+      climbing = onward g.o c.requires.0 c.args.i c.requires.1.0 c.up.k c.up.parent c.up.ancestor c.up.invariant.climbing c.up-test.true
           c.if-next-k.false;
-      waits = λ r l h. still g.o c.requires.0 c.args.i c.requires.1.0 c.up.k c.up.parent c.up.ancestor i.climbing c.up-test.true
-          c.if-next-k.false r l (i.waits r l h);
-      kept = i.kept;
+      waits = λ r l h. still g.o c.requires.0 c.args.i c.requires.1.0 c.up.k c.up.parent c.up.ancestor c.up.invariant.climbing
+          c.up-test.true
+          c.if-next-k.false r l (c.up.invariant.waits r l h);
+      kept = c.up.invariant.kept;
     }
 
 pub returns-clause-done : goal.returns-clause-done

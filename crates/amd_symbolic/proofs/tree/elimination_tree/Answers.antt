@@ -7,9 +7,8 @@ use Rattle.amd_symbolic.proofs.tree.elimination_tree.Goals as goal
 
 pub rows-init : goal.rows-init
 rows-init g c =
-    let r = c.requires.1.1 in
     let none = c.fill.ensures.after (only_none _ (λ q e. e)) in
-    ready-none g.o _ _ (no_parents g.o _ r.0 _ none) r.1 (none-at _ _ none)
+    ready-none g.o _ _ (no_parents g.o _ c.requires.1.1.0 _ none) c.requires.1.1.1 (none-at _ _ none)
 
 pub link_row-requires : goal.link_row-requires
 link_row-requires g c =

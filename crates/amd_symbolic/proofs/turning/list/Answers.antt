@@ -8,22 +8,22 @@ earlier-init g c = subst (λ xs. g.V.ArcVisitor.holds g.at.0 g.at.1 (xs ++ g.at.
     (sym (to_none c.args.j c.args.earlier.now)) c.requires.1.1.1.1
 
 pub arc-requires : goal.arc-requires
-arc-requires g c =
-    let r = c.requires.1 in (
-      g.at.0,
-      g.at.1,
-      _,
-      c.earlier.invariant,
-      to_is_next c.args.j c.args.earlier.now g.at.0 g.at.1 g.at.2 r.0 r.1.0 r.1.1.0 c.earlier.i-index c.earlier-test.true,
-    )
+arc-requires g c = (
+  g.at.0,
+  g.at.1,
+  _,
+  c.earlier.invariant,
+  to_is_next c.args.j c.args.earlier.now g.at.0 g.at.1 g.at.2 c.requires.1.0 c.requires.1.1.0 c.requires.1.1.1.0 c.earlier.i-index
+      c.earlier-test.true,
+)
 
 pub earlier-preserved : goal.earlier-preserved
 earlier-preserved g c =
-    let r = c.requires.1 in
     rw add-one (subst (λ xs. g.V.ArcVisitor.holds g.at.0 g.at.1 (xs ++ g.at.2) c.arc.new.self)
     (sym (to_next c.args.j c.args.earlier.now c.earlier.i-index))
     (c.arc.ensures _ _ _ c.earlier.invariant
-    (to_is_next c.args.j c.args.earlier.now g.at.0 g.at.1 g.at.2 r.0 r.1.0 r.1.1.0 c.earlier.i-index c.earlier-test.true)))
+    (to_is_next c.args.j c.args.earlier.now g.at.0 g.at.1 g.at.2 c.requires.1.0 c.requires.1.1.0 c.requires.1.1.1.0 c.earlier.i-index
+    c.earlier-test.true)))
 
 pub returns : goal.returns
 returns g c =

@@ -8,13 +8,14 @@ places-init g c = rw (lists_none g.at.1 g.at.2) c.requires.1.1.1.1
 
 pub list-requires : goal.list-requires
 list-requires g c κs within =
-    let r = c.requires.1 in
-    let low = before_last g.at.0 g.at.1 g.at.2 r.1.1.0 c.args.starts.now c.args.earlier.now r.0 r.1.0 c.places.j c.places-test.true in
-    let h = handed g.at.0 g.at.1 g.at.2 r.1.1.0 c.args.starts.now c.args.earlier.now r.0 r.1.0 c.places.j low in
+    let low = before_last g.at.0 g.at.1 g.at.2 c.requires.1.1.1.0 c.args.starts.now c.args.earlier.now c.requires.1.0 c.requires.1.1.0
+    c.places.j c.places-test.true in
+    let h = handed g.at.0 g.at.1 g.at.2 c.requires.1.1.1.0 c.args.starts.now c.args.earlier.now c.requires.1.0 c.requires.1.1.0 c.places.j
+    low in
     (within, (low, (h.0, (h.1, c.places.invariant))))
 
 pub places-preserved : goal.places-preserved
 places-preserved g c =
-    let r = c.requires.1 in
     rw add-one (subst (λ xs. g.V.ArcVisitor.holds (length g.at.0.rows) (list_arcs g.at.1 g.at.2 (length g.at.0.rows)) xs c.list.new.visitor)
-    (handed_next g.at.0 g.at.1 g.at.2 r.1.1.0 c.args.starts.now c.args.earlier.now r.0 r.1.0 c.places.j) c.list.ensures.held)
+    (handed_next g.at.0 g.at.1 g.at.2 c.requires.1.1.1.0 c.args.starts.now c.args.earlier.now c.requires.1.0 c.requires.1.1.0 c.places.j)
+    c.list.ensures.held)
