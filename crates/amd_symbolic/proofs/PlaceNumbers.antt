@@ -1,5 +1,5 @@
 -- Lists of places as numbers of an integer type, and parts of such lists.
-use Rattle.std.proofs.Common.{ℕ, ℤ, pos, ◌≡◌, ◌<◌, ◌++◌, refl, sym, ◌∙◌, ap, arith, List, [], ◌∷◌, map, length, take, drop, ◌-◌}
+use Rattle.std.proofs.Common.{ℕ, ℤ, pos, ◌≡◌, ◌<◌, ◌++◌, refl, sym, ◌∙◌, ap, arith, List, [], ◌∷◌, map, length, take, drop, set, ◌-◌}
 use Rattle.std.specs.Prelude.{slice_index, slice_range, unsigned_abs, Contains}
 use Rattle.std.proofs.lemmas.List.{length-map, get_or-map, map-append, take-map, drop-map}
 use Rattle.std.proofs.lemmas.List.Elements.{Contains-get_or}
@@ -64,3 +64,13 @@ module _ {N : Type 0} (value : N → ℤ) where
   -- one of the places
   pub place_of : (xs : List N) (k : ℕ) → k < length xs → Contains (counts (map value xs)) (slice_index (counts (map value xs)) k)
   place_of xs k l = Contains-get_or (counts (map value xs)) k 0 (let n = counts_long xs in omega (arith, n, l))
+
+  -- one place alone, written
+  pub written_alone : (xs : List N) (ps : List ℕ) (y : N) → length xs ≡ length ps → length ps ≡ 1 → value y ≡ pos (slice_index ps 0) →
+      map value (set xs 0 y) ≡ map pos ps
+  written_alone [] [] y e one number = absurd (omega (arith, one))
+  written_alone [] (p ∷ ps) y e one number = absurd (omega (arith, e))
+  written_alone (x ∷ xs) [] y e one number = absurd (omega (arith, one))
+  written_alone (x ∷ []) (p ∷ []) y e one number = ap (λ z. z ∷ []) number
+  written_alone (x ∷ []) (p ∷ q ∷ ps) y e one number = absurd (omega (arith, one))
+  written_alone (x ∷ z ∷ xs) (p ∷ ps) y e one number = absurd (omega (arith, e, one))

@@ -18,7 +18,7 @@ ghost use Rattle.amd_types.specs.Counts.{counts};
 
 use crate::children::{greatest_child, has_only_child, link_child};
 use crate::gathering::{gather, gather_places, mark_rows};
-use crate::merge::merge;
+use crate::merge::write_merged;
 use crate::numbers::place_at;
 use num_traits::PrimInt;
 
@@ -283,6 +283,6 @@ pub fn finish_column<N: PrimInt>(
     ensures end { slice_index ptr.new (k + 1) ≡ length rows.new }
 {
     let (done, free) = rows.split_at_mut(ptr[k]);
-    merge(&done[from..to], fresh, free);
+    write_merged(&done[from..to], fresh, free);
     close_column(k, rows.len(), ptr, rows, parent, link);
 }

@@ -30,12 +30,17 @@ pub fn number_of<N: PrimInt>(place: usize) -> N
     number
 }
 
-/// Writes places, which the type has, as numbers of it.
+/// Writes places, which the type has, as numbers of it. One place alone, as in most of the lists, is written without the
+/// call of a copy that a loop over numbers of the same width becomes.
 pub fn write_places<N: PrimInt>(places: &[usize], numbers: &mut [N])
     requires room { length numbers.old ≡ length places.now }
     requires fits { (k : ℕ) → k < length places.now → N.fits (pos (slice_index places.now k)) }
     ensures { map N.value numbers.new ≡ map pos places.now }
 {
+    if places.len() == 1 {
+        numbers[0] = number_of(places[0]);
+        return;
+    }
     'places: for k in 0..places.len() {
         numbers[k] = number_of(places[k]);
     }

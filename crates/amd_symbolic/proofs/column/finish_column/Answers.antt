@@ -12,14 +12,14 @@ use Rattle.amd_symbolic.proofs.Tails.{range_before, range_last}
 use Rattle.amd_symbolic.proofs.column.finish_column.Goals as goal
 use Rattle.amd_types.specs.Counts.{counts}
 
-pub merge-requires-clause-numbers : goal.merge-requires-clause-numbers
-merge-requires-clause-numbers g c =
+pub write_merged-requires-clause-numbers : goal.write_merged-requires-clause-numbers
+write_merged-requires-clause-numbers g c =
     let value = g.N.Number.value in let done = c.split_at_mut-done.result.0.now in
     are_range value done c.args.from c.args.to
     (subst (λ ys. AreCounts (map value ys)) (sym c.split_at_mut-done.ensures.front) c.requires.1.1.1.1.1.1.1.0)
 
-pub merge-requires-clause-small : goal.merge-requires-clause-small
-merge-requires-clause-small g c =
+pub write_merged-requires-clause-small : goal.write_merged-requires-clause-small
+write_merged-requires-clause-small g c =
     let value = g.N.Number.value in let done = c.split_at_mut-done.result.0.now in
     let plans = subst (λ ys. Plans g.o c.args.k c.args.ptr.now (counts (map value ys)) c.args.from c.args.to c.args.fresh.now)
     (sym c.split_at_mut-done.ensures.front) c.requires.1.1.1.1.1.0 in λ k l. (
@@ -29,8 +29,8 @@ merge-requires-clause-small g c =
     (place_of value part k l))) in
     let low = entry.1 in let room = c.requires.1.1.1.1.1.1.1.1.1.0.room in omega (arith, low, room))
 
-pub merge-requires-clause-fits : goal.merge-requires-clause-fits
-merge-requires-clause-fits g c =
+pub write_merged-requires-clause-fits : goal.write_merged-requires-clause-fits
+write_merged-requires-clause-fits g c =
     λ k l. (
     let entry = (c.requires.1.1.1.1.1.0.completes.members (slice_index c.args.fresh.now k)).0
     (inr (Contains-get_or c.args.fresh.now k 0 l)) in
@@ -49,9 +49,9 @@ close_column-requires g c κs inside =
     let rows = counts (map value done) in
     let fresh = c.args.fresh.now in
     let part = slice_range rows c.args.from c.args.to in
-    let out = c.merge.new.out in
+    let out = c.write_merged.new.out in
     let written : map value out ≡ map pos (merged part fresh) =
-    c.merge.ensures ∙ ap (λ zs. map pos (merged zs fresh)) (counts_range value done c.args.from c.args.to) in
+    c.write_merged.ensures ∙ ap (λ zs. map pos (merged zs fresh)) (counts_range value done c.args.from c.args.to) in
     let new = counts (map value (done ++ out)) in
     let is : new ≡ rows ++ merged part fresh = counts_append value done out (merged part fresh) written in
     let begin : slice_index c.args.ptr.now c.args.k ≡ length rows =
@@ -95,6 +95,6 @@ close_column-requires g c κs inside =
 pub returns-clause-numbers : goal.returns-clause-numbers
 returns-clause-numbers g c =
     let value = g.N.Number.value in let done = c.split_at_mut-done.result.0.now in
-    are_append value done c.merge.new.out
+    are_append value done c.write_merged.new.out
     (merged (counts (map value (slice_range done c.args.from c.args.to))) c.args.fresh.now)
-    (subst (λ ys. AreCounts (map value ys)) (sym c.split_at_mut-done.ensures.front) c.requires.1.1.1.1.1.1.1.0) c.merge.ensures
+    (subst (λ ys. AreCounts (map value ys)) (sym c.split_at_mut-done.ensures.front) c.requires.1.1.1.1.1.1.1.0) c.write_merged.ensures
