@@ -1,7 +1,7 @@
 // The arcs of a matrix under an order of its rows: each entry off the diagonal gives one, from the later one of its two
 // places to the earlier one. A walk over the entries hands them to a visitor, one at a time. Called by `lists`.
 
-ghost use Rattle.std.specs.Prelude.{◌<◌, ◌+◌, ◌∷◌, [], ℕ, List, pos, map, length, slice_index};
+ghost use Rattle.std.specs.Prelude.{◌≡◌, ◌<◌, ◌≤◌, ◌+◌, ◌∷◌, [], ℕ, List, pos, map, length, slice_index};
 ghost use Rattle.amd_model.specs.Input.Columns.{IsColumnForm};
 ghost use Rattle.amd_types.specs.Counts.{counts};
 ghost use Rattle.amd_symbolic.specs.Arcs.{IsNext, arcs_before};
@@ -23,7 +23,19 @@ pub trait ArcVisitor {
             IsNext n all arcs later earlier → holds n all ((later, earlier) ∷ arcs) self.new };
 }
 
+/// The later and the earlier of two places.
+#[inline]
+fn in_order(a: usize, b: usize) -> (usize, usize)
+    ensures up { b < a → (result.0 ≡ a) × (result.1 ≡ b) }
+    ensures down { a ≤ b → (result.0 ≡ b) × (result.1 ≡ a) }
+{
+    if b < a { (a, b) } else { (b, a) }
+}
+
 /// Hands on the arcs of the entries of a column, one of `size`.
+///
+/// Which of the two places of an entry is the later one is as good as drawn, so that is no branch: only its test against
+/// an entry on the diagonal is one.
 fn column<I: PrimInt, V: ArcVisitor>(
     size: usize,
     column: usize,
@@ -46,10 +58,9 @@ fn column<I: PrimInt, V: ArcVisitor>(
     let end = count_at(a_p, column + 1);
     'entries: for entry in count_at(a_p, column)..end {
         let there = places[count_at(a_i, entry)];
-        if there < here {
-            visitor.arc(here, there);
-        } else if here < there {
-            visitor.arc(there, here);
+        if there != here {
+            let (later, earlier) = in_order(here, there);
+            visitor.arc(later, earlier);
         }
     }
 }

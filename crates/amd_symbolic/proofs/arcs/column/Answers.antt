@@ -1,13 +1,13 @@
-use Rattle.std.proofs.Common.{◌≡◌, ◌+◌, ◌*◌, ◌<◌, ◌≤◌, ℕ, Fits, w64, map, length, get_or, arith, add-one}
+use Rattle.std.proofs.Common.{◌≡◌, ◌≢◌, ◌+◌, ◌*◌, ◌<◌, ◌≤◌, ℕ, Fits, w64, map, length, get_or, arith, add-one}
 use Rattle.std.proofs.Math.Nat.{mul-le-mul_right}
 use Rattle.std.proofs.lemmas.List.{length-map}
 use Rattle.std.proofs.lemmas.Grind.{common_steps}
 use Rattle.amd_types.specs.Counts.{counts}
 use Rattle.amd_edges.proofs.Forms.{pointer_fits, row_fits, place_within}
 use Rattle.amd_symbolic.proofs.Entries.{far_first, far_last}
-use Rattle.amd_symbolic.proofs.Steps.{pointers_rise, row_below, far_up, far_down, far_same, next_up, next_down}
+use Rattle.amd_symbolic.proofs.Steps.{pointers_rise, row_below, far_arc, far_same, next_arc}
 use Rattle.amd_symbolic.proofs.arcs.column.Goals as goal
-use Rattle.amd_symbolic.proofs.arcs.column.Goals.{then-there-here, else-there-here+then-here-there, else-there-here+else-here-there}
+use Rattle.amd_symbolic.proofs.arcs.column.Goals.{then-there-here, else-there-here}
 
 pub count_at-end-requires-clause-fits : goal.count_at-end-requires-clause-fits
 count_at-end-requires-clause-fits g c = pointer_fits _ _ _ c.requires.form (c.args.column + 1) (omega arith) (simp length-map (omega arith))
@@ -63,30 +63,14 @@ pub arc-requires : goal.arc-requires
 arc-requires g c =
     let end = c.count_at-end.ensures.count in
     let row = c.count_at.ensures.count in
-    let lower = c.if-there-here.true in
-    let up : get_or c.args.places.now (get_or (counts (map g.I.Number.value c.args.a_i.now)) c.entries.entry 0) 0 < get_or c.args.places.now
-    c.args.column 0 = rw (← row) lower in (
+    let o = c.in_order-later.ensures in (
       _,
       _,
       _,
       c.entries.invariant.held,
-      rw row (next_up c.args.size _ _ c.requires.form c.args.column c.entries.entry c.requires.column_in (omega arith) c.requires.places.0
-          c.args.places.now c.requires.places.1 c.entries.invariant.from up),
-    )
-
-pub arc-requires-then-here-there : goal.arc-requires-then-here-there
-arc-requires-then-here-there g c =
-    let end = c.count_at-end.ensures.count in
-    let row = c.count_at.ensures.count in
-    let lower = c.if-here-there.true in
-    let down : get_or c.args.places.now c.args.column 0 < get_or c.args.places.now
-    (get_or (counts (map g.I.Number.value c.args.a_i.now)) c.entries.entry 0) 0 = rw (← row) lower in (
-      _,
-      _,
-      _,
-      c.entries.invariant.held,
-      rw row (next_down c.args.size _ _ c.requires.form c.args.column c.entries.entry c.requires.column_in (omega arith) c.requires.places.0
-          c.args.places.now c.requires.places.1 c.entries.invariant.from down),
+      next_arc c.args.size _ _ c.requires.form c.args.column c.entries.entry c.requires.column_in (omega arith) c.requires.places.0
+          c.args.places.now c.requires.places.1 c.entries.invariant.from c.in_order-later.result.0 c.in_order-later.result.1
+          (rw (← row) o.up) (rw (← row) o.down) (rw (← row) c.if-there-here.true),
     )
 
 pub entries-preserved : goal.entries-preserved
@@ -105,24 +89,28 @@ entries-preserved g c =
       from = omega (arith, from);
       held = elim c.if-there-here.branch [
         | then-there-here w ↦ (
-            let up : get_or places (get_or (counts (map g.I.Number.value c.args.a_i.now)) q 0) 0 < get_or places j 0 =
-            rw (← row) w.if-there-here.true in
-            rw (w.visitor-is, far_up n _ _ c.requires.form j q c.requires.column_in high order.0 places order.1 from up, ← row)
+            let o = w.in_order-later.ensures in
+            let later : ℕ = w.in_order-later.result.0 in
+            let earlier : ℕ = w.in_order-later.result.1 in
+            let there : ℕ = get_or places (get_or (counts (map g.I.Number.value c.args.a_i.now)) q 0) 0 in
+            let up : there < get_or places j 0 → (later ≡ get_or places j 0) × (earlier ≡ there) = rw (← row) o.up in
+            let down : get_or places j 0 ≤ there → (later ≡ there) × (earlier ≡ get_or places j 0) = rw (← row) o.down in
+            let differ : there ≢ get_or places j 0 = rw (← row) w.if-there-here.true in
+            rw (
+              w.visitor-is,
+              far_arc n _ _ c.requires.form j q c.requires.column_in high order.0 places order.1 from later earlier up down
+                  differ,
+            )
             (w.arc.ensures _ _ _ c.entries.invariant.held
-            (rw row (next_up n _ _ c.requires.form j q c.requires.column_in high order.0 places order.1 from up))))
-        | else-there-here+then-here-there w ↦ (
-            let down : get_or places j 0 < get_or places (get_or (counts (map g.I.Number.value c.args.a_i.now)) q 0) 0 =
-            rw (← row) w.if-here-there.true in
-            rw (w.visitor-is, far_down n _ _ c.requires.form j q c.requires.column_in high order.0 places order.1 from down, ← row)
-            (w.arc-then-here-there.ensures _ _ _ c.entries.invariant.held
-            (rw row (next_down n _ _ c.requires.form j q c.requires.column_in high order.0 places order.1 from down))))
-        | else-there-here+else-here-there w ↦ (
-            let least : get_or places j 0 ≤ get_or places (get_or (counts (map g.I.Number.value c.args.a_i.now)) q 0) 0 =
+            (next_arc n _ _ c.requires.form j q c.requires.column_in high order.0 places order.1 from later earlier up down differ)))
+        | else-there-here w ↦ (
+            let same : get_or places (get_or (counts (map g.I.Number.value c.args.a_i.now)) q 0) 0 ≡ get_or places j 0 =
             rw (← row) w.if-there-here.false in
-            let most : get_or places (get_or (counts (map g.I.Number.value c.args.a_i.now)) q 0) 0 ≤ get_or places j 0 =
-            rw (← row) w.if-here-there.false in
-            rw (w.visitor-is, far_same n _ _ c.requires.form j q c.requires.column_in high order.0 places order.1 from least most)
-            c.entries.invariant.held)
+            rw (
+              w.visitor-is,
+              far_same n _ _ c.requires.form j q c.requires.column_in high order.0 places order.1 from
+                  (omega (arith, same)) (omega (arith, same)),
+            ) c.entries.invariant.held)
       ];
     }
 
