@@ -6,7 +6,7 @@ use Rattle.amd_symbolic.proofs.blocks.write_rows.Goals as goal
 
 pub fill_rows-requires : goal.fill_rows-requires
 fill_rows-requires g c κs within =
-    let r = c.requires.1.1.1 in let p = r.0 in (
+    let p = c.requires.1.1.1.0 in (
       within.0,
       (
         within.1,
@@ -25,12 +25,12 @@ fill_rows-requires g c κs within =
                     (
                       rw (c.deref.ensures.value, c.deref-2.ensures.value) p.near,
                       (
-                        rw (c.deref_mut.ensures.value, c.deref-3.ensures.value) r.1.0,
+                        rw (c.deref_mut.ensures.value, c.deref-3.ensures.value) c.requires.1.1.1.1.0,
                         (
-                          rw (c.deref_mut-2.ensures.value, c.deref-3.ensures.value) r.1.1.0,
+                          rw (c.deref_mut-2.ensures.value, c.deref-3.ensures.value) c.requires.1.1.1.1.1.0,
                           (
-                            rw (c.deref-3.ensures.value, c.deref-5.ensures.value) r.1.1.1.0,
-                            rw c.deref-4.ensures.value (subst g.I.Number.fits p.size r.1.1.1.1),
+                            rw (c.deref-3.ensures.value, c.deref-5.ensures.value) c.requires.1.1.1.1.1.1.0,
+                            rw c.deref-4.ensures.value (subst g.I.Number.fits p.size c.requires.1.1.1.1.1.1.1),
                           ),
                         ),
                       ),

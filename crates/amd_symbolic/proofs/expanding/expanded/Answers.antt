@@ -16,13 +16,13 @@ rows_of-block-requires-clause-ascending g c =
 
 pub rows_of-block-requires-clause-within : goal.rows_of-block-requires-clause-within
 rows_of-block-requires-clause-within g c =
-    let b = c.requires.1 in let q = b.holds.parents in let t = c.supernodes-test.true in
-    ptr-most c.requires.0 _ _ _ _ b.runs b.holds (c.supernodes.s + 1) (omega (arith, q, t))
+    let q = c.requires.1.holds.parents in let t = c.supernodes-test.true in
+    ptr-most c.requires.0 _ _ _ _ c.requires.1.runs c.requires.1.holds (c.supernodes.s + 1) (omega (arith, q, t))
 
 pub push_block-requires : goal.push_block-requires
 push_block-requires g c =
-    let b = c.requires.1 in let q = b.holds.parents in let t = c.supernodes-test.true in
-    let up = b.runs.rises c.supernodes.s (omega (arith, q, t)) in omega (arith, up)
+    let q = c.requires.1.holds.parents in let t = c.supernodes-test.true in
+    let up = c.requires.1.runs.rises c.supernodes.s (omega (arith, q, t)) in omega (arith, up)
 
 pub supernodes-preserved : goal.supernodes-preserved
 supernodes-preserved g c = λ columns b.

@@ -1,4 +1,4 @@
-use Rattle.std.proofs.Common.{◌≡◌, ◌+◌, sym, ◌∙◌, subst, rules, arith}
+use Rattle.std.proofs.Common.{◌≡◌, ◌+◌, sym, ◌∙◌, subst, rules}
 use Rattle.std.specs.Prelude.{slice_index}
 use Rattle.amd_symbolic.specs.Partitions.{AreSame, SumEnds, ends, nothing, within}
 use Rattle.amd_symbolic.proofs.partition.sum_ends.Goals as goal

@@ -12,10 +12,10 @@ write_first-requires-clause-numbered g c =
 
 pub write_parents-requires-clause-inside : goal.write_parents-requires-clause-inside
 write_parents-requires-clause-inside g c =
-    let k = c.requires.0 in let f = c.write_first.ensures in
-    let p = (have-parents g.o k.columns k.factor c.args.sizes.now c.args.parent.now k.sizes_are k.parents).room in
+    let k = c.requires.0 in let p = (have-parents g.o k.columns k.factor c.args.sizes.now c.args.parent.now k.sizes_are k.parents).room in
     λ s l. let r = first-at g.o k.columns k.factor c.args.sizes.now c.args.parent.now k.sizes_are k.parents c.args.owner.now
-    c.write_first.new.first (length c.args.over.now) c.requires.1.0 f.runs f.own s l in let b = r.1 in (r.0, omega (arith, b, p))
+    c.write_first.new.first (length c.args.over.now) c.requires.1.0 c.write_first.ensures.runs c.write_first.ensures.own s l in let b =
+    r.1 in (r.0, omega (arith, b, p))
 
 pub write_parents-requires-clause-parents : goal.write_parents-requires-clause-parents
 write_parents-requires-clause-parents g c =
@@ -25,13 +25,12 @@ write_parents-requires-clause-parents g c =
 
 pub write_pointers-requires-clause-inside : goal.write_pointers-requires-clause-inside
 write_pointers-requires-clause-inside g c =
-    let k = c.requires.0 in let f = c.write_first.ensures in
-    first-at g.o k.columns k.factor c.args.sizes.now c.args.parent.now k.sizes_are k.parents c.args.owner.now
-    c.write_first.new.first (length c.args.over.now) c.requires.1.0 f.runs f.own
+    let k = c.requires.0 in first-at g.o k.columns k.factor c.args.sizes.now c.args.parent.now k.sizes_are k.parents c.args.owner.now
+    c.write_first.new.first (length c.args.over.now) c.requires.1.0 c.write_first.ensures.runs c.write_first.ensures.own
 
 pub returns : goal.returns
 returns g c =
-    let k = c.requires.0 in let f = c.write_first.ensures in
-    λ e. is-cut g.o k.columns k.factor c.args.sizes.now c.args.parent.now k.sizes_are k.parents c.args.owner.now
-    c.write_first.new.first (length c.args.over.now) c.requires.1.0 f.runs f.own c.write_pointers.new.ptr c.write_parents.new.over
+    let k = c.requires.0 in λ e. is-cut g.o k.columns k.factor c.args.sizes.now c.args.parent.now k.sizes_are k.parents c.args.owner.now
+    c.write_first.new.first (length c.args.over.now) c.requires.1.0 c.write_first.ensures.runs c.write_first.ensures.own
+    c.write_pointers.new.ptr c.write_parents.new.over
     (c.write_pointers.ensures e) c.write_parents.ensures
