@@ -4,7 +4,7 @@ use Rattle.std.specs.Prelude.{slice_index, slice_index_or, Option, None, Some, u
 use Rattle.amd_model.specs.Below.{count_below}
 use Rattle.amd_model.specs.Graph.{IsGraph}
 use Rattle.amd_symbolic.specs.Orders.{Order}
-use Rattle.amd_symbolic.specs.Trees.{Entry, InSubtree, IsParent, Over}
+use Rattle.amd_symbolic.specs.Trees.{IsParent, Over}
 use Rattle.amd_symbolic.specs.Trees as trees
 use Rattle.amd_symbolic.specs.Walks.{TellParents, TellsParent}
 use Rattle.amd_symbolic.proofs.TreePaths.{entry_in_subtree, subtree_entry}

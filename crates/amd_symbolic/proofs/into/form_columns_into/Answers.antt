@@ -36,7 +36,6 @@ written_into-requires g c κs within =
     let a_p : List ℤ = map g.I.Number.value c.args.a_p.now in
     let a_i : List ℤ = map g.I.Number.value c.args.a_i.now in
     let p : List ℤ = map g.I.Number.value c.args.p.now in
-    let r = c.requires.1.1.1 in
     let permutes = rw c.in-Some.is at c.in_ok-places.ensures.permutation in (
       within.0,
       (
@@ -44,10 +43,11 @@ written_into-requires g c κs within =
         (
           within.1.1,
           (
-            laws c.args.size a_p a_i p g.o r.1.0 r.1.1.0,
+            laws c.args.size a_p a_i p g.o c.requires.1.1.1.1.0 c.requires.1.1.1.1.1.0,
             (
-              (λ j l. r.1.1.1 j (let rows = ap length r.1.1.0 in let all = permutes.each.places in omega (arith, l, rows, all))),
-              later_of c.args.size a_p a_i p g.o r.1.0 r.1.1.0 c.deref-2.result.now c.deref-3.result.now
+              (λ j l. c.requires.1.1.1.1.1.1 j
+                  (let rows = ap length c.requires.1.1.1.1.1.0 in let all = permutes.each.places in omega (arith, l, rows, all))),
+              later_of c.args.size a_p a_i p g.o c.requires.1.1.1.1.0 c.requires.1.1.1.1.1.0 c.deref-2.result.now c.deref-3.result.now
                   (rw (c.deref-2.ensures.value, c.deref-3.ensures.value)
                   (c.in_ok-lists.ensures (counts p) (rw c.deref.ensures.value (rw c.in-Some.is at c.in_ok-places.ensures.places)))),
             ),
@@ -65,18 +65,16 @@ returns-in_err-frame-clause-fault g c =
 
 pub returns-in-Some-2-clause-factor : goal.returns-in-Some-2-clause-factor
 returns-in-Some-2-clause-factor g c =
-    let r = c.requires.1.1.1 in
     let f = rw c.in-Some-2.is at c.in_ok-frame.ensures.factor in record {
       entries = f.0;
       factor = factor_of c.args.size (map g.I.Number.value c.args.a_p.now) (map g.I.Number.value c.args.a_i.now)
-          (map g.I.Number.value c.args.p.now) g.o r.1.0 r.1.1.0 r.0
+          (map g.I.Number.value c.args.p.now) g.o c.requires.1.1.1.1.0 c.requires.1.1.1.1.1.0 c.requires.1.1.1.0
           (rw c.in-Some.is at c.in_ok-places.ensures.permutation) c.in-Some-2.frame.ptr.items f.0 c.in-Some-2.frame.parent.items f.2;
       written = f.1;
     }
 
 pub returns-clause-fault : goal.returns-clause-fault
 returns-clause-fault g c =
-    let r = c.requires.1.1.1 in
     too_many c.args.size (map g.I.Number.value c.args.a_p.now) (map g.I.Number.value c.args.a_i.now) (map g.I.Number.value c.args.p.now) g.o
-    r.1.0 r.1.1.0 r.0
+    c.requires.1.1.1.1.0 c.requires.1.1.1.1.1.0 c.requires.1.1.1.0
     (rw c.in-Some.is at c.in_ok-places.ensures.permutation) (length c.args.rows.now) (rw c.in-None.is at c.in_ok-frame.ensures.factor)

@@ -1,4 +1,3 @@
-use Rattle.std.proofs.Common.{length}
 use Rattle.amd_symbolic.proofs.Cutting.{have-parents}
 use Rattle.amd_symbolic.proofs.CutSizes.{sizes-told}
 use Rattle.amd_symbolic.proofs.room.cut_sizes.Goals as goal

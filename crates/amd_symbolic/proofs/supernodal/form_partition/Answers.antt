@@ -1,11 +1,4 @@
-use Rattle.std.proofs.Common.{ℤ, pos, ◌≡◌, List, map, rules, subst}
-use Rattle.std.specs.Prelude.{IfErr}
-use Rattle.amd_model.specs.Input.Pattern.{graph_of}
-use Rattle.amd_types.specs.Counts.{counts}
-use Rattle.amd_symbolic.specs.declared.factor.Fault.TheVariants.{OutOfMemory}
-use Rattle.amd_symbolic.specs.Counted.{IsCountsFault}
-use Rattle.amd_symbolic.specs.Partitions.{IsCut}
-use Rattle.amd_symbolic.proofs.Faults.{memory_of}
+use Rattle.std.proofs.Common.{ℤ, List, map}
 use Rattle.amd_symbolic.proofs.ColumnParts.{laws, earlier_of}
 use Rattle.amd_symbolic.proofs.supernodal.form_partition.Goals as goal
 

@@ -1,6 +1,5 @@
-use Rattle.std.proofs.Common.{◌≡◌, ◌+◌, ◌-◌, ◌<◌, ◌^◌, pos, map, length, arith, rules, sym, subst, ◌∙◌, ap}
+use Rattle.std.proofs.Common.{◌≡◌, ◌-◌, length, arith, rules, sym, subst, ◌∙◌, ap}
 use Rattle.std.specs.Prelude.{slice_index}
-use Rattle.std.specs.Int.{FitsUnsignedBits}
 use Rattle.std.proofs.lemmas.List.{get_or_read, take_at}
 use Rattle.amd_symbolic.specs.Partitions.{IsPartitionOf}
 use Rattle.amd_symbolic.specs.Supernodes.{IsSupernodesOf}
@@ -44,9 +43,8 @@ write_rows-cut-requires g c κs within =
 
 pub returns-clause-supernodes : goal.returns-clause-supernodes
 returns-clause-supernodes g c =
-    let e = c.write_rows-cut.ensures in
     let cut = c.in_ok-found.found.cut in
     let rows : length c.write_rows-cut.new.rows ≡ c.in_ok-rows.rows.len = search rules in
-    rw (take_at c.write_rows-cut.new.rows _ _ rows, e.same)
+    rw (take_at c.write_rows-cut.new.rows _ _ rows, c.write_rows-cut.ensures.same)
     (subst (λ xs. IsSupernodesOf g.m.size g.m.pointers g.m.indices g.m.list cut.first.items cut.ptr.items xs cut.parent.items)
-    (counts-same c.write_rows-cut.new.rows) e.supernodes)
+    (counts-same c.write_rows-cut.new.rows) c.write_rows-cut.ensures.supernodes)

@@ -62,7 +62,9 @@ returns-in_ok-no_partition-clause-partition g c =
     let p : List ℤ = map g.I.Number.value c.args.p.now in
     let zero : pos 0 ≡ g.I.Number.value c.args.n = sym (ap pos c.if-size-eq0.true) ∙ c.in-Some.ensures.1 in
     let empty : p ≡ [] = no_items p (c.if-is_empty.ensures ∙ ap (λ l. l == 0) (sym (length-map c.args.p.now g.I.Number.value))) in
-    let b = c.in_ok-no_partition.field-0 in let e = c.in_ok-no_partition.ensures in
-    subst (λ z. IsPartitionOf (matrix z a_p a_i p) b.cut.first.items b.cut.owner.items b.cut.ptr.items b.cut.parent.items
+    let b = c.in_ok-no_partition.field-0 in subst
+    (λ z. IsPartitionOf (matrix z a_p a_i p) b.cut.first.items b.cut.owner.items b.cut.ptr.items b.cut.parent.items
     b.lists.starts.items b.lists.neighbours.items) zero
-    (no-partition a_p a_i p _ _ _ _ _ _ empty e.first e.owner e.pointers e.parents e.starts e.neighbours)
+    (no-partition a_p a_i p _ _ _ _ _ _ empty c.in_ok-no_partition.ensures.first c.in_ok-no_partition.ensures.owner
+    c.in_ok-no_partition.ensures.pointers c.in_ok-no_partition.ensures.parents c.in_ok-no_partition.ensures.starts
+    c.in_ok-no_partition.ensures.neighbours)
