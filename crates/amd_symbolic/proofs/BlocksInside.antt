@@ -1,5 +1,5 @@
 -- A block whose front is exact lies inside one supernode: each of its columns is the next place and the next column.
-use Rattle.std.proofs.Common.{ℕ, true, ◌≡◌, ◌<◌, ◌≤◌, ◌+◌, ◌-◌, inl, inr, refl, sym, ap, subst, arith, List}
+use Rattle.std.proofs.Common.{ℕ, true, ◌≡◌, ◌<◌, ◌≤◌, ◌+◌, inl, inr, refl, sym, ap, subst, arith, List}
 use Rattle.std.proofs.Common.{[], ◌∷◌, length}
 use Rattle.std.specs.Prelude.{slice_index, slice_index_or, Option}
 use Rattle.std.specs.List.Sorted.{IsStrictlyIncreasing}

@@ -1,6 +1,6 @@
 -- The places cut into supernodes, by their numbers alone: where each begins, its rows and its parent are lists that no
 -- code has to hold, and the rows below the blocks are as many as the last places of the runs have entries.
-use Rattle.std.proofs.Common.{ℕ, zero, suc, ◌≡◌, ◌<◌, ◌≤◌, ◌+◌, ◌-◌, inl, inr, refl, sym, ◌∙◌, ap, subst, arith}
+use Rattle.std.proofs.Common.{ℕ, zero, suc, ◌≡◌, ◌<◌, ◌≤◌, ◌+◌, inl, inr, refl, sym, ◌∙◌, ap, subst, arith}
 use Rattle.std.proofs.Common.{List, length, map, set}
 use Rattle.std.specs.Prelude.{slice_index, slice_index_or, replicate, Option, None}
 use Rattle.std.specs.List.{range_with_len}
