@@ -15,11 +15,10 @@ ghost use Rattle.amd_symbolic.specs.declared.factor.Fault.TheVariants.{OutOfMemo
 
 use crate::factor::Fault;
 use crate::fill::fill_into;
+use crate::forms::is_form;
 use crate::neighbours::later_lists;
 use crate::places::places;
-use amd::Status;
 use amd::internal::to_count;
-use amd::valid::valid;
 use num_traits::PrimInt;
 use std::alloc::{AllocError, Allocator};
 
@@ -155,7 +154,7 @@ pub fn columns_into<I: PrimInt, A: Allocator + Copy>(
             Err(Fault::NotPermutation)
         };
     }
-    if valid(n, n, a_p, a_i) == Status::Invalid {
+    if !is_form(n, size, a_p, a_i) {
         return Err(Fault::NotColumnForm);
     }
     form_columns_into(alloc, size, a_p, a_i, p, rows)

@@ -15,7 +15,7 @@
 //! |---|---|
 //! | `places`, `arcs`, `turning`, `neighbours`, `ordering` | The place of each row in an order; the lists of the earlier and of the later neighbours of each place |
 //! | `numbers`, `children`, `gathering`, `merge`, `column`, `fill` | The columns in slices, each from those of its children |
-//! | `factor`, `into` | [`columns`], [`columns_into`]: the input is tested, the lists are made, memory is taken, and `fill` writes |
+//! | `forms`, `factor`, `into` | [`columns`], [`columns_into`]: the input is tested, the lists are made, memory is taken, and `fill` writes |
 //! | `tree`, `ranks`, `meeting`, `sweep`, `sizes` | How many entries the columns have, in slices: the elimination tree, its postorder, and a sweep over all arcs |
 //! | `needs`, `counted`, `counting` | What a factor needs; [`counts`], [`analyze_counts`] and [`analyze_counts_holding`] |
 //! | `analysis` | [`analyze`] and [`analyze_holding`]: an ordering, and the factor under it |
@@ -36,6 +36,7 @@ pub mod counting;
 pub mod expanding;
 pub mod factor;
 pub mod fill;
+pub mod forms;
 pub mod gathering;
 pub mod into;
 pub mod laws;

@@ -1,13 +1,11 @@
-use Rattle.std.proofs.Common.{ℤ, List, pos, ◌≡◌, ◌≢◌, ◌≤◌, [], ◌∷◌, map, length, refl, sym, ap, subst, ◌∙◌, arith, rules}
+use Rattle.std.proofs.Common.{ℤ, List, pos, ◌≡◌, ◌≢◌, ◌≤◌, [], ◌∷◌, map, length, refl, sym, ap, subst, ◌∙◌, arith}
 use Rattle.std.specs.Prelude.{IfOk, IfErr, ◌==◌, unsigned_abs}
 use Rattle.std.proofs.lemmas.List.{length-map}
 use Rattle.amd_model.specs.Input.Columns.{IsInput}
 use Rattle.amd_symbolic.specs.Orders.{Permutes}
-use Rattle.amd_types.specs.Statuses.{IsStatusOf}
-use Rattle.amd_types.specs.declared.amd.Status.TheVariants.{Invalid}
 use Rattle.amd_symbolic.specs.Factors.{IsFactorOf, IsFault}
 use Rattle.amd_symbolic.proofs.Faults.{memory_of, all_of, answer_of}
-use Rattle.amd_symbolic.proofs.ColumnParts.{no_rows, no_items, some_items, empty_order, form_by, no_count}
+use Rattle.amd_symbolic.proofs.ColumnParts.{no_rows, no_items, some_items, empty_order, no_count}
 use Rattle.amd_symbolic.proofs.factor.columns.Goals as goal
 
 pub returns-in_default-clause-fault : goal.returns-in_default-clause-fault
@@ -45,14 +43,12 @@ returns-else-is_empty-clause-fault g c =
     let some : length p ≢ 0 = some_items p (c.if-is_empty.ensures ∙ ap (λ l. l == 0) (sym (length-map c.args.p.now g.I.Number.value))) in
     ((λ not. absurd (not zero)), (λ order h. some (empty_order p order (subst (λ z. Permutes (unsigned_abs z) p order) zero h))))
 
-pub returns-then-eq-clause-fault : goal.returns-then-eq-clause-fault
-returns-then-eq-clause-fault g c =
-    let z : ℤ = g.I.Number.value c.args.n in
+pub returns-then-not-is_form-clause-fault : goal.returns-then-not-is_form-clause-fault
+returns-then-not-is_form-clause-fault g c =
     let a_p : List ℤ = map g.I.Number.value c.args.a_p.now in
-    let a_i : List ℤ = map g.I.Number.value c.args.a_i.now in
-    let invalid : c.valid.result ≡ Invalid = search rules in (
+    let a_i : List ℤ = map g.I.Number.value c.args.a_i.now in (
       (λ zero. c.if-size-eq0.false (let same : pos c.in-Some.size ≡ pos 0 = c.in-Some.ensures.1 ∙ zero in cc)),
-      subst (IsStatusOf z z a_p a_i) invalid c.valid.ensures,
+      subst (λ z. ¬ (IsInput z z a_p a_i)) c.in-Some.ensures.1 (c.is_form.ensures.none c.if-not-is_form.true),
     )
 
 pub form_columns-requires : goal.form_columns-requires
@@ -60,8 +56,7 @@ form_columns-requires g c κs within =
     let z : ℤ = g.I.Number.value c.args.n in
     let a_p : List ℤ = map g.I.Number.value c.args.a_p.now in
     let a_i : List ℤ = map g.I.Number.value c.args.a_i.now in
-    let sound : c.valid.result ≢ Invalid = search rules in
-    let form = subst (λ x. IsInput x x a_p a_i) (sym c.in-Some.ensures.1) (form_by z a_p a_i c.valid.result c.valid.ensures sound) in
+    let form = c.is_form.ensures.form c.if-not-is_form.false in
     (within.0, (within.1.0, (within.1.1, (form, (refl, refl)))))
 
 pub returns-clause-factor : goal.returns-clause-factor

@@ -1,14 +1,12 @@
-use Rattle.std.proofs.Common.{ℕ, ◌<◌, ℤ, List, pos, ◌≡◌, ◌≢◌, [], ◌∷◌, map, length, refl, sym, ap, subst, ◌∙◌, arith, rules}
+use Rattle.std.proofs.Common.{ℕ, ◌<◌, ℤ, List, pos, ◌≡◌, ◌≢◌, [], ◌∷◌, map, length, refl, sym, ap, subst, ◌∙◌, arith}
 use Rattle.std.specs.Prelude.{IfOk, IfErr, ◌==◌, ◌≤ℤ◌, unsigned_abs}
 use Rattle.std.proofs.lemmas.Int.{ints}
 use Rattle.std.proofs.lemmas.List.{length-map}
 use Rattle.amd_model.specs.Input.Columns.{IsInput}
 use Rattle.amd_symbolic.specs.Orders.{Permutes}
-use Rattle.amd_types.specs.Statuses.{IsStatusOf}
-use Rattle.amd_types.specs.declared.amd.Status.TheVariants.{Invalid}
 use Rattle.amd_symbolic.specs.Factors.{IsFault, WritesFactor}
 use Rattle.amd_symbolic.proofs.Faults.{memory_of, all_of}
-use Rattle.amd_symbolic.proofs.ColumnParts.{no_rows, no_items, some_items, empty_order, form_by, no_count}
+use Rattle.amd_symbolic.proofs.ColumnParts.{no_rows, no_items, some_items, empty_order, no_count}
 use Rattle.amd_symbolic.proofs.into.columns_into.Goals as goal
 
 pub returns-in_default-clause-fault : goal.returns-in_default-clause-fault
@@ -46,14 +44,12 @@ returns-else-is_empty-clause-fault g c =
     let some : length p ≢ 0 = some_items p (c.if-is_empty.ensures ∙ ap (λ l. l == 0) (sym (length-map c.args.p.now g.I.Number.value))) in
     ((λ not. absurd (not zero)), (λ order h. some (empty_order p order (subst (λ z. Permutes (unsigned_abs z) p order) zero h))))
 
-pub returns-then-eq-clause-fault : goal.returns-then-eq-clause-fault
-returns-then-eq-clause-fault g c =
-    let z : ℤ = g.I.Number.value c.args.n in
+pub returns-then-not-is_form-clause-fault : goal.returns-then-not-is_form-clause-fault
+returns-then-not-is_form-clause-fault g c =
     let a_p : List ℤ = map g.I.Number.value c.args.a_p.now in
-    let a_i : List ℤ = map g.I.Number.value c.args.a_i.now in
-    let invalid : c.valid.result ≡ Invalid = search rules in (
+    let a_i : List ℤ = map g.I.Number.value c.args.a_i.now in (
       (λ zero. c.if-size-eq0.false (let same : pos c.in-Some.size ≡ pos 0 = c.in-Some.ensures.1 ∙ zero in cc)),
-      subst (IsStatusOf z z a_p a_i) invalid c.valid.ensures,
+      subst (λ z. ¬ (IsInput z z a_p a_i)) c.in-Some.ensures.1 (c.is_form.ensures.none c.if-not-is_form.true),
     )
 
 pub form_columns_into-requires : goal.form_columns_into-requires
@@ -61,9 +57,8 @@ form_columns_into-requires g c κs within =
     let z : ℤ = g.I.Number.value c.args.n in
     let a_p : List ℤ = map g.I.Number.value c.args.a_p.now in
     let a_i : List ℤ = map g.I.Number.value c.args.a_i.now in
-    let sound : c.valid.result ≢ Invalid = search rules in
     let exact = g.met.I.Integral.exact_law in
-    let form = subst (λ x. IsInput x x a_p a_i) (sym c.in-Some.ensures.1) (form_by z a_p a_i c.valid.result c.valid.ensures sound) in
+    let form = c.is_form.ensures.form c.if-not-is_form.false in
     let fits : (j : ℕ) → j < c.in-Some.size → g.I.Number.fits (pos j) = λ j l. (
     let size = c.in-Some.ensures.1 in
     let low : pos 0 ≤ℤ pos j = omega (arith, ints) in
