@@ -10,7 +10,7 @@ ghost use Rattle.amd_model.specs.Quotient.{starting_list};
 ghost use Rattle.amd_edges.specs.Visits.{AreCounts, AreRows};
 
 use crate::walk::{Visitor, walk};
-use num_traits::PrimInt;
+use amd_types::index::Index;
 use std::alloc::{AllocError, Allocator};
 
 /// The lists of the rows, each in a vector with room for all neighbours of its row.
@@ -71,7 +71,7 @@ fn empty_lists<A: Allocator + Copy>(
 /// # Errors
 ///
 /// A refused request for memory.
-pub fn starting_lists<I: PrimInt, A: Allocator + Copy>(
+pub fn starting_lists<I: Index, A: Allocator + Copy>(
     alloc: A,
     size: usize,
     a_p: &[I],

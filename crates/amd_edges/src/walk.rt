@@ -14,8 +14,8 @@ ghost use Rattle.amd_model.specs.Quotient.{met_below, met_edges};
 ghost use Rattle.amd_edges.specs.Visits.{IsNew, IsNewEdge, arcs_of, with_arc, with_edge};
 ghost use Rattle.amd_edges.specs.Walk.{IsScanOf, edges_before, entry_read, graph_read, met_read};
 
+use amd_types::index::Index;
 use amd_types::internal::count_at;
-use num_traits::PrimInt;
 use std::alloc::Allocator;
 
 /// What takes the arcs of a graph: one at a time, or in a run of edges of one row, whose next place the walk holds
@@ -64,7 +64,7 @@ pub trait Visitor {
 }
 
 /// Reads the lower entries of column `j`, one of `size`, that were not read yet, up to row `k`.
-fn lower<I: PrimInt, V: Visitor, A: Allocator>(
+fn lower<I: Index, V: Visitor, A: Allocator>(
     size: usize,
     j: usize,
     k: usize,
@@ -105,7 +105,7 @@ fn lower<I: PrimInt, V: Visitor, A: Allocator>(
 }
 
 /// Reads the upper entries of column `k`, one of `size`, adds its pointer, and says whether it has a diagonal entry.
-fn column<I: PrimInt, V: Visitor, A: Allocator>(
+fn column<I: Index, V: Visitor, A: Allocator>(
     size: usize,
     k: usize,
     a_p: &[I],
@@ -148,7 +148,7 @@ fn column<I: PrimInt, V: Visitor, A: Allocator>(
 
 /// Reads the lower entries of column `j`, one of `size`, that were not read yet. They are all that is left of it, so no
 /// row is compared.
-fn column_rest<I: PrimInt, V: Visitor, A: Allocator>(
+fn column_rest<I: Index, V: Visitor, A: Allocator>(
     size: usize,
     j: usize,
     a_p: &[I],
@@ -181,7 +181,7 @@ fn column_rest<I: PrimInt, V: Visitor, A: Allocator>(
 }
 
 /// Reads the lower entries of each of the `size` columns that were not read yet.
-fn rest<I: PrimInt, V: Visitor, A: Allocator>(
+fn rest<I: Index, V: Visitor, A: Allocator>(
     size: usize,
     a_p: &[I],
     a_i: &[I],
@@ -212,7 +212,7 @@ fn rest<I: PrimInt, V: Visitor, A: Allocator>(
 /// lower entries of column `j` that were not read yet and are below `k` give theirs; an entry `k` itself is passed
 /// over. At the end the lower entries that were never read give theirs. The visitor is handed both arcs of each edge,
 /// the one from its first row to its second one before the other.
-pub fn walk<I: PrimInt, V: Visitor, A: Allocator>(
+pub fn walk<I: Index, V: Visitor, A: Allocator>(
     size: usize,
     a_p: &[I],
     a_i: &[I],

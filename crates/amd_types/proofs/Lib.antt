@@ -1,5 +1,6 @@
 pub mod NumberReads
 pub mod Inverses
+pub mod Fitting
 pub mod FrontShares
 pub mod CutSums
 pub mod EmptyLists

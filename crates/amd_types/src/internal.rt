@@ -14,11 +14,11 @@ ghost use Rattle.amd_model.specs.Input.Columns.{at};
 ghost use Rattle.amd_types.specs.Counts.{counts};
 ghost use Rattle.amd_types.specs.Links.{named};
 
-use num_traits::PrimInt;
+use crate::index::Index;
 
 /// The number at a place, which is below the length of `numbers`.
 #[inline]
-pub fn value_at<I: PrimInt>(numbers: &[I], place: usize) -> I
+pub fn value_at<I: Index>(numbers: &[I], place: usize) -> I
     requires { place < length numbers.now }
     ensures { I.value result ≡ at (map I.value numbers.now) place }
 {
@@ -27,57 +27,50 @@ pub fn value_at<I: PrimInt>(numbers: &[I], place: usize) -> I
 
 /// The number as a count, or `None` where it is negative or exceeds `usize::MAX`.
 #[inline]
-pub fn to_count<I: PrimInt>(number: I) -> Option<usize>
+pub fn to_count<I: Index>(number: I) -> Option<usize>
     ensures { ChecksUnsigned 64 (I.value number) result }
 {
-    number.to_usize()
+    number.to_count()
 }
 
 /// Whether a number is below another one.
 #[inline]
-pub fn is_below<I: PrimInt>(a: I, b: I) -> bool
+pub fn is_below<I: Index>(a: I, b: I) -> bool
     ensures { IsTrue result ↔ (I.value a <ℤ I.value b) }
 {
-    a < b
+    a.is_below(b)
 }
 
 /// Whether a number is below 0.
 #[inline]
-pub fn is_negative<I: PrimInt>(number: I) -> bool
+pub fn is_negative<I: Index>(number: I) -> bool
     ensures { IsTrue result ↔ (I.value number <ℤ pos 0) }
 {
-    is_below(number, I::zero())
+    number.is_negative()
 }
 
 /// The number of the caller's type that a count is, or `None` where the type does not have it.
 #[inline]
-pub fn from_count<I: PrimInt>(count: usize) -> Option<I>
+pub fn from_count<I: Index>(count: usize) -> Option<I>
     ensures { Checks I.value I.fits (pos count) result }
 {
-    num_traits::cast::<usize, I>(count)
+    I::from_count(count)
 }
 
 /// The count that a number is, where it is known to be one: the number is in `0..=usize::MAX`.
 #[inline]
-pub fn known_count<I: PrimInt>(number: I) -> usize
+pub fn known_count<I: Index>(number: I) -> usize
     requires { FitsUnsignedBits 64 (I.value number) }
     ensures { result ≡ unsigned_abs (I.value number) }
 {
-    // No signed type of at most 64 bits has a number that passes an `isize`: for those no test is left.
-    if let Some(count) = number.to_isize() {
-        return count as usize;
-    }
-    let Some(count) = to_count(number) else {
-        unreachable!()
-    };
-    count
+    number.known_count()
 }
 
 /// The count at a place, where the number there is known to be one.
 ///
 /// `place` is below the length of `numbers`, and the number there is in `0..=usize::MAX`.
 #[inline]
-pub fn count_at<I: PrimInt>(numbers: &[I], place: usize) -> usize
+pub fn count_at<I: Index>(numbers: &[I], place: usize) -> usize
     requires within { place < length numbers.now }
     requires fits { FitsUnsignedBits 64 (at (map I.value numbers.now) place) }
     ensures value { pos result ≡ at (map I.value numbers.now) place }

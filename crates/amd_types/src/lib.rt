@@ -8,5 +8,6 @@ pub mod copies;
 pub mod dense;
 pub mod figures;
 pub mod held;
+pub mod index;
 pub mod internal;
 pub mod permutations;

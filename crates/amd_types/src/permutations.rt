@@ -6,12 +6,12 @@ ghost use Rattle.amd_model.specs.Input.Columns.{at};
 ghost use Rattle.amd_model.specs.Listing.{ListsEachRow};
 ghost use Rattle.amd_types.specs.Permutations.{AreInverse};
 
+use crate::index::Index;
 use crate::internal::from_count;
-use num_traits::PrimInt;
 use std::alloc::{AllocError, Allocator};
 
 /// The rows, which are below `n`, as numbers of the caller's type.
-fn numbers_of<I: PrimInt, A: Allocator>(
+fn numbers_of<I: Index, A: Allocator>(
     alloc: A,
     n: I,
     rows: &[usize],
@@ -31,7 +31,7 @@ fn numbers_of<I: PrimInt, A: Allocator>(
 }
 
 /// The place of each row in the listing, written over a copy of any list of that length.
-fn places_of<I: PrimInt, A: Allocator>(
+fn places_of<I: Index, A: Allocator>(
     alloc: A,
     n: I,
     rows: &[usize],
@@ -65,7 +65,7 @@ fn places_of<I: PrimInt, A: Allocator>(
 /// `AllocError` where a request for memory was refused.
 ///
 /// Source: Amestoy, Davis and Duff 2004.
-pub fn inverse_pair<I: PrimInt, A: Allocator + Copy>(
+pub fn inverse_pair<I: Index, A: Allocator + Copy>(
     alloc: A,
     n: I,
     rows: &[usize],

@@ -8,7 +8,7 @@ use Rattle.amd_edges.proofs.lists.starting_lists.Goals as goal
 
 pub walk-requires-clause-held : goal.walk-requires-clause-held
 walk-requires-clause-held g c =
-    let graph = graph_of c.args.size (map g.I.Number.value c.args.a_p.now) (map g.I.Number.value c.args.a_i.now) in
+    let graph = graph_of c.args.size (map g.I.Index.value c.args.a_p.now) (map g.I.Index.value c.args.a_i.now) in
     let made = c.in_ok-empty_lists.ensures in
     rows_none _ (λ v. v.items) vec_capacity graph c.args.degrees.now c.in_ok-empty_lists.field-0.items c.requires.degrees made.size
     made.empty made.room
@@ -21,4 +21,4 @@ pub returns-clause-lists : goal.returns-clause-lists
 unfolding graph_of
 returns-clause-lists g c = λ i h.
     c.walk.ensures.held.order i h ∙ ends_starting c.args.size
-    (is_pair c.args.size (map g.I.Number.value c.args.a_p.now) (map g.I.Number.value c.args.a_i.now)) i
+    (is_pair c.args.size (map g.I.Index.value c.args.a_p.now) (map g.I.Index.value c.args.a_i.now)) i

@@ -15,52 +15,52 @@ use Rattle.amd_edges.proofs.walk.column.Goals.{then-upper-test+else-count_at-k, 
 use Rattle.amd_edges.proofs.walk.column.Goals.{then-diagonal, else-diagonal}
 
 pub count_at-end-requires-clause-fits : goal.count_at-end-requires-clause-fits
-count_at-end-requires-clause-fits g c = pointer_fits c.args.size (map g.I.Number.value c.args.a_p.now)
-    (map g.I.Number.value c.args.a_i.now) c.requires.form (c.args.k + 1)
-    (let a = c.requires.k_in in omega (arith, a)) (subst (λ x. x < 2 ^ 64) (sym (length-map c.args.a_i.now g.I.Number.value))
+count_at-end-requires-clause-fits g c = pointer_fits c.args.size (map g.I.Index.value c.args.a_p.now)
+    (map g.I.Index.value c.args.a_i.now) c.requires.form (c.args.k + 1)
+    (let a = c.requires.k_in in omega (arith, a)) (subst (λ x. x < 2 ^ 64) (sym (length-map c.args.a_i.now g.I.Index.value))
     (omega (arith, c.well_formed)))
 
 pub count_at-place-requires-clause-fits : goal.count_at-place-requires-clause-fits
-count_at-place-requires-clause-fits g c = pointer_fits c.args.size (map g.I.Number.value c.args.a_p.now)
-    (map g.I.Number.value c.args.a_i.now) c.requires.form c.args.k
-    (le_of_lt c.requires.k_in) (subst (λ x. x < 2 ^ 64) (sym (length-map c.args.a_i.now g.I.Number.value)) (omega (arith, c.well_formed)))
+count_at-place-requires-clause-fits g c = pointer_fits c.args.size (map g.I.Index.value c.args.a_p.now)
+    (map g.I.Index.value c.args.a_i.now) c.requires.form c.args.k
+    (le_of_lt c.requires.k_in) (subst (λ x. x < 2 ^ 64) (sym (length-map c.args.a_i.now g.I.Index.value)) (omega (arith, c.well_formed)))
 
 pub count_at-requires-clause-within : goal.count_at-requires-clause-within
-count_at-requires-clause-within g c = place_in g.I.Number.value c.args.a_i.now c.args.size (map g.I.Number.value c.args.a_p.now)
+count_at-requires-clause-within g c = place_in g.I.Index.value c.args.a_i.now c.args.size (map g.I.Index.value c.args.a_p.now)
     c.requires.form c.args.k c.upper.place
     c.count_at-end.result c.requires.k_in c.count_at-end.ensures.count c.upper-test.true
 
 pub count_at-requires-clause-fits : goal.count_at-requires-clause-fits
-count_at-requires-clause-fits g c = row_fits c.args.size (map g.I.Number.value c.args.a_p.now) (map g.I.Number.value c.args.a_i.now)
+count_at-requires-clause-fits g c = row_fits c.args.size (map g.I.Index.value c.args.a_p.now) (map g.I.Index.value c.args.a_i.now)
     c.requires.form c.args.k
     c.upper.place c.requires.k_in (before_end c.count_at-end.ensures.count c.upper-test.true) c.ranges.size.fits
 
 pub count_at-j-requires-clause-within : goal.count_at-j-requires-clause-within
-count_at-j-requires-clause-within g c = place_in g.I.Number.value c.args.a_i.now c.args.size (map g.I.Number.value c.args.a_p.now)
+count_at-j-requires-clause-within g c = place_in g.I.Index.value c.args.a_i.now c.args.size (map g.I.Index.value c.args.a_p.now)
     c.requires.form c.args.k c.upper.place
     c.count_at-end.result c.requires.k_in c.count_at-end.ensures.count c.upper-test.true
 
 pub count_at-j-requires-clause-fits : goal.count_at-j-requires-clause-fits
-count_at-j-requires-clause-fits g c = row_fits c.args.size (map g.I.Number.value c.args.a_p.now) (map g.I.Number.value c.args.a_i.now)
+count_at-j-requires-clause-fits g c = row_fits c.args.size (map g.I.Index.value c.args.a_p.now) (map g.I.Index.value c.args.a_i.now)
     c.requires.form c.args.k
     c.upper.place c.requires.k_in (before_end c.count_at-end.ensures.count c.upper-test.true) c.ranges.size.fits
 
 pub count_at-requires-then-place-end-clause-within : goal.count_at-requires-then-place-end-clause-within
-count_at-requires-then-place-end-clause-within g c = place_in g.I.Number.value c.args.a_i.now c.args.size
-    (map g.I.Number.value c.args.a_p.now) c.requires.form c.args.k c.upper.place
+count_at-requires-then-place-end-clause-within g c = place_in g.I.Index.value c.args.a_i.now c.args.size
+    (map g.I.Index.value c.args.a_p.now) c.requires.form c.args.k c.upper.place
     c.count_at-end.result c.requires.k_in c.count_at-end.ensures.count c.if-place-end.true
 
 pub count_at-requires-then-place-end-clause-fits : goal.count_at-requires-then-place-end-clause-fits
-count_at-requires-then-place-end-clause-fits g c = row_fits c.args.size (map g.I.Number.value c.args.a_p.now)
-    (map g.I.Number.value c.args.a_i.now) c.requires.form c.args.k
+count_at-requires-then-place-end-clause-fits g c = row_fits c.args.size (map g.I.Index.value c.args.a_p.now)
+    (map g.I.Index.value c.args.a_i.now) c.requires.form c.args.k
     c.upper.place c.requires.k_in (before_end c.count_at-end.ensures.count c.if-place-end.true) c.ranges.size.fits
 
 pub arc-requires : goal.arc-requires
 arc-requires g c =
     let i = c.upper.invariant.1 in let r = c.requires in let m = c.upper.invariant.0 in let t = c.upper.next.items in let k = c.args.k in
     let n = c.args.size in let j = c.count_at-j.result in
-    let ap' = counts (map g.I.Number.value c.args.a_p.now) in let ai = counts (map g.I.Number.value c.args.a_i.now) in
-    let form = sorted_form n (map g.I.Number.value c.args.a_p.now) (map g.I.Number.value c.args.a_i.now) r.form r.sorted in
+    let ap' = counts (map g.I.Index.value c.args.a_p.now) in let ai = counts (map g.I.Index.value c.args.a_i.now) in
+    let form = sorted_form n (map g.I.Index.value c.args.a_p.now) (map g.I.Index.value c.args.a_i.now) r.form r.sorted in
     let below = row_below c.count_at.ensures.count c.count_at-j.ensures.count c.if-count_at-k.true in
     let u = upper_next n ap' ai form t k m r.k_in i.scan c.count_at-end.result c.upper.place j c.count_at-end.ensures.count i.place
     c.count_at-j.ensures.count c.upper-test.true below in (
@@ -75,8 +75,8 @@ pub arc-requires-in-upper : goal.arc-requires-in-upper
 arc-requires-in-upper g c =
     let i = c.upper.invariant.1 in let r = c.requires in let m = c.upper.invariant.0 in let t = c.upper.next.items in let k = c.args.k in
     let n = c.args.size in let j = c.count_at-j.result in
-    let ap' = counts (map g.I.Number.value c.args.a_p.now) in let ai = counts (map g.I.Number.value c.args.a_i.now) in
-    let form = sorted_form n (map g.I.Number.value c.args.a_p.now) (map g.I.Number.value c.args.a_i.now) r.form r.sorted in
+    let ap' = counts (map g.I.Index.value c.args.a_p.now) in let ai = counts (map g.I.Index.value c.args.a_i.now) in
+    let form = sorted_form n (map g.I.Index.value c.args.a_p.now) (map g.I.Index.value c.args.a_i.now) r.form r.sorted in
     let below = row_below c.count_at.ensures.count c.count_at-j.ensures.count c.if-count_at-k.true in
     let u = upper_next n ap' ai form t k m r.k_in i.scan c.count_at-end.result c.upper.place j c.count_at-end.ensures.count i.place
     c.count_at-j.ensures.count c.upper-test.true below in
@@ -107,8 +107,8 @@ pub lower-requires-clause-mirror : goal.lower-requires-clause-mirror
 lower-requires-clause-mirror g c =
     let i = c.upper.invariant.1 in let r = c.requires in let m = c.upper.invariant.0 in let t = c.upper.next.items in let k = c.args.k in
     let n = c.args.size in let j = c.count_at-j.result in
-    let ap' = counts (map g.I.Number.value c.args.a_p.now) in let ai = counts (map g.I.Number.value c.args.a_i.now) in
-    let form = sorted_form n (map g.I.Number.value c.args.a_p.now) (map g.I.Number.value c.args.a_i.now) r.form r.sorted in
+    let ap' = counts (map g.I.Index.value c.args.a_p.now) in let ai = counts (map g.I.Index.value c.args.a_i.now) in
+    let form = sorted_form n (map g.I.Index.value c.args.a_p.now) (map g.I.Index.value c.args.a_i.now) r.form r.sorted in
     let below = row_below c.count_at.ensures.count c.count_at-j.ensures.count c.if-count_at-k.true in
     let u = upper_next n ap' ai form t k m r.k_in i.scan c.count_at-end.result c.upper.place j c.count_at-end.ensures.count i.place
     c.count_at-j.ensures.count c.upper-test.true below in
@@ -118,8 +118,8 @@ pub lower-requires-clause-scan : goal.lower-requires-clause-scan
 lower-requires-clause-scan g c =
     let i = c.upper.invariant.1 in let r = c.requires in let m = c.upper.invariant.0 in let t = c.upper.next.items in let k = c.args.k in
     let n = c.args.size in let j = c.count_at-j.result in
-    let ap' = counts (map g.I.Number.value c.args.a_p.now) in let ai = counts (map g.I.Number.value c.args.a_i.now) in
-    let form = sorted_form n (map g.I.Number.value c.args.a_p.now) (map g.I.Number.value c.args.a_i.now) r.form r.sorted in
+    let ap' = counts (map g.I.Index.value c.args.a_p.now) in let ai = counts (map g.I.Index.value c.args.a_i.now) in
+    let form = sorted_form n (map g.I.Index.value c.args.a_p.now) (map g.I.Index.value c.args.a_i.now) r.form r.sorted in
     let below = row_below c.count_at.ensures.count c.count_at-j.ensures.count c.if-count_at-k.true in
     let u = upper_next n ap' ai form t k m r.k_in i.scan c.count_at-end.result c.upper.place j c.count_at-end.ensures.count i.place
     c.count_at-j.ensures.count c.upper-test.true below in
@@ -129,8 +129,8 @@ pub lower-requires-clause-held : goal.lower-requires-clause-held
 lower-requires-clause-held g c =
     let i = c.upper.invariant.1 in let r = c.requires in let m = c.upper.invariant.0 in let t = c.upper.next.items in let k = c.args.k in
     let n = c.args.size in let j = c.count_at-j.result in
-    let ap' = counts (map g.I.Number.value c.args.a_p.now) in let ai = counts (map g.I.Number.value c.args.a_i.now) in
-    let form = sorted_form n (map g.I.Number.value c.args.a_p.now) (map g.I.Number.value c.args.a_i.now) r.form r.sorted in
+    let ap' = counts (map g.I.Index.value c.args.a_p.now) in let ai = counts (map g.I.Index.value c.args.a_i.now) in
+    let form = sorted_form n (map g.I.Index.value c.args.a_p.now) (map g.I.Index.value c.args.a_i.now) r.form r.sorted in
     let below = row_below c.count_at.ensures.count c.count_at-j.ensures.count c.if-count_at-k.true in
     let u = upper_next n ap' ai form t k m r.k_in i.scan c.count_at-end.result c.upper.place j c.count_at-end.ensures.count i.place
     c.count_at-j.ensures.count c.upper-test.true below in
@@ -147,8 +147,8 @@ pub upper-preserved : goal.upper-preserved
 upper-preserved g c =
     let i = c.upper.invariant.1 in let r = c.requires in let m = c.upper.invariant.0 in let t = c.upper.next.items in let k = c.args.k in
     let n = c.args.size in let j = c.count_at-j.result in
-    let ap' = counts (map g.I.Number.value c.args.a_p.now) in let ai = counts (map g.I.Number.value c.args.a_i.now) in
-    let form = sorted_form n (map g.I.Number.value c.args.a_p.now) (map g.I.Number.value c.args.a_i.now) r.form r.sorted in
+    let ap' = counts (map g.I.Index.value c.args.a_p.now) in let ai = counts (map g.I.Index.value c.args.a_i.now) in
+    let form = sorted_form n (map g.I.Index.value c.args.a_p.now) (map g.I.Index.value c.args.a_i.now) r.form r.sorted in
     let below = row_below c.count_at.ensures.count c.count_at-j.ensures.count c.if-count_at-k.true in
     let u = upper_next n ap' ai form t k m r.k_in i.scan c.count_at-end.result c.upper.place j c.count_at-end.ensures.count i.place
     c.count_at-j.ensures.count c.upper-test.true below in
@@ -176,8 +176,8 @@ pub upper-init : goal.upper-init
 upper-init g c =
     let r = c.requires in
     let n = c.args.size in let k = c.args.k in
-    let ap' = counts (map g.I.Number.value c.args.a_p.now) in let ai = counts (map g.I.Number.value c.args.a_i.now) in
-    let form = sorted_form n (map g.I.Number.value c.args.a_p.now) (map g.I.Number.value c.args.a_i.now) r.form r.sorted in (
+    let ap' = counts (map g.I.Index.value c.args.a_p.now) in let ai = counts (map g.I.Index.value c.args.a_i.now) in
+    let form = sorted_form n (map g.I.Index.value c.args.a_p.now) (map g.I.Index.value c.args.a_i.now) r.form r.sorted in (
       0,
       record {
         place = reading_start ai (get_or ap' k 0) c.count_at-end.result k c.count_at-place.result c.count_at-place.ensures.count
@@ -195,8 +195,8 @@ pub returns : goal.returns
 returns g c =
     let v = c.upper.invariant.1 in let i = v.place in let r = c.requires in
     let m = c.upper.invariant.0 in let t = c.upper.next.items in let k = c.args.k in let p = c.upper.place in let n = c.args.size in
-    let ap' = counts (map g.I.Number.value c.args.a_p.now) in let ai = counts (map g.I.Number.value c.args.a_i.now) in
-    let form = sorted_form n (map g.I.Number.value c.args.a_p.now) (map g.I.Number.value c.args.a_i.now) r.form r.sorted in
+    let ap' = counts (map g.I.Index.value c.args.a_p.now) in let ai = counts (map g.I.Index.value c.args.a_i.now) in
+    let form = sorted_form n (map g.I.Index.value c.args.a_p.now) (map g.I.Index.value c.args.a_i.now) r.form r.sorted in
     let ends = c.count_at-end.ensures.count in
     let to = le_trans i.to (le_of_eq ends) in
     let diagonal = c.if-place-end.diagonal in let next = c.if-diagonal.place in

@@ -13,16 +13,16 @@ use Rattle.amd_edges.proofs.Scans.{met_still, lower_new, lower_after, lower_end,
 use Rattle.amd_edges.proofs.walk.column_rest.Goals as goal
 
 pub count_at-end-requires-clause-fits : goal.count_at-end-requires-clause-fits
-count_at-end-requires-clause-fits g c = pointer_fits c.args.size (map g.I.Number.value c.args.a_p.now)
-    (map g.I.Number.value c.args.a_i.now) c.requires.form (c.args.j + 1) (let a = c.requires.row in omega (arith, a))
-    (subst (λ x. x < 2 ^ 64) (sym (length-map c.args.a_i.now g.I.Number.value)) (omega (arith, c.well_formed)))
+count_at-end-requires-clause-fits g c = pointer_fits c.args.size (map g.I.Index.value c.args.a_p.now)
+    (map g.I.Index.value c.args.a_i.now) c.requires.form (c.args.j + 1) (let a = c.requires.row in omega (arith, a))
+    (subst (λ x. x < 2 ^ 64) (sym (length-map c.args.a_i.now g.I.Index.value)) (omega (arith, c.well_formed)))
 
 pub count_at-requires-clause-within : goal.count_at-requires-clause-within
-count_at-requires-clause-within g c = place_in g.I.Number.value c.args.a_i.now c.args.size (map g.I.Number.value c.args.a_p.now)
+count_at-requires-clause-within g c = place_in g.I.Index.value c.args.a_i.now c.args.size (map g.I.Index.value c.args.a_p.now)
     c.requires.form c.args.j c.rows.place c.count_at-end.result c.requires.row c.count_at-end.ensures.count c.rows-test.true
 
 pub count_at-requires-clause-fits : goal.count_at-requires-clause-fits
-count_at-requires-clause-fits g c = row_fits c.args.size (map g.I.Number.value c.args.a_p.now) (map g.I.Number.value c.args.a_i.now)
+count_at-requires-clause-fits g c = row_fits c.args.size (map g.I.Index.value c.args.a_p.now) (map g.I.Index.value c.args.a_i.now)
     c.requires.form c.args.j c.rows.place c.requires.row (before_end c.count_at-end.ensures.count c.rows-test.true)
     c.ranges.size.fits
 
@@ -30,8 +30,8 @@ pub rows-init : goal.rows-init
 rows-init g c =
     let r = c.requires in
     let n = c.args.size in let j = c.args.j in let t = c.args.next.now.items in
-    let ap' = counts (map g.I.Number.value c.args.a_p.now) in let ai = counts (map g.I.Number.value c.args.a_i.now) in
-    let form = sorted_form n (map g.I.Number.value c.args.a_p.now) (map g.I.Number.value c.args.a_i.now) r.form r.sorted in
+    let ap' = counts (map g.I.Index.value c.args.a_p.now) in let ai = counts (map g.I.Index.value c.args.a_i.now) in
+    let form = sorted_form n (map g.I.Index.value c.args.a_p.now) (map g.I.Index.value c.args.a_i.now) r.form r.sorted in
     let place = c.index-first.result.now in
     let is : place ≡ get_or t j 0 = c.index-first.ensures ∙ get_or_default_zero t j place (before_end (sym r.scan.size) r.row) in
     let stop = r.scan.stop j r.row r.row in (
@@ -49,8 +49,8 @@ pub edge-mark-requires : goal.edge-mark-requires
 edge-mark-requires g c =
     let v = c.rows.invariant.1 in let i = v.place in let r = c.requires in
     let n = c.args.size in let j = c.args.j in let q = c.rows.place in let t = c.args.next.now.items in
-    let ap' = counts (map g.I.Number.value c.args.a_p.now) in let ai = counts (map g.I.Number.value c.args.a_i.now) in
-    let form = sorted_form n (map g.I.Number.value c.args.a_p.now) (map g.I.Number.value c.args.a_i.now) r.form r.sorted in
+    let ap' = counts (map g.I.Index.value c.args.a_p.now) in let ai = counts (map g.I.Index.value c.args.a_i.now) in
+    let form = sorted_form n (map g.I.Index.value c.args.a_p.now) (map g.I.Index.value c.args.a_i.now) r.form r.sorted in
     let row = c.count_at.result in let same = c.count_at.ensures.count in
     let inside = before_end c.count_at-end.ensures.count c.rows-test.true in
     let below = row_in form r.scan r.row r.row i.from inside same in
@@ -61,8 +61,8 @@ pub rows-preserved : goal.rows-preserved
 rows-preserved g c =
     let b = c.rows.invariant.0 in let v = c.rows.invariant.1 in let i = v.place in let r = c.requires in
     let n = c.args.size in let j = c.args.j in let q = c.rows.place in let t = c.args.next.now.items in
-    let ap' = counts (map g.I.Number.value c.args.a_p.now) in let ai = counts (map g.I.Number.value c.args.a_i.now) in
-    let form = sorted_form n (map g.I.Number.value c.args.a_p.now) (map g.I.Number.value c.args.a_i.now) r.form r.sorted in
+    let ap' = counts (map g.I.Index.value c.args.a_p.now) in let ai = counts (map g.I.Index.value c.args.a_i.now) in
+    let form = sorted_form n (map g.I.Index.value c.args.a_p.now) (map g.I.Index.value c.args.a_i.now) r.form r.sorted in
     let row = c.count_at.result in let same = c.count_at.ensures.count in
     let inside = before_end c.count_at-end.ensures.count c.rows-test.true in
     let below = row_in form r.scan r.row r.row i.from inside same in
@@ -85,8 +85,8 @@ pub returns-clause-scan : goal.returns-clause-scan
 returns-clause-scan g c =
     let i = c.rows.invariant.1.place in let r = c.requires in
     let n = c.args.size in let j = c.args.j in let q = c.rows.place in let t = c.args.next.now.items in
-    let ap' = counts (map g.I.Number.value c.args.a_p.now) in let ai = counts (map g.I.Number.value c.args.a_i.now) in
-    let form = sorted_form n (map g.I.Number.value c.args.a_p.now) (map g.I.Number.value c.args.a_i.now) r.form r.sorted in
+    let ap' = counts (map g.I.Index.value c.args.a_p.now) in let ai = counts (map g.I.Index.value c.args.a_i.now) in
+    let form = sorted_form n (map g.I.Index.value c.args.a_p.now) (map g.I.Index.value c.args.a_i.now) r.form r.sorted in
     let ends = c.count_at-end.ensures.count in
     let past : c.count_at-end.result ≤ q = (let a = c.rows-test.false in omega (arith, a)) in
     let end : q ≡ c.count_at-end.result = (let to = i.to in omega (arith, past, to)) in
@@ -99,8 +99,8 @@ pub returns-clause-held : goal.returns-clause-held
 returns-clause-held g c =
     let b = c.rows.invariant.0 in let v = c.rows.invariant.1 in let i = v.place in let r = c.requires in
     let n = c.args.size in let j = c.args.j in let q = c.rows.place in let t = c.args.next.now.items in
-    let ap' = counts (map g.I.Number.value c.args.a_p.now) in let ai = counts (map g.I.Number.value c.args.a_i.now) in
-    let form = sorted_form n (map g.I.Number.value c.args.a_p.now) (map g.I.Number.value c.args.a_i.now) r.form r.sorted in
+    let ap' = counts (map g.I.Index.value c.args.a_p.now) in let ai = counts (map g.I.Index.value c.args.a_i.now) in
+    let form = sorted_form n (map g.I.Index.value c.args.a_p.now) (map g.I.Index.value c.args.a_i.now) r.form r.sorted in
     let ends = c.count_at-end.ensures.count in
     let past : c.count_at-end.result ≤ q = (let a = c.rows-test.false in omega (arith, a)) in
     let end : q ≡ c.count_at-end.result = (let to = i.to in omega (arith, past, to)) in

@@ -17,41 +17,41 @@ use Rattle.amd_edges.proofs.walk.lower.Goals.{else-place-end-via-then-place-end+
 use Rattle.amd_edges.proofs.walk.lower.Goals.{then-rows-test+else-count_at-k, else-rows-test}
 
 pub count_at-end-requires-clause-fits : goal.count_at-end-requires-clause-fits
-count_at-end-requires-clause-fits g c = pointer_fits c.args.size (map g.I.Number.value c.args.a_p.now)
-    (map g.I.Number.value c.args.a_i.now) c.requires.form (c.args.j + 1)
+count_at-end-requires-clause-fits g c = pointer_fits c.args.size (map g.I.Index.value c.args.a_p.now)
+    (map g.I.Index.value c.args.a_i.now) c.requires.form (c.args.j + 1)
     (let a = c.requires.before in let b = c.requires.k_in in omega (arith, a, b))
-    (subst (λ x. x < 2 ^ 64) (sym (length-map c.args.a_i.now g.I.Number.value)) (omega (arith, c.well_formed)))
+    (subst (λ x. x < 2 ^ 64) (sym (length-map c.args.a_i.now g.I.Index.value)) (omega (arith, c.well_formed)))
 
 pub count_at-requires-clause-within : goal.count_at-requires-clause-within
-count_at-requires-clause-within g c = place_in g.I.Number.value c.args.a_i.now c.args.size (map g.I.Number.value c.args.a_p.now)
+count_at-requires-clause-within g c = place_in g.I.Index.value c.args.a_i.now c.args.size (map g.I.Index.value c.args.a_p.now)
     c.requires.form c.args.j c.rows.place
     c.count_at-end.result (lt_of_lt_of_le c.requires.before c.requires.k_in) c.count_at-end.ensures.count c.rows-test.true
 
 pub count_at-requires-clause-fits : goal.count_at-requires-clause-fits
-count_at-requires-clause-fits g c = row_fits c.args.size (map g.I.Number.value c.args.a_p.now) (map g.I.Number.value c.args.a_i.now)
+count_at-requires-clause-fits g c = row_fits c.args.size (map g.I.Index.value c.args.a_p.now) (map g.I.Index.value c.args.a_i.now)
     c.requires.form c.args.j
     c.rows.place (lt_of_lt_of_le c.requires.before c.requires.k_in) (before_end c.count_at-end.ensures.count c.rows-test.true)
     c.ranges.size.fits
 
 pub count_at-requires-in-rows-clause-within : goal.count_at-requires-in-rows-clause-within
-count_at-requires-in-rows-clause-within g c = place_in g.I.Number.value c.args.a_i.now c.args.size (map g.I.Number.value c.args.a_p.now)
+count_at-requires-in-rows-clause-within g c = place_in g.I.Index.value c.args.a_i.now c.args.size (map g.I.Index.value c.args.a_p.now)
     c.requires.form c.args.j c.rows.place
     c.count_at-end.result (lt_of_lt_of_le c.requires.before c.requires.k_in) c.count_at-end.ensures.count c.rows-test.true
 
 pub count_at-requires-in-rows-clause-fits : goal.count_at-requires-in-rows-clause-fits
-count_at-requires-in-rows-clause-fits g c = row_fits c.args.size (map g.I.Number.value c.args.a_p.now)
-    (map g.I.Number.value c.args.a_i.now) c.requires.form c.args.j
+count_at-requires-in-rows-clause-fits g c = row_fits c.args.size (map g.I.Index.value c.args.a_p.now)
+    (map g.I.Index.value c.args.a_i.now) c.requires.form c.args.j
     c.rows.place (lt_of_lt_of_le c.requires.before c.requires.k_in) (before_end c.count_at-end.ensures.count c.rows-test.true)
     c.ranges.size.fits
 
 pub count_at-requires-then-place-end-clause-within : goal.count_at-requires-then-place-end-clause-within
-count_at-requires-then-place-end-clause-within g c = place_in g.I.Number.value c.args.a_i.now c.args.size
-    (map g.I.Number.value c.args.a_p.now) c.requires.form c.args.j c.rows.place
+count_at-requires-then-place-end-clause-within g c = place_in g.I.Index.value c.args.a_i.now c.args.size
+    (map g.I.Index.value c.args.a_p.now) c.requires.form c.args.j c.rows.place
     c.count_at-end.result (lt_of_lt_of_le c.requires.before c.requires.k_in) c.count_at-end.ensures.count c.if-place-end.true
 
 pub count_at-requires-then-place-end-clause-fits : goal.count_at-requires-then-place-end-clause-fits
-count_at-requires-then-place-end-clause-fits g c = row_fits c.args.size (map g.I.Number.value c.args.a_p.now)
-    (map g.I.Number.value c.args.a_i.now) c.requires.form c.args.j
+count_at-requires-then-place-end-clause-fits g c = row_fits c.args.size (map g.I.Index.value c.args.a_p.now)
+    (map g.I.Index.value c.args.a_i.now) c.requires.form c.args.j
     c.rows.place (lt_of_lt_of_le c.requires.before c.requires.k_in) (before_end c.count_at-end.ensures.count c.if-place-end.true)
     c.ranges.size.fits
 
@@ -59,8 +59,8 @@ pub rows-init : goal.rows-init
 rows-init g c =
     let r = c.requires in
     let n = c.args.size in let j = c.args.j in let k = c.args.k in let t = c.args.next.now.items in
-    let ap' = counts (map g.I.Number.value c.args.a_p.now) in let ai = counts (map g.I.Number.value c.args.a_i.now) in
-    let form = sorted_form n (map g.I.Number.value c.args.a_p.now) (map g.I.Number.value c.args.a_i.now) r.form r.sorted in
+    let ap' = counts (map g.I.Index.value c.args.a_p.now) in let ai = counts (map g.I.Index.value c.args.a_i.now) in
+    let form = sorted_form n (map g.I.Index.value c.args.a_p.now) (map g.I.Index.value c.args.a_i.now) r.form r.sorted in
     let place = c.index-place.result.now in
     let is : place ≡ get_or t j 0 = c.index-place.ensures ∙ get_or_default_zero t j place (before_end (sym r.scan.size) r.before) in
     let stop = r.scan.stop j r.before (lt_of_lt_of_le r.before r.k_in) in (
@@ -81,8 +81,8 @@ pub edge-mark-requires : goal.edge-mark-requires
 edge-mark-requires g c =
     let b = c.rows.invariant.0 in let v = c.rows.invariant.1 in let i = v.place in let r = c.requires in
     let n = c.args.size in let j = c.args.j in let k = c.args.k in let q = c.rows.place in let t = c.args.next.now.items in
-    let ap' = counts (map g.I.Number.value c.args.a_p.now) in let ai = counts (map g.I.Number.value c.args.a_i.now) in
-    let form = sorted_form n (map g.I.Number.value c.args.a_p.now) (map g.I.Number.value c.args.a_i.now) r.form r.sorted in
+    let ap' = counts (map g.I.Index.value c.args.a_p.now) in let ai = counts (map g.I.Index.value c.args.a_i.now) in
+    let form = sorted_form n (map g.I.Index.value c.args.a_p.now) (map g.I.Index.value c.args.a_i.now) r.form r.sorted in
     let row = c.count_at-in-rows.result in let same = c.count_at-in-rows.ensures.count in
     let below = row_below c.count_at.ensures.count same c.if-count_at-k.true in
     let inside = before_end c.count_at-end.ensures.count c.rows-test.true in
@@ -96,8 +96,8 @@ pub rows-preserved : goal.rows-preserved
 rows-preserved g c =
     let b = c.rows.invariant.0 in let v = c.rows.invariant.1 in let i = v.place in let r = c.requires in
     let n = c.args.size in let j = c.args.j in let k = c.args.k in let q = c.rows.place in let t = c.args.next.now.items in
-    let ap' = counts (map g.I.Number.value c.args.a_p.now) in let ai = counts (map g.I.Number.value c.args.a_i.now) in
-    let form = sorted_form n (map g.I.Number.value c.args.a_p.now) (map g.I.Number.value c.args.a_i.now) r.form r.sorted in
+    let ap' = counts (map g.I.Index.value c.args.a_p.now) in let ai = counts (map g.I.Index.value c.args.a_i.now) in
+    let form = sorted_form n (map g.I.Index.value c.args.a_p.now) (map g.I.Index.value c.args.a_i.now) r.form r.sorted in
     let row = c.count_at-in-rows.result in let same = c.count_at-in-rows.ensures.count in
     let below = row_below c.count_at.ensures.count same c.if-count_at-k.true in
     let inside = before_end c.count_at-end.ensures.count c.rows-test.true in
@@ -121,8 +121,8 @@ pub returns : goal.returns
 returns g c =
     let b = c.rows.invariant.0 in let v = c.rows.invariant.1 in let i = v.place in let r = c.requires in
     let n = c.args.size in let j = c.args.j in let k = c.args.k in let q = c.rows.place in let t = c.args.next.now.items in
-    let ap' = counts (map g.I.Number.value c.args.a_p.now) in let ai = counts (map g.I.Number.value c.args.a_i.now) in
-    let form = sorted_form n (map g.I.Number.value c.args.a_p.now) (map g.I.Number.value c.args.a_i.now) r.form r.sorted in
+    let ap' = counts (map g.I.Index.value c.args.a_p.now) in let ai = counts (map g.I.Index.value c.args.a_i.now) in
+    let form = sorted_form n (map g.I.Index.value c.args.a_p.now) (map g.I.Index.value c.args.a_i.now) r.form r.sorted in
     let ends = c.count_at-end.ensures.count in
     let row : j < n = lt_of_lt_of_le r.before r.k_in in
     let stop : q < get_or ap' (j + 1) 0 → k ≤ get_or ai q 0 = λ inside. elim c.rows-test.branch [

@@ -25,8 +25,8 @@ column_rest-requires-clause-scan g c = c.columns.invariant.scan
 pub column_rest-requires-clause-held : goal.column_rest-requires-clause-held
 column_rest-requires-clause-held g c =
     let n = c.args.size in let j = c.columns.j in let t = c.columns.next.items in
-    let ap' = counts (map g.I.Number.value c.args.a_p.now) in let ai = counts (map g.I.Number.value c.args.a_i.now) in
-    let form = sorted_form n (map g.I.Number.value c.args.a_p.now) (map g.I.Number.value c.args.a_i.now) c.requires.form
+    let ap' = counts (map g.I.Index.value c.args.a_p.now) in let ai = counts (map g.I.Index.value c.args.a_i.now) in
+    let form = sorted_form n (map g.I.Index.value c.args.a_p.now) (map g.I.Index.value c.args.a_i.now) c.requires.form
     c.requires.sorted in
     let arcs = arcs_of (edges_after (is_entry n ap' ai) n j) in (
       arcs,
@@ -37,7 +37,7 @@ column_rest-requires-clause-held g c =
 pub columns-init : goal.columns-init
 columns-init g c =
     let n = c.args.size in
-    let ap' = counts (map g.I.Number.value c.args.a_p.now) in let ai = counts (map g.I.Number.value c.args.a_i.now) in
+    let ap' = counts (map g.I.Index.value c.args.a_p.now) in let ai = counts (map g.I.Index.value c.args.a_i.now) in
     record {
       kept = refl;
       scan = c.requires.scan;
@@ -48,8 +48,8 @@ columns-init g c =
 pub columns-preserved : goal.columns-preserved
 columns-preserved g c =
     let n = c.args.size in let j = c.columns.j in let t = c.columns.next.items in
-    let ap' = counts (map g.I.Number.value c.args.a_p.now) in let ai = counts (map g.I.Number.value c.args.a_i.now) in
-    let form = sorted_form n (map g.I.Number.value c.args.a_p.now) (map g.I.Number.value c.args.a_i.now) c.requires.form
+    let ap' = counts (map g.I.Index.value c.args.a_p.now) in let ai = counts (map g.I.Index.value c.args.a_i.now) in
+    let form = sorted_form n (map g.I.Index.value c.args.a_p.now) (map g.I.Index.value c.args.a_i.now) c.requires.form
     c.requires.sorted in
     let arcs = arcs_of (edges_after (is_entry n ap' ai) n j) in
     record {
@@ -64,18 +64,18 @@ columns-preserved g c =
 pub returns : goal.returns
 returns g c =
     let n = c.args.size in let j = c.columns.j in let t = c.columns.next.items in
-    let ap' = counts (map g.I.Number.value c.args.a_p.now) in let ai = counts (map g.I.Number.value c.args.a_i.now) in
-    let form = sorted_form n (map g.I.Number.value c.args.a_p.now) (map g.I.Number.value c.args.a_i.now) c.requires.form
+    let ap' = counts (map g.I.Index.value c.args.a_p.now) in let ai = counts (map g.I.Index.value c.args.a_i.now) in
+    let form = sorted_form n (map g.I.Index.value c.args.a_p.now) (map g.I.Index.value c.args.a_i.now) c.requires.form
     c.requires.sorted in
     let i = c.columns.invariant in
-    let pair = is_pair n (map g.I.Number.value c.args.a_p.now) (map g.I.Number.value c.args.a_i.now) in
+    let pair = is_pair n (map g.I.Index.value c.args.a_p.now) (map g.I.Index.value c.args.a_i.now) in
     let end : j ≡ n = (let x = c.columns-test.false in let y = c.columns.auto.j-end in omega (arith, x, y)) in
     let all = done_met n ap' ai form t (subst (λ x. IsScan n ap' ai t n x) end i.scan) in
     let edges = ap (edges_after (is_entry n ap' ai) n) end ∙ after_end (is_entry n ap' ai) n
-    ∙ sym (same_edges n (map g.I.Number.value c.args.a_p.now) (map g.I.Number.value c.args.a_i.now) c.requires.form) in
+    ∙ sym (same_edges n (map g.I.Index.value c.args.a_p.now) (map g.I.Index.value c.args.a_i.now) c.requires.form) in
     record {
       held = subst (λ h. g.V.Visitor.holds h h.edge (arcs_of (met_edges n pair)) c.columns.visitor)
-          (sym (same_graph n (map g.I.Number.value c.args.a_p.now) (map g.I.Number.value c.args.a_i.now) c.requires.form))
+          (sym (same_graph n (map g.I.Index.value c.args.a_p.now) (map g.I.Index.value c.args.a_i.now) c.requires.form))
           (subst₂ (λ s l. g.V.Visitor.holds (count_graph n ap' ai) s (arcs_of l) c.columns.visitor) (ap (met n ap' ai t n) end ∙ all)
           edges i.held);
       kept = i.kept;

@@ -9,9 +9,9 @@ use Rattle.amd_edges.proofs.walk.rest.Given as goal
 abbrev pub invariant-columns : goal.invariant-columns
 invariant-columns g l = record {
   kept : g.V.Visitor.room l.visitor ≡ g.V.Visitor.room l.fn.visitor;
-  scan : IsScan l.fn.size (counts (map g.I.Number.value l.a_p)) (counts (map g.I.Number.value l.a_i)) l.next.items l.fn.size l.j;
-  held : g.V.Visitor.holds (count_graph l.fn.size (counts (map g.I.Number.value l.a_p)) (counts (map g.I.Number.value l.a_i)))
-      (met l.fn.size (counts (map g.I.Number.value l.a_p)) (counts (map g.I.Number.value l.a_i)) l.next.items l.fn.size l.j)
-      (arcs_of (edges_after (is_entry l.fn.size (counts (map g.I.Number.value l.a_p)) (counts (map g.I.Number.value l.a_i))) l.fn.size l.j))
+  scan : IsScan l.fn.size (counts (map g.I.Index.value l.a_p)) (counts (map g.I.Index.value l.a_i)) l.next.items l.fn.size l.j;
+  held : g.V.Visitor.holds (count_graph l.fn.size (counts (map g.I.Index.value l.a_p)) (counts (map g.I.Index.value l.a_i)))
+      (met l.fn.size (counts (map g.I.Index.value l.a_p)) (counts (map g.I.Index.value l.a_i)) l.next.items l.fn.size l.j)
+      (arcs_of (edges_after (is_entry l.fn.size (counts (map g.I.Index.value l.a_p)) (counts (map g.I.Index.value l.a_i))) l.fn.size l.j))
       l.visitor;
 }

@@ -8,14 +8,14 @@ use Rattle.amd_edges.proofs.walk.walk.Given as goal
 
 abbrev pub invariant-columns : goal.invariant-columns
 invariant-columns g l = record {
-  count : l.diagonals ≡ count_below l.k (λ j. is_entry l.fn.size (counts (map g.I.Number.value l.a_p)) (counts (map g.I.Number.value l.a_i))
+  count : l.diagonals ≡ count_below l.k (λ j. is_entry l.fn.size (counts (map g.I.Index.value l.a_p)) (counts (map g.I.Index.value l.a_i))
       j j);
   small : l.diagonals ≤ l.k;
   kept : g.V.Visitor.room l.visitor ≡ g.V.Visitor.room l.fn.visitor;
   room : l.fn.size ≤ vec_capacity l.next;
-  scan : IsScan l.fn.size (counts (map g.I.Number.value l.a_p)) (counts (map g.I.Number.value l.a_i)) l.next.items l.k 0;
-  held : g.V.Visitor.holds (count_graph l.fn.size (counts (map g.I.Number.value l.a_p)) (counts (map g.I.Number.value l.a_i)))
-      (met l.fn.size (counts (map g.I.Number.value l.a_p)) (counts (map g.I.Number.value l.a_i)) l.next.items l.k 0)
-      (arcs_of (edges_before (is_entry l.fn.size (counts (map g.I.Number.value l.a_p)) (counts (map g.I.Number.value l.a_i))) l.k))
+  scan : IsScan l.fn.size (counts (map g.I.Index.value l.a_p)) (counts (map g.I.Index.value l.a_i)) l.next.items l.k 0;
+  held : g.V.Visitor.holds (count_graph l.fn.size (counts (map g.I.Index.value l.a_p)) (counts (map g.I.Index.value l.a_i)))
+      (met l.fn.size (counts (map g.I.Index.value l.a_p)) (counts (map g.I.Index.value l.a_i)) l.next.items l.k 0)
+      (arcs_of (edges_before (is_entry l.fn.size (counts (map g.I.Index.value l.a_p)) (counts (map g.I.Index.value l.a_i))) l.k))
       l.visitor;
 }

@@ -17,11 +17,11 @@ same_length value xs rows e = simp length-map at (ap length e)
 
 pub places_of-requires-clause-room : goal.places_of-requires-clause-room
 places_of-requires-clause-room g c = ap length c.deref.ensures.value ∙
-    same_length g.I.Number.value c.in_ok-p.p.items c.args.rows.now c.in_ok-p.ensures
+    same_length g.I.Index.value c.in_ok-p.p.items c.args.rows.now c.in_ok-p.ensures
 
 pub returns-clause-inverse : goal.returns-clause-inverse
 returns-clause-inverse g c =
-    let value = g.I.Number.value in
+    let value = g.I.Index.value in
     inverse_from (length c.args.rows.now) c.args.rows.now c.requires.listing (map value c.in_ok-p.p.items)
     (map value c.in_ok-p_inv.p_inv.items)
     c.in_ok-p.ensures (simp length-map c.in_ok-p_inv.ensures.room) c.in_ok-p_inv.ensures.places

@@ -1,19 +1,12 @@
 use Rattle.std.proofs.Common.{◌≡◌, ◌+◌, ◌<◌, ◌++◌, ◌∷◌, [], ℕ, ℤ, List, map, pos, get_or, take, length, arith, sym, ◌∙◌, ap}
-use Rattle.std.specs.Prelude.{◌<ℤ◌, ◌≤ℤ◌}
 use Rattle.std.proofs.Math.Seq.{take-length}
-use Rattle.std.proofs.lemmas.Int.{ints}
 use Rattle.std.proofs.lemmas.List.{map-append, map_more}
+use Rattle.amd_types.proofs.Fitting.{fits_below}
 use Rattle.amd_types.proofs.permutations.numbers_of.Goals as goal
 
 pub unreachable-requires : goal.unreachable-requires
-unreachable-requires g c =
-    let row : ℕ = get_or c.args.rows.now c.rows.k 0 in
-    let small : pos row <ℤ g.I.Number.value c.args.n = c.requires.below c.rows.k c.rows-test.true in
-    let low : pos 0 ≤ℤ pos row = omega (arith, ints) in
-    let most : pos row ≤ℤ g.I.Number.value c.args.n = omega (arith, ints, small) in
-    let exact = g.met.I.Integral.exact_law in
-    c.in_default.ensures (g.I.Number.between_law (pos 0) (pos row) (g.I.Number.value c.args.n) exact (g.met.I.Zero.zero_fits_law exact)
-    c.requires.fits low most)
+unreachable-requires g c = c.in_default.ensures (fits_below g.I.Index.fits g.met.I.Index.zero_fits g.met.I.Index.between
+    (get_or c.args.rows.now c.rows.k 0) (g.I.Index.value c.args.n) c.requires.fits (c.requires.below c.rows.k c.rows-test.true))
 
 pub returns : goal.returns
 returns g c =
@@ -34,5 +27,5 @@ push_row value items rows k x grows read number within =
 
 pub rows-preserved : goal.rows-preserved
 rows-preserved g c =
-    push_row g.I.Number.value c.rows.numbers.items c.args.rows.now c.rows.k c.in-Some.number c.in_ok-push.ensures.items c.rows.invariant
+    push_row g.I.Index.value c.rows.numbers.items c.args.rows.now c.rows.k c.in-Some.number c.in_ok-push.ensures.items c.rows.invariant
     c.in-Some.ensures.1 c.rows-test.true

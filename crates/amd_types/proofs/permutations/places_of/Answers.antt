@@ -1,8 +1,14 @@
 use Rattle.std.proofs.Common.{◌≡◌, ◌<◌, ℕ, pos, get_or, length, arith, ◌∙◌, below_more}
 use Rattle.std.proofs.lemmas.List.{length-set}
 use Rattle.amd_model.proofs.Counting.Pigeonhole.{permutation_below, permutation_once}
+use Rattle.std.proofs.lemmas.Int.{ints}
+use Rattle.amd_types.proofs.Fitting.{fits_below}
 use Rattle.amd_types.proofs.NumberReads.{at_set_same, at_set_other}
 use Rattle.amd_types.proofs.permutations.places_of.Goals as goal
+
+pub unreachable-requires : goal.unreachable-requires
+unreachable-requires g c = c.in_default.ensures (fits_below g.I.Index.fits g.met.I.Index.zero_fits g.met.I.Index.between c.rows.k
+    (g.I.Index.value c.args.n) c.requires.fits (let size = c.requires.size in let within = c.rows-test.true in omega (arith, ints, size, within)))
 
 pub index_mut-requires : goal.index_mut-requires
 index_mut-requires g c = let small = permutation_below (length c.args.rows.now) c.args.rows.now c.requires.listing c.rows.k c.rows-test.true
@@ -10,7 +16,7 @@ index_mut-requires g c = let small = permutation_below (length c.args.rows.now) 
 
 pub rows-preserved : goal.rows-preserved
 rows-preserved g c =
-    let value = g.I.Number.value in
+    let value = g.I.Index.value in
     let rows = c.args.rows.now in
     let places = c.rows.places.items in
     let row : ℕ = get_or rows c.rows.k 0 in
