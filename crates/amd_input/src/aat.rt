@@ -15,6 +15,7 @@ ghost use Rattle.amd_types.specs.declared.amd.Status.TheVariants.{OutOfMemory};
 use crate::mirrors::mirrored_degrees;
 use amd_edges::walk::{Visitor, walk};
 use amd_types::amd::{Info, Status};
+use amd_types::index::Index;
 use amd_types::internal::{count_at, known_count};
 use num_traits::PrimInt;
 use std::alloc::{AllocError, Allocator};
@@ -67,7 +68,7 @@ fn zeros<A: Allocator>(numbers: &mut Vec<usize, A>, size: usize)
 /// # Errors
 ///
 /// A refused request for memory.
-fn degrees_of<I: PrimInt, A: Allocator + Copy>(
+fn degrees_of<I: Index, A: Allocator + Copy>(
     alloc: A,
     size: usize,
     a_p: &[I],

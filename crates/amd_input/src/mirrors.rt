@@ -12,13 +12,13 @@ ghost use Rattle.amd_edges.specs.Visits.{AreCounts};
 ghost use Rattle.amd_edges.specs.Walk.{entry_read};
 ghost use Rattle.amd_input.specs.Mirrors.{HaveMirrorsIn, CountOthers, EndsUpper};
 
+use amd_types::index::Index;
 use amd_types::internal::count_at;
-use num_traits::PrimInt;
 use std::alloc::Allocator;
 
 /// Reads the rows of column `k`, one of `size`, above the diagonal. Each must have its mirror, which is the next row of
 /// its own column. Returns the place where they end, or `None` where a mirror is missing.
-fn uppers<I: PrimInt, A: Allocator>(
+fn uppers<I: Index, A: Allocator>(
     size: usize,
     k: usize,
     a_p: &[I],
@@ -50,7 +50,7 @@ fn uppers<I: PrimInt, A: Allocator>(
 
 /// Reads column `k`, one of `size`: its upper rows, its diagonal entry, and how many other rows it has. Says whether it
 /// has a diagonal entry, or `None` where a mirror is missing.
-fn column<I: PrimInt, A: Allocator>(
+fn column<I: Index, A: Allocator>(
     size: usize,
     k: usize,
     a_p: &[I],
@@ -91,7 +91,7 @@ fn column<I: PrimInt, A: Allocator>(
 }
 
 /// Whether each of `size` columns was read to its end.
-fn all_read<I: PrimInt>(size: usize, a_p: &[I], a_i: &[I], next: &[usize]) -> bool
+fn all_read<I: Index>(size: usize, a_p: &[I], a_i: &[I], next: &[usize]) -> bool
     requires form { IsColumnForm (pos size) size (map I.value a_p.now) (map I.value a_i.now) }
     requires long { length next.now ≡ size }
     ensures { result ≡ true → (j : ℕ) → j < size →
@@ -106,7 +106,7 @@ fn all_read<I: PrimInt>(size: usize, a_p: &[I], a_i: &[I], next: &[usize]) -> bo
 }
 
 /// Whether the last of `size` columns has a row above the diagonal, as mostly where each entry has its mirror.
-fn ends_upper<I: PrimInt>(size: usize, a_p: &[I], a_i: &[I]) -> bool
+fn ends_upper<I: Index>(size: usize, a_p: &[I], a_i: &[I]) -> bool
     requires form { IsColumnForm (pos size) size (map I.value a_p.now) (map I.value a_i.now) }
     requires sorted { IsSorted size (map I.value a_p.now) (map I.value a_i.now) }
 {
@@ -120,7 +120,7 @@ fn ends_upper<I: PrimInt>(size: usize, a_p: &[I], a_i: &[I]) -> bool
 /// Appends the degree of each of `size` rows of a symmetric pattern to an empty list, and returns the number of
 /// diagonal entries; or `None`, for a pattern that is not symmetric, or whose last column has no row above the
 /// diagonal.
-pub fn mirrored_degrees<I: PrimInt, A: Allocator>(
+pub fn mirrored_degrees<I: Index, A: Allocator>(
     size: usize,
     a_p: &[I],
     a_i: &[I],

@@ -7,11 +7,12 @@ ghost use Rattle.amd_types.specs.Statuses.{IsStatusOf};
 ghost use Rattle.amd_input.specs.Scans.{AreRowNumbers, HaveDescent, HaveNoRow, IsColumnClass, Rise};
 
 use amd_types::amd::Status;
+use amd_types::index::Index;
 use amd_types::internal::{is_below, is_negative, to_count, value_at};
 use num_traits::PrimInt;
 
 /// Whether the rows at the places from `from` on, before `to`, are strictly ascending.
-fn rises<I: PrimInt>(a_i: &[I], from: usize, to: usize) -> bool
+fn rises<I: Index>(a_i: &[I], from: usize, to: usize) -> bool
     requires some { from < to }
     requires within { to ≤ length a_i.now }
     ensures rise { result ≡ true → Rise (map I.value a_i.now) from to }
@@ -28,7 +29,7 @@ fn rises<I: PrimInt>(a_i: &[I], from: usize, to: usize) -> bool
 }
 
 /// Whether the rows at the places from `from` on, before `to`, all lie in `0..n_row`.
-fn are_rows<I: PrimInt>(n_row: I, a_i: &[I], from: usize, to: usize) -> bool
+fn are_rows<I: Index>(n_row: I, a_i: &[I], from: usize, to: usize) -> bool
     requires ordered { from ≤ to }
     requires within { to ≤ length a_i.now }
     ensures are { result ≡ true → AreRowNumbers (I.value n_row) (map I.value a_i.now) from to }
@@ -45,7 +46,7 @@ fn are_rows<I: PrimInt>(n_row: I, a_i: &[I], from: usize, to: usize) -> bool
 
 /// The status of the rows at the places from `from` on, before `to`: those of one column. Ascending rows lie in range
 /// where the first and the last of them do.
-fn column_status<I: PrimInt>(n_row: I, a_i: &[I], from: usize, to: usize) -> Status
+fn column_status<I: Index>(n_row: I, a_i: &[I], from: usize, to: usize) -> Status
     requires ordered { from ≤ to }
     requires within { to ≤ length a_i.now }
     ensures { IsColumnClass (I.value n_row) (map I.value a_i.now) from to result }
@@ -67,18 +68,8 @@ fn column_status<I: PrimInt>(n_row: I, a_i: &[I], from: usize, to: usize) -> Sta
     }
 }
 
-/// The status of an input with `n_col` columns and rows in `0..n_row`: whether it is a column form, and sorted.
-///
-/// It is `Invalid` where the input is no column form, else `OkButJumbled` where some column is out of order or has a
-/// duplicate, else `OK`; never `OutOfMemory`. For `n_col = 0` one pointer, 0, is needed. Any arguments are allowed, and
-/// no memory is taken.
-///
-/// The input is a column form where `n_col` is not negative, `a_p` has at least `n_col + 1` pointers, of which the
-/// first is 0, up to `a_p[n_col]`, which is at most the length of `a_i`, they never descend, and the row indices before
-/// place `a_p[n_col]` lie in `0..n_row`. What follows is ignored.
-///
-/// Source: AMD user guide.
-pub fn valid<I: PrimInt>(n_row: I, n_col: I, a_p: &[I], a_i: &[I]) -> Status
+/// As `valid`, for the calls of inner functions.
+pub fn status_of<I: Index>(n_row: I, n_col: I, a_p: &[I], a_i: &[I]) -> Status
     ensures { IsStatusOf (I.value n_row) (I.value n_col) (map I.value a_p.now) (map I.value a_i.now) result }
 {
     let Some(columns) = to_count(n_col) else {
@@ -111,4 +102,21 @@ pub fn valid<I: PrimInt>(n_row: I, n_col: I, a_p: &[I], a_i: &[I]) -> Status
         from = to;
     }
     status
+}
+
+/// The status of an input with `n_col` columns and rows in `0..n_row`: whether it is a column form, and sorted.
+///
+/// It is `Invalid` where the input is no column form, else `OkButJumbled` where some column is out of order or has a
+/// duplicate, else `OK`; never `OutOfMemory`. For `n_col = 0` one pointer, 0, is needed. Any arguments are allowed, and
+/// no memory is taken.
+///
+/// The input is a column form where `n_col` is not negative, `a_p` has at least `n_col + 1` pointers, of which the
+/// first is 0, up to `a_p[n_col]`, which is at most the length of `a_i`, they never descend, and the row indices before
+/// place `a_p[n_col]` lie in `0..n_row`. What follows is ignored.
+///
+/// Source: AMD user guide.
+pub fn valid<I: PrimInt>(n_row: I, n_col: I, a_p: &[I], a_i: &[I]) -> Status
+    ensures { IsStatusOf (I.value n_row) (I.value n_col) (map I.value a_p.now) (map I.value a_i.now) result }
+{
+    status_of(n_row, n_col, a_p, a_i)
 }

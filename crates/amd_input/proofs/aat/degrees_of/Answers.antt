@@ -8,5 +8,5 @@ pub walk-diagonals-requires-clause-held : goal.walk-diagonals-requires-clause-he
 unfolding graph_of
 walk-diagonals-requires-clause-held g c =
     let none = zeros_of c.args.size c.zeros.new.numbers.items c.zeros.ensures in
-    counts_none (graph_of c.args.size (map g.I.Number.value c.args.a_p.now) (map g.I.Number.value c.args.a_i.now))
+    counts_none (graph_of c.args.size (map g.I.Index.value c.args.a_p.now) (map g.I.Index.value c.args.a_i.now))
     c.zeros.new.numbers.items none.0 none.1

@@ -3,4 +3,4 @@ use Rattle.amd_types.specs.Counts.{counts}
 use Rattle.amd_input.proofs.mirrors.all_read.Given as goal
 
 abbrev pub invariant-columns : goal.invariant-columns
-invariant-columns g l = (a : ℕ) → a < l.j → get_or l.next a 0 ≡ get_or (counts (map g.I.Number.value l.a_p)) (a + 1) 0
+invariant-columns g l = (a : ℕ) → a < l.j → get_or l.next a 0 ≡ get_or (counts (map g.I.Index.value l.a_p)) (a + 1) 0

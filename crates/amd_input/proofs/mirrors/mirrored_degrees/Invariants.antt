@@ -8,11 +8,11 @@ use Rattle.amd_input.proofs.mirrors.mirrored_degrees.Given as goal
 
 abbrev pub invariant-columns : goal.invariant-columns
 invariant-columns g l = record {
-  count : l.diagonals ≡ count_below l.k (λ j. is_entry l.fn.size (counts (map g.I.Number.value l.a_p)) (counts (map g.I.Number.value l.a_i))
+  count : l.diagonals ≡ count_below l.k (λ j. is_entry l.fn.size (counts (map g.I.Index.value l.a_p)) (counts (map g.I.Index.value l.a_i))
       j j);
   small : l.diagonals ≤ l.k;
   next : vec_capacity l.next ≡ vec_capacity l.fn.next;
   degrees : vec_capacity l.degrees ≡ vec_capacity l.fn.degrees;
-  read : HaveMirrors l.fn.size (counts (map g.I.Number.value l.a_p)) (counts (map g.I.Number.value l.a_i)) l.next.items l.k 0;
-  others : CountOthers l.fn.size (counts (map g.I.Number.value l.a_p)) (counts (map g.I.Number.value l.a_i)) l.k l.degrees.items;
+  read : HaveMirrors l.fn.size (counts (map g.I.Index.value l.a_p)) (counts (map g.I.Index.value l.a_i)) l.next.items l.k 0;
+  others : CountOthers l.fn.size (counts (map g.I.Index.value l.a_p)) (counts (map g.I.Index.value l.a_i)) l.k l.degrees.items;
 }

@@ -8,9 +8,9 @@ use Rattle.amd_input.proofs.mirrors.uppers.Given as goal
 
 abbrev pub invariant-uppers : goal.invariant-uppers
 invariant-uppers g l = (m : ℕ) × record {
-  place : IsReading (counts (map g.I.Number.value l.a_i)) (get_or (counts (map g.I.Number.value l.a_p)) l.k 0) l.end l.k m l.place;
+  place : IsReading (counts (map g.I.Index.value l.a_i)) (get_or (counts (map g.I.Index.value l.a_p)) l.k 0) l.end l.k m l.place;
   room : vec_capacity l.next ≡ vec_capacity l.fn.next;
-  read : HaveMirrors l.size (counts (map g.I.Number.value l.a_p)) (counts (map g.I.Number.value l.a_i)) l.next.items l.k m;
+  read : HaveMirrors l.size (counts (map g.I.Index.value l.a_p)) (counts (map g.I.Index.value l.a_i)) l.next.items l.k m;
 }
 
 abbrev pub decreases-uppers : goal.decreases-uppers

@@ -8,7 +8,7 @@ use Rattle.amd_input.proofs.valid.rises.Goals as goal
 pub rows-preserved : goal.rows-preserved
 rows-preserved g c =
     let k : ℕ = c.rows.k in
-    let ai : List ℤ = map g.I.Number.value c.args.a_i.now in
+    let ai : List ℤ = map g.I.Index.value c.args.a_i.now in
     let next : k ≡ k - 1 + 1 = omega arith in
     elim c.if-not-is_below.branch [
       | then-not-is_below w ↦ record {
@@ -22,7 +22,7 @@ rows-preserved g c =
       }
       | else-not-is_below w ↦ record {
         rise = λ t.
-            let up = subst (λ z. g.I.Number.value c.value_at.result <ℤ z) c.value_at-in-rows.ensures
+            let up = subst (λ z. g.I.Index.value c.value_at.result <ℤ z) c.value_at-in-rows.ensures
             (c.is_below.ensures.0 w.if-not-is_below.false) in
             rise_more ai c.args.from (k - 1) k next (c.rows.invariant.rise (sym w.rising-is ∙ t))
             (subst (λ z. z <ℤ at ai k) c.value_at.ensures up);

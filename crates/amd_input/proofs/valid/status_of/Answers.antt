@@ -4,8 +4,8 @@ use Rattle.std.proofs.lemmas.Int.{ints}
 use Rattle.amd_model.specs.Input.Columns.{at}
 use Rattle.amd_input.proofs.Classes.{form_none, sorted_none, no_columns, few_pointers, no_first, bad_first, no_count, bad_pointer, bad_row}
 use Rattle.amd_input.proofs.Classes.{form_more, run_more, descent_jumbles, class_of}
-use Rattle.amd_input.proofs.valid.valid.Goals as goal
-use Rattle.amd_input.proofs.valid.valid.Goals.{in-OK, in-OkButJumbled}
+use Rattle.amd_input.proofs.valid.status_of.Goals as goal
+use Rattle.amd_input.proofs.valid.status_of.Goals.{in-OK, in-OkButJumbled}
 
 pub returns-in_default : goal.returns-in_default
 returns-in_default g c = no_columns _ _ _ _ (simp length-map (omega arith)) c.in_default.ensures
@@ -25,7 +25,7 @@ columns-init g c =
     let start = sym (c.in-Some-to_count.ensures.1 ∙ c.value_at.ensures) ∙ ap pos c.if-first-ne0.false in
     record {
       form = form_none _ _ _ start (simp length-map (omega arith));
-      class = sorted_none (g.I.Number.value c.args.n_row) _ _;
+      class = sorted_none (g.I.Index.value c.args.n_row) _ _;
       start
           = start;
     }
@@ -49,7 +49,7 @@ returns-in-Invalid g c = bad_row _ _ _ _ _ c.columns.j c.columns.from c.in-Some-
 
 pub columns-preserved : goal.columns-preserved
 columns-preserved g c =
-    let n = g.I.Number.value in
+    let n = g.I.Index.value in
     let a = c.columns.invariant.start in
     let b : at (map n c.args.a_p.now) (c.columns.j + 1) ≡ pos c.in-Some-to_count-2.to = sym c.value_at-in-columns.ensures ∙
     sym c.in-Some-to_count-2.ensures.1 in
