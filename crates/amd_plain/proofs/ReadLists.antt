@@ -1,5 +1,5 @@
 -- A list that is read at its place in a table of lists, and marks that are set and cleared again.
-use Rattle.std.proofs.Common.{ℕ, Bool, true, false, List, Vec, ◌≡◌, ◌<◌, ◌&&◌, ◌||◌, not, refl, sym, ap, subst, ◌∙◌, get_or}
+use Rattle.std.proofs.Common.{ℕ, Bool, false, List, Vec, ◌≡◌, ◌<◌, ◌&&◌, ◌||◌, not, sym, ap, subst, ◌∙◌, get_or}
 use Rattle.std.proofs.Common.{lt_of_lt_of_le, le_of_eq}
 use Rattle.amd_model.specs.Quotient.{has}
 use Rattle.amd_model.proofs.Counting.Below.{not_both}

@@ -1,9 +1,9 @@
 -- The groups in which classes alike are looked for.
-use Rattle.std.specs.Prelude.{ℕ, true, false, Option, None, Some, List, [], ◌∷◌, ◌++◌, Vec, ◌≡◌, ◌+◌, ◌%◌, ◌^◌, ◌==◌}
+use Rattle.std.specs.Prelude.{ℕ, true, false, Option, None, Some, List, [], ◌∷◌, ◌++◌, Vec, ◌≡◌, ◌<◌, ◌+◌, ◌%◌, ◌^◌, ◌==◌}
 use Rattle.std.specs.Prelude.{◌⊎◌, cond, length}
 use Rattle.std.specs.Prelude.{sum_by}
-use Rattle.amd_model.specs.Quotient.{has}
-use Rattle.amd_plain.specs.Views.{list_at, ListsBelow, Clear}
+use Rattle.amd_model.specs.Quotient.{has, Once}
+use Rattle.amd_plain.specs.Views.{list_at, Below, ListsBelow, Clear}
 use Rattle.amd_plain.specs.Rounds.{plain_alike}
 use Rattle.amd_plain.specs.declared.work.Scratch.{Scratch}
 
@@ -20,6 +20,15 @@ group_in elements variables i = ((wrapped_sum (list_at elements i) + wrapped_sum
 abbrev pub FoundIn : {A : Type 0} → List (Vec ℕ A) → List (Vec ℕ A) → ℕ → List ℕ → Option ℕ → Type 0
 FoundIn elements variables i group None = (r : ℕ) → has group r ≡ true → plain_alike elements variables i r ≡ false
 FoundIn elements variables i group (Some r) = (has group r ≡ true) × (plain_alike elements variables i r ≡ true)
+
+-- the lists of the class i and of those in a group name rows alone, and each of them once
+pub record AreComparable {A : Type 0} (es vs : List (Vec ℕ A)) (i : ℕ) (group : List ℕ) : Type 0 where
+  pub row : i < length es
+  pub elements : ListsBelow (length es) es
+  pub variables : ListsBelow (length es) vs
+  pub range : Below (length es) group
+  pub once : Once (list_at es i) × Once (list_at vs i)
+  pub group_once : (r : ℕ) → has group r ≡ true → Once (list_at es r) × Once (list_at vs r)
 
 -- each group names classes of the list alone, each in its group
 abbrev pub AreGrouped : {A : Type 0} → List (Vec ℕ A) → List (Vec ℕ A) → List ℕ → (ℕ → List ℕ) → Type 0

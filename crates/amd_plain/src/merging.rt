@@ -10,7 +10,7 @@ ghost use Rattle.amd_model.specs.Quotient.{has, each, Once, last_that};
 ghost use Rattle.amd_plain.specs.Views.{num, mark_at, some_at, list_at, Below, ListsBelow, Clear};
 ghost use Rattle.amd_plain.specs.Rounds.{plain_alike};
 ghost use Rattle.amd_plain.specs.Keeps.{IsIdle};
-ghost use Rattle.amd_plain.specs.Groups.{wrapped_sum, group_in, FoundIn, AreGrouped, IsClearScratch, Looked};
+ghost use Rattle.amd_plain.specs.Groups.{wrapped_sum, group_in, FoundIn, AreComparable, AreGrouped, IsClearScratch, Looked};
 
 use crate::marks::{clear_all, mark_all};
 use crate::work::{PlainLists, Scratch};
@@ -67,13 +67,7 @@ fn first_alike<A: Allocator>(
     elements: &[bool],
     rows: &[bool],
 ) -> Option<usize>
-    requires row { i < length lists.now.elements.items }
-    requires lists_elements { ListsBelow (length lists.now.elements.items) lists.now.elements.items }
-    requires lists_variables { ListsBelow (length lists.now.elements.items) lists.now.variables.items }
-    requires range { Below (length lists.now.elements.items) group.now }
-    requires once { Once (list_at lists.now.elements.items i) × Once (list_at lists.now.variables.items i) }
-    requires group_once { (r : ℕ) → has group.now r ≡ true → Once (list_at lists.now.elements.items r) ×
-        Once (list_at lists.now.variables.items r) }
+    requires comparable { AreComparable lists.now.elements.items lists.now.variables.items i group.now }
     requires elements { (length elements.now ≡ length lists.now.elements.items) ×
         ((j : ℕ) → mark_at elements.now j ≡ has (list_at lists.now.elements.items i) j) }
     requires rows { (length rows.now ≡ length lists.now.elements.items) ×
@@ -99,13 +93,7 @@ fn representative_in<A: Allocator>(
     elements: &mut Vec<bool, A>,
     rows: &mut Vec<bool, A>,
 ) -> Option<usize>
-    requires row { i < length lists.now.elements.items }
-    requires lists_elements { ListsBelow (length lists.now.elements.items) lists.now.elements.items }
-    requires lists_variables { ListsBelow (length lists.now.elements.items) lists.now.variables.items }
-    requires range { Below (length lists.now.elements.items) group.now }
-    requires once { Once (list_at lists.now.elements.items i) × Once (list_at lists.now.variables.items i) }
-    requires group_once { (r : ℕ) → has group.now r ≡ true → Once (list_at lists.now.elements.items r) ×
-        Once (list_at lists.now.variables.items r) }
+    requires comparable { AreComparable lists.now.elements.items lists.now.variables.items i group.now }
     requires elements { (length elements.old.items ≡ length lists.now.elements.items) × Clear elements.old.items }
     requires rows { (length rows.old.items ≡ length lists.now.elements.items) × Clear rows.old.items }
     ensures found { FoundIn lists.now.elements.items lists.now.variables.items i group.now result }

@@ -34,37 +34,37 @@ pub same_list-requires-clause-once : goal.same_list-requires-clause-once
 same_list-requires-clause-once g c =
     let es = c.args.lists.now.elements.items in
     let r : ℕ = get_or c.args.group.now c.loop-r.r-index 0 in
-    let once = c.requires.group_once r (has_at c.args.group.now c.loop-r.r-index 0 c.loop-r-test.true) in (
-      subst Once (sym (list_deref es r c.index.result.now _ (c.requires.range c.loop-r.r-index 0 c.loop-r-test.true) c.index.ensures
+    let once = c.requires.comparable.group_once r (has_at c.args.group.now c.loop-r.r-index 0 c.loop-r-test.true) in (
+      subst Once (sym (list_deref es r c.index.result.now _ (c.requires.comparable.range c.loop-r.r-index 0 c.loop-r-test.true) c.index.ensures
           c.deref.ensures.value)) once.0,
-      subst Once (sym (list_deref es c.args.i c.index-in-loop-r.result.now _ c.requires.row c.index-in-loop-r.ensures
-          c.deref-in-loop-r.ensures.value)) c.requires.once.0,
+      subst Once (sym (list_deref es c.args.i c.index-in-loop-r.result.now _ c.requires.comparable.row c.index-in-loop-r.ensures
+          c.deref-in-loop-r.ensures.value)) c.requires.comparable.once.0,
     )
 
 pub same_list-requires-then-same_list-clause-once : goal.same_list-requires-then-same_list-clause-once
 same_list-requires-then-same_list-clause-once g c =
     let vs = c.args.lists.now.variables.items in
-    let size = c.requires.lists_variables.0 in
-    let row = c.requires.row in
+    let size = c.requires.comparable.variables.0 in
+    let row = c.requires.comparable.row in
     let r : ℕ = get_or c.args.group.now c.loop-r.r-index 0 in
-    let small = c.requires.range c.loop-r.r-index 0 c.loop-r-test.true in
-    let once = c.requires.group_once r (has_at c.args.group.now c.loop-r.r-index 0 c.loop-r-test.true) in (
+    let small = c.requires.comparable.range c.loop-r.r-index 0 c.loop-r-test.true in
+    let once = c.requires.comparable.group_once r (has_at c.args.group.now c.loop-r.r-index 0 c.loop-r-test.true) in (
       subst Once (sym (list_deref vs r c.index-then-same_list.result.now _
           (lt_of_lt_of_le small (le_of_eq (sym size))) c.index-then-same_list.ensures
           c.deref-then-same_list.ensures.value)) once.1,
       subst Once (sym (list_deref vs c.args.i c.index-then-same_list-2.result.now _ (lt_of_lt_of_le row (le_of_eq (sym size)))
-          c.index-then-same_list-2.ensures c.deref-then-same_list-2.ensures.value)) c.requires.once.1,
+          c.index-then-same_list-2.ensures c.deref-then-same_list-2.ensures.value)) c.requires.comparable.once.1,
     )
 
 pub returns-then-same_list-2 : goal.returns-then-same_list-2
 returns-then-same_list-2 g c =
     let es = c.args.lists.now.elements.items in
     let vs = c.args.lists.now.variables.items in
-    let size = c.requires.lists_variables.0 in
-    let row = c.requires.row in
+    let size = c.requires.comparable.variables.0 in
+    let row = c.requires.comparable.row in
     let i = c.args.i in
     let r : ℕ = get_or c.args.group.now c.loop-r.r-index 0 in
-    let small = c.requires.range c.loop-r.r-index 0 c.loop-r-test.true in
+    let small = c.requires.comparable.range c.loop-r.r-index 0 c.loop-r-test.true in
     let er = list_deref es r c.index.result.now _ small c.index.ensures c.deref.ensures.value in
     let ei = list_deref es i c.index-in-loop-r.result.now _ row c.index-in-loop-r.ensures c.deref-in-loop-r.ensures.value in
     let vr = list_deref vs r c.index-then-same_list.result.now _
@@ -83,13 +83,13 @@ pub loop-r-preserved : goal.loop-r-preserved
 loop-r-preserved g c =
     let es = c.args.lists.now.elements.items in
     let vs = c.args.lists.now.variables.items in
-    let size = c.requires.lists_variables.0 in
-    let row = c.requires.row in
+    let size = c.requires.comparable.variables.0 in
+    let row = c.requires.comparable.row in
     let i = c.args.i in
     let k = c.loop-r.r-index in
     let group = c.args.group.now in
     let r : ℕ = get_or group k 0 in
-    let small = c.requires.range k 0 c.loop-r-test.true in
+    let small = c.requires.comparable.range k 0 c.loop-r-test.true in
     let er = list_deref es r c.index.result.now _ small c.index.ensures c.deref.ensures.value in
     let ei = list_deref es i c.index-in-loop-r.result.now _ row c.index-in-loop-r.ensures c.deref-in-loop-r.ensures.value in
     let unlike : plain_alike es vs i r ≡ false = two_alike es vs i r ∙ elim c.else-same_list.branch [
@@ -112,26 +112,26 @@ loop-r-preserved g c =
 
 pub same_list-requires-clause-marked : goal.same_list-requires-clause-marked
 same_list-requires-clause-marked g c j = c.requires.elements.1 j ∙ ap (λ xs. has xs j)
-    (sym (list_deref c.args.lists.now.elements.items c.args.i c.index-in-loop-r.result.now _ c.requires.row c.index-in-loop-r.ensures
+    (sym (list_deref c.args.lists.now.elements.items c.args.i c.index-in-loop-r.result.now _ c.requires.comparable.row c.index-in-loop-r.ensures
     c.deref-in-loop-r.ensures.value))
 
 pub same_list-requires-then-same_list-clause-marked : goal.same_list-requires-then-same_list-clause-marked
 same_list-requires-then-same_list-clause-marked g c j = c.requires.rows.1 j ∙ ap (λ xs. has xs j)
     (sym (list_deref c.args.lists.now.variables.items c.args.i c.index-then-same_list-2.result.now _
-    (lt_of_lt_of_le c.requires.row (le_of_eq (sym c.requires.lists_variables.0))) c.index-then-same_list-2.ensures
+    (lt_of_lt_of_le c.requires.comparable.row (le_of_eq (sym c.requires.comparable.variables.0))) c.index-then-same_list-2.ensures
     c.deref-then-same_list-2.ensures.value))
 
 pub same_list-requires-clause-range : goal.same_list-requires-clause-range
 same_list-requires-clause-range g c =
     read_below (length c.args.lists.now.elements.items) (length c.args.elements.now) c.args.lists.now.elements.items
-    (get_or c.args.group.now c.loop-r.r-index 0) c.index.result.now c.deref.result.now c.requires.lists_elements
-    (c.requires.range c.loop-r.r-index 0 c.loop-r-test.true) c.index.ensures c.deref.ensures.value c.requires.elements.0
+    (get_or c.args.group.now c.loop-r.r-index 0) c.index.result.now c.deref.result.now c.requires.comparable.elements
+    (c.requires.comparable.range c.loop-r.r-index 0 c.loop-r-test.true) c.index.ensures c.deref.ensures.value c.requires.elements.0
 
 pub same_list-requires-then-same_list-clause-range : goal.same_list-requires-then-same_list-clause-range
 same_list-requires-then-same_list-clause-range g c =
     read_below (length c.args.lists.now.elements.items) (length c.args.rows.now) c.args.lists.now.variables.items
     (get_or c.args.group.now c.loop-r.r-index 0) c.index-then-same_list.result.now c.deref-then-same_list.result.now
-    c.requires.lists_variables (c.requires.range c.loop-r.r-index 0 c.loop-r-test.true) c.index-then-same_list.ensures
+    c.requires.comparable.variables (c.requires.comparable.range c.loop-r.r-index 0 c.loop-r-test.true) c.index-then-same_list.ensures
     c.deref-then-same_list.ensures.value c.requires.rows.0
 
 pub returns : goal.returns

@@ -13,14 +13,23 @@ use Rattle.amd_plain.specs.Rounds.{plain_alike}
 use Rattle.amd_plain.proofs.ReadLists.{read_below}
 use Rattle.amd_plain.proofs.merging.represent.Goals as goal
 
-pub representative_in-found-requires-clause-group_once : goal.representative_in-found-requires-clause-group_once
-representative_in-found-requires-clause-group_once g c = λ r h.
+pub representative_in-found-requires-clause-comparable : goal.representative_in-found-requires-clause-comparable
+representative_in-found-requires-clause-comparable g c =
     let groups = c.args.scratch.now.groups.items in
+    let n : ℕ = length c.args.lists.now.elements.items in
     let room = c.requires.ready.groups.0 in
     let range = c.group_of-group.ensures.range in
     let read = list_deref groups c.group_of-group.result c.index.result.now _ (lt_of_lt_of_le range (le_of_eq (sym room))) c.index.ensures
     c.deref.ensures.value in
-    c.requires.group_once c.group_of-group.result r (ap (λ xs. has xs r) (sym read) ∙ h)
+    record {
+      row = c.requires.row;
+      elements = c.requires.elements;
+      variables = c.requires.variables;
+      range = read_below n n groups c.group_of-group.result c.index.result.now c.deref.result.now c.requires.ready.groups range
+          c.index.ensures c.deref.ensures.value refl;
+      once = c.requires.once;
+      group_once = λ r h. c.requires.group_once c.group_of-group.result r (ap (λ xs. has xs r) (sym read) ∙ h);
+    }
 
 pub returns-in_ok-push-in-None-clause-looked : goal.returns-in_ok-push-in-None-clause-looked
 returns-in_ok-push-in-None-clause-looked g c =
@@ -94,18 +103,6 @@ returns-in_ok-push-in-None-clause-others g c x ne = get_or-set_other c.args.scra
 
 pub returns-in-Some-clause-others : goal.returns-in-Some-clause-others
 returns-in-Some-clause-others g c x ne = get_or-set_other c.args.scratch.now.into.items c.args.i x c.in-Some.r 0 ne
-
-pub representative_in-found-requires-clause-range : goal.representative_in-found-requires-clause-range
-representative_in-found-requires-clause-range g c =
-    let n : ℕ = length c.args.lists.now.elements.items in
-    read_below n n c.args.scratch.now.groups.items c.group_of-group.result c.index.result.now c.deref.result.now c.requires.ready.groups
-    c.group_of-group.ensures.range c.index.ensures c.deref.ensures.value refl
-
-pub representative_in-found-requires-clause-lists_elements : goal.representative_in-found-requires-clause-lists_elements
-representative_in-found-requires-clause-lists_elements g c = c.requires.elements
-
-pub representative_in-found-requires-clause-lists_variables : goal.representative_in-found-requires-clause-lists_variables
-representative_in-found-requires-clause-lists_variables g c = c.requires.variables
 
 pub returns-in-Some-clause-ready : goal.returns-in-Some-clause-ready
 returns-in-Some-clause-ready g c = record {

@@ -19,7 +19,7 @@ first_alike-found-requires-clause-elements g c = (
   ap length c.deref-3.ensures.value ∙ c.mark_all.ensures.size ∙ c.requires.elements.0,
   λ j. ap (λ l. mark_at l j) c.deref-3.ensures.value ∙ c.mark_all.ensures.marked j
       ∙ ap (λ b. b || has c.deref.result.now j) (c.requires.elements.1 j)
-      ∙ ap (λ xs. has xs j) (list_deref c.args.lists.now.elements.items c.args.i c.index.result.now _ c.requires.row c.index.ensures
+      ∙ ap (λ xs. has xs j) (list_deref c.args.lists.now.elements.items c.args.i c.index.result.now _ c.requires.comparable.row c.index.ensures
       c.deref.ensures.value),
 )
 
@@ -29,69 +29,54 @@ first_alike-found-requires-clause-rows g c = (
   λ j. ap (λ l. mark_at l j) c.deref-4.ensures.value ∙ c.mark_all-2.ensures.marked j
       ∙ ap (λ b. b || has c.deref-2.result.now j) (c.requires.rows.1 j)
       ∙ ap (λ xs. has xs j) (list_deref c.args.lists.now.variables.items c.args.i c.index-2.result.now _
-      (lt_of_lt_of_le c.requires.row (le_of_eq (sym c.requires.lists_variables.0))) c.index-2.ensures c.deref-2.ensures.value),
+      (lt_of_lt_of_le c.requires.comparable.row (le_of_eq (sym c.requires.comparable.variables.0))) c.index-2.ensures c.deref-2.ensures.value),
 )
 
-pub first_alike-found-requires-clause-row : goal.first_alike-found-requires-clause-row
-first_alike-found-requires-clause-row g c = c.requires.row
-
-pub first_alike-found-requires-clause-lists_elements : goal.first_alike-found-requires-clause-lists_elements
-first_alike-found-requires-clause-lists_elements g c = c.requires.lists_elements
-
-pub first_alike-found-requires-clause-lists_variables : goal.first_alike-found-requires-clause-lists_variables
-first_alike-found-requires-clause-lists_variables g c = c.requires.lists_variables
-
-pub first_alike-found-requires-clause-range : goal.first_alike-found-requires-clause-range
-first_alike-found-requires-clause-range g c = c.requires.range
-
-pub first_alike-found-requires-clause-once : goal.first_alike-found-requires-clause-once
-first_alike-found-requires-clause-once g c = c.requires.once
-
-pub first_alike-found-requires-clause-group_once : goal.first_alike-found-requires-clause-group_once
-first_alike-found-requires-clause-group_once g c = c.requires.group_once
+pub first_alike-found-requires-clause-comparable : goal.first_alike-found-requires-clause-comparable
+first_alike-found-requires-clause-comparable g c = c.requires.comparable
 
 pub clear_all-requires : goal.clear_all-requires
 clear_all-requires g c = record {
   range = read_below (length c.args.lists.now.elements.items) (length c.mark_all.new.marks.items) c.args.lists.now.elements.items c.args.i
-      c.index-3.result.now c.deref-5.result.now c.requires.lists_elements c.requires.row c.index-3.ensures c.deref-5.ensures.value
+      c.index-3.result.now c.deref-5.result.now c.requires.comparable.elements c.requires.comparable.row c.index-3.ensures c.deref-5.ensures.value
       (c.mark_all.ensures.size ∙ c.requires.elements.0);
 }
 
 pub clear_all-requires-2 : goal.clear_all-requires-2
 clear_all-requires-2 g c = record {
   range = read_below (length c.args.lists.now.elements.items) (length c.mark_all-2.new.marks.items) c.args.lists.now.variables.items
-      c.args.i c.index-4.result.now c.deref-6.result.now c.requires.lists_variables c.requires.row c.index-4.ensures
+      c.args.i c.index-4.result.now c.deref-6.result.now c.requires.comparable.variables c.requires.comparable.row c.index-4.ensures
       c.deref-6.ensures.value (c.mark_all-2.ensures.size ∙ c.requires.rows.0);
 }
 
 pub mark_all-requires : goal.mark_all-requires
 mark_all-requires g c = record {
   range = read_below (length c.args.lists.now.elements.items) (length c.args.elements.now.items) c.args.lists.now.elements.items c.args.i
-      c.index.result.now c.deref.result.now c.requires.lists_elements c.requires.row c.index.ensures c.deref.ensures.value
+      c.index.result.now c.deref.result.now c.requires.comparable.elements c.requires.comparable.row c.index.ensures c.deref.ensures.value
       c.requires.elements.0;
 }
 
 pub mark_all-requires-2 : goal.mark_all-requires-2
 mark_all-requires-2 g c = record {
   range = read_below (length c.args.lists.now.elements.items) (length c.args.rows.now.items) c.args.lists.now.variables.items c.args.i
-      c.index-2.result.now c.deref-2.result.now c.requires.lists_variables c.requires.row c.index-2.ensures c.deref-2.ensures.value
+      c.index-2.result.now c.deref-2.result.now c.requires.comparable.variables c.requires.comparable.row c.index-2.ensures c.deref-2.ensures.value
       c.requires.rows.0;
 }
 
 pub index-requires-3 : goal.index-requires-3
-index-requires-3 g c = lt_of_lt_of_le c.requires.row (le_of_eq (sym c.args.lists.now.elements.ok.0))
+index-requires-3 g c = lt_of_lt_of_le c.requires.comparable.row (le_of_eq (sym c.args.lists.now.elements.ok.0))
 
 pub index-requires-4 : goal.index-requires-4
-index-requires-4 g c = lt_of_lt_of_le c.requires.row
-    (le_of_eq (sym (c.args.lists.now.variables.ok.0 ∙ c.requires.lists_variables.0)))
+index-requires-4 g c = lt_of_lt_of_le c.requires.comparable.row
+    (le_of_eq (sym (c.args.lists.now.variables.ok.0 ∙ c.requires.comparable.variables.0)))
 
 pub returns-clause-elements : goal.returns-clause-elements
 returns-clause-elements g c = (
   c.clear_all.ensures.size ∙ c.mark_all.ensures.size ∙ c.requires.elements.0,
   λ j. cleared_own j (mark_at c.args.elements.now.items j) (mark_at c.mark_all.new.marks.items j) (mark_at c.clear_all.new.marks.items j)
       c.deref.result.now c.deref-5.result.now (c.requires.elements.1 j) (c.mark_all.ensures.marked j) (c.clear_all.ensures.cleared j)
-      (list_deref c.args.lists.now.elements.items c.args.i c.index.result.now _ c.requires.row c.index.ensures c.deref.ensures.value
-      ∙ sym (list_deref c.args.lists.now.elements.items c.args.i c.index-3.result.now _ c.requires.row c.index-3.ensures
+      (list_deref c.args.lists.now.elements.items c.args.i c.index.result.now _ c.requires.comparable.row c.index.ensures c.deref.ensures.value
+      ∙ sym (list_deref c.args.lists.now.elements.items c.args.i c.index-3.result.now _ c.requires.comparable.row c.index-3.ensures
       c.deref-5.ensures.value)),
 )
 

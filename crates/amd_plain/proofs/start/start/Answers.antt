@@ -1,10 +1,9 @@
-use Rattle.std.proofs.Common.{ℕ, ◌∙◌, ap, length, refl, Option, ◌≡◌}
+use Rattle.std.proofs.Common.{ℕ, ◌∙◌, ap, length, refl}
 use Rattle.std.specs.Prelude.{nat_lt, ◌==◌, ◌&&◌}
 use Rattle.amd_model.specs.Below.{count_below, list_below}
 use Rattle.amd_plain.specs.Views.{mark_at, num}
 use Rattle.amd_model.proofs.Counting.Below.{only_none}
 use Rattle.amd_plain.proofs.StartLaw.{stands_at_start}
-use Rattle.std.proofs.Common.{None, Some}
 use Rattle.amd_plain.proofs.start.start.Goals as goal
 
 pub returns : goal.returns
