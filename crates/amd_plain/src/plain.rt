@@ -19,13 +19,13 @@ use crate::work::PlainWork;
 use amd_edges::lists::starting_lists;
 use amd_types::amd::{Control, Info, Status};
 use amd_types::dense::dense_threshold;
+use amd_types::index::Index;
 use amd_types::permutations::inverse_pair;
-use num_traits::PrimInt;
 use std::alloc::{AllocError, Allocator};
 
 /// The record of an elimination before its first round: each row has the list of its neighbours, and the rows marked in
 /// `hold` and those of a degree above the threshold are held last.
-fn begun<I: PrimInt, A: Allocator + Copy>(
+fn begun<I: Index, A: Allocator + Copy>(
     alloc: A,
     a_p: &[I],
     a_i: &[I],
@@ -54,7 +54,7 @@ fn begun<I: PrimInt, A: Allocator + Copy>(
 /// # Errors
 ///
 /// `OutOfMemory` for a refused request. What `info` then holds is not said.
-pub fn plain_1<I: PrimInt, A: Allocator + Copy>(
+pub fn plain_1<I: Index, A: Allocator + Copy>(
     alloc: A,
     n: I,
     a_p: &[I],

@@ -14,12 +14,12 @@ starting_lists-requires-clause-degrees g c = c.requires.degrees
 
 pub start-requires-clause-rows : goal.start-requires-clause-rows
 start-requires-clause-rows g c =
-    let a_p : List ℤ = map g.I.Number.value c.args.a_p.now in let a_i : List ℤ = map g.I.Number.value c.args.a_i.now in
+    let a_p : List ℤ = map g.I.Index.value c.args.a_p.now in let a_i : List ℤ = map g.I.Index.value c.args.a_i.now in
     rows_range a_p a_i c.args.len.now c.requires.degrees c.in_ok-rows.rows.items c.in_ok-rows.ensures.size c.in_ok-rows.ensures.lists
 
 pub start-requires-clause-degrees : goal.start-requires-clause-degrees
 start-requires-clause-degrees g c =
-    let a_p : List ℤ = map g.I.Number.value c.args.a_p.now in let a_i : List ℤ = map g.I.Number.value c.args.a_i.now in
+    let a_p : List ℤ = map g.I.Index.value c.args.a_p.now in let a_i : List ℤ = map g.I.Index.value c.args.a_i.now in
     degrees_range a_p a_i c.args.len.now c.requires.degrees c.in_ok-rows.rows.items c.in_ok-rows.ensures.size c.in_ok-rows.ensures.lists
 
 pub returns : goal.returns

@@ -13,7 +13,7 @@ returns-in_err-work-clause-refused g c = search rules
 
 pub eliminate-requires : goal.eliminate-requires
 eliminate-requires g c =
-    let a_p : List ℤ = map g.I.Number.value c.args.a_p.now in let a_i : List ℤ = map g.I.Number.value c.args.a_i.now in
+    let a_p : List ℤ = map g.I.Index.value c.args.a_p.now in let a_i : List ℤ = map g.I.Index.value c.args.a_i.now in
     let b = c.in_ok-work.ensures in
     record {
       stands = stands_first a_p a_i c.args.len.now c.requires.degrees b.rows b.size
@@ -29,7 +29,7 @@ returns-in_err-eliminate-clause-refused g c = search rules
 
 pub listing-requires : goal.listing-requires
 listing-requires g c =
-    let a_p : List ℤ = map g.I.Number.value c.args.a_p.now in let a_i : List ℤ = map g.I.Number.value c.args.a_i.now in
+    let a_p : List ℤ = map g.I.Index.value c.args.a_p.now in let a_i : List ℤ = map g.I.Index.value c.args.a_i.now in
     let b = c.in_ok-work.ensures in
     record {
       ended = stands_last a_p a_i c.args.len.now c.requires.degrees b.rows b.size
@@ -49,7 +49,7 @@ inverse_pair-requires-clause-fits g c = c.requires.fits
 
 pub inverse_pair-requires-clause-size : goal.inverse_pair-requires-clause-size
 inverse_pair-requires-clause-size g c =
-    let a_p : List ℤ = map g.I.Number.value c.args.a_p.now in let a_i : List ℤ = map g.I.Number.value c.args.a_i.now in
+    let a_p : List ℤ = map g.I.Index.value c.args.a_p.now in let a_i : List ℤ = map g.I.Index.value c.args.a_i.now in
     let b = c.in_ok-work.ensures in
     c.requires.size ∙ ap pos
     (sym (ap length c.deref.ensures.value ∙ order_length a_p a_i c.args.len.now c.requires.degrees b.rows
@@ -60,7 +60,7 @@ inverse_pair-requires-clause-size g c =
 
 pub inverse_pair-requires-clause-listing : goal.inverse_pair-requires-clause-listing
 inverse_pair-requires-clause-listing g c =
-    let a_p : List ℤ = map g.I.Number.value c.args.a_p.now in let a_i : List ℤ = map g.I.Number.value c.args.a_i.now in
+    let a_p : List ℤ = map g.I.Index.value c.args.a_p.now in let a_i : List ℤ = map g.I.Index.value c.args.a_i.now in
     let b = c.in_ok-work.ensures in
     subst (λ xs. ListsEachRow (length xs) xs) (sym c.deref.ensures.value)
     (order_each a_p a_i c.args.len.now c.requires.degrees b.rows b.size b.lists
@@ -77,10 +77,10 @@ returns-in_err-inverse_pair-clause-refused g c = search rules
 
 pub returns-clause-orders : goal.returns-clause-orders
 returns-clause-orders g c =
-    let a_p : List ℤ = map g.I.Number.value c.args.a_p.now in let a_i : List ℤ = map g.I.Number.value c.args.a_i.now in
+    let a_p : List ℤ = map g.I.Index.value c.args.a_p.now in let a_i : List ℤ = map g.I.Index.value c.args.a_i.now in
     let b = c.in_ok-work.ensures in
-    let p : List ℤ = map g.I.Number.value c.in_ok-inverse_pair.field-0.0.items in
-    let q : List ℤ = map g.I.Number.value c.in_ok-inverse_pair.field-0.1.items in
+    let p : List ℤ = map g.I.Index.value c.in_ok-inverse_pair.field-0.0.items in
+    let q : List ℤ = map g.I.Index.value c.in_ok-inverse_pair.field-0.1.items in
     answer a_p a_i c.args.len.now c.requires.degrees b.rows b.size b.lists
     (option_copied c.args.hold) c.dense_threshold-threshold.result b.marks
     b.marked c.in_ok-work.work b.begins
