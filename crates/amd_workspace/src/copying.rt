@@ -15,14 +15,14 @@ ghost use Rattle.amd_words.specs.Words.{num, rows};
 ghost use Rattle.amd_workspace.specs.Copying.{is_other, HoldRows};
 
 use crate::lower::push_column;
+use amd_types::index::Index;
 use amd_types::internal::count_at;
 use amd_words::{Signed, Word, word_of};
-use num_traits::PrimInt;
 use std::alloc::Allocator;
 
 /// Appends the rows of column `i`, one of `size`, that are before `i`. Returns the place in `a_i` of the first row of
 /// that column that is not, or the end of the column.
-fn push_before<I: PrimInt, S: Signed, A: Allocator>(
+fn push_before<I: Index, S: Signed, A: Allocator>(
     size: usize,
     i: usize,
     a_p: &[I],
@@ -55,7 +55,7 @@ fn push_before<I: PrimInt, S: Signed, A: Allocator>(
 }
 
 /// Appends the rows of column `i`, one of `size`, but `i` itself.
-fn push_others<I: PrimInt, S: Signed, A: Allocator>(
+fn push_others<I: Index, S: Signed, A: Allocator>(
     size: usize,
     i: usize,
     a_p: &[I],
@@ -83,7 +83,7 @@ fn push_others<I: PrimInt, S: Signed, A: Allocator>(
 
 /// Appends the columns of a symmetric pattern of `size` rows to an empty list of words, each without its diagonal entry,
 /// and says whether the pattern is symmetric. If it is not, the words name some rows.
-pub fn copy_symmetric<I: PrimInt, S: Signed, A: Allocator>(
+pub fn copy_symmetric<I: Index, S: Signed, A: Allocator>(
     size: usize,
     a_p: &[I],
     a_i: &[I],

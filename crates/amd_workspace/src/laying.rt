@@ -18,9 +18,9 @@ ghost use Rattle.amd_workspace.specs.Lower.{own_start};
 use crate::copying::copy_symmetric;
 use crate::lower::{has_long_lower, lower_lists, push_rows};
 use amd_edges::walk::{Visitor, walk};
+use amd_types::index::Index;
 use amd_words::words::put_row;
 use amd_words::{Cell, Signed, Unsigned, Word, cell_at, cell_of, put_cell, word_of};
-use num_traits::PrimInt;
 use std::alloc::{AllocError, Allocator};
 
 /// The words of the lists, and where the next word of each list goes.
@@ -119,7 +119,7 @@ fn starts<S: Signed, U: Unsigned, A: Allocator>(
 /// # Errors
 ///
 /// A refused request for memory.
-fn general_lists<I: PrimInt, S: Signed, U: Unsigned, A: Allocator>(
+fn general_lists<I: Index, S: Signed, U: Unsigned, A: Allocator>(
     alloc: A,
     size: usize,
     a_p: &[I],
@@ -167,7 +167,7 @@ fn general_lists<I: PrimInt, S: Signed, U: Unsigned, A: Allocator>(
 /// # Errors
 ///
 /// A refused request for memory.
-pub fn lay<I: PrimInt, S: Signed, U: Unsigned, A: Allocator + Copy>(
+pub fn lay<I: Index, S: Signed, U: Unsigned, A: Allocator + Copy>(
     alloc: A,
     size: usize,
     a_p: &[I],

@@ -18,13 +18,13 @@ ghost use Rattle.amd_workspace.specs.Lower.{IsLower, Matrix, own_start, own_of, 
 ghost use Rattle.amd_workspace.specs.Lower.{HasColumns, IsReadyForColumn};
 
 use crate::laying::append;
+use amd_types::index::Index;
 use amd_types::internal::count_at;
 use amd_words::{Cell, Signed, Unsigned, Word, cell_at, row_at, word_of};
-use num_traits::PrimInt;
 use std::alloc::{AllocError, Allocator};
 
 /// Whether no row of column `j`, one of `size`, stands above the diagonal.
-fn is_low<I: PrimInt>(size: usize, a_p: &[I], a_i: &[I], j: usize) -> bool
+fn is_low<I: Index>(size: usize, a_p: &[I], a_i: &[I], j: usize) -> bool
     requires form { IsColumnForm (pos size) size (map I.value a_p.now) (map I.value a_i.now) }
     requires sorted { IsSorted size (map I.value a_p.now) (map I.value a_i.now) }
     requires row { j < size }
@@ -41,7 +41,7 @@ fn is_low<I: PrimInt>(size: usize, a_p: &[I], a_i: &[I], j: usize) -> bool
 }
 
 /// Whether no row of any of `size` columns stands above the diagonal.
-fn is_lower<I: PrimInt>(size: usize, a_p: &[I], a_i: &[I]) -> bool
+fn is_lower<I: Index>(size: usize, a_p: &[I], a_i: &[I]) -> bool
     requires form { IsColumnForm (pos size) size (map I.value a_p.now) (map I.value a_i.now) }
     requires sorted { IsSorted size (map I.value a_p.now) (map I.value a_i.now) }
     ensures yes { result ≡ true → IsLower size (map I.value a_p.now) (map I.value a_i.now) }
@@ -57,7 +57,7 @@ fn is_lower<I: PrimInt>(size: usize, a_p: &[I], a_i: &[I]) -> bool
 
 /// Whether no entry is above the diagonal, and the lists of the `size` rows, `free` words in all, are long: at least
 /// `8 (size + 1)` words.
-pub fn has_long_lower<I: PrimInt>(size: usize, a_p: &[I], a_i: &[I], free: usize) -> bool
+pub fn has_long_lower<I: Index>(size: usize, a_p: &[I], a_i: &[I], free: usize) -> bool
     requires form { IsColumnForm (pos size) size (map I.value a_p.now) (map I.value a_i.now) }
     requires sorted { IsSorted size (map I.value a_p.now) (map I.value a_i.now) }
     ensures yes { result ≡ true → IsLower size (map I.value a_p.now) (map I.value a_i.now) }
@@ -72,7 +72,7 @@ pub fn has_long_lower<I: PrimInt>(size: usize, a_p: &[I], a_i: &[I], free: usize
 
 /// The place in `a_i` of the first row of column `j` below the diagonal, or the end of the column. No row is above the
 /// diagonal.
-fn own_first<I: PrimInt>(size: usize, a_p: &[I], a_i: &[I], j: usize) -> usize
+fn own_first<I: Index>(size: usize, a_p: &[I], a_i: &[I], j: usize) -> usize
     requires form { IsColumnForm (pos size) size (map I.value a_p.now) (map I.value a_i.now) }
     requires sorted { IsSorted size (map I.value a_p.now) (map I.value a_i.now) }
     requires lower { IsLower size (map I.value a_p.now) (map I.value a_i.now) }
@@ -106,7 +106,7 @@ pub fn push_rows<S: Signed, A: Allocator>(iw: &mut Vec<Word<S>, A>, row: usize, 
 }
 
 /// Appends the rows of column `j`, one of `size`, from the place `first` of `a_i` on.
-pub fn push_column<I: PrimInt, S: Signed, A: Allocator>(
+pub fn push_column<I: Index, S: Signed, A: Allocator>(
     size: usize,
     a_p: &[I],
     a_i: &[I],
@@ -134,7 +134,7 @@ pub fn push_column<I: PrimInt, S: Signed, A: Allocator>(
 
 /// Appends the list of row `j`, one of `size`: its own number, once for each earlier neighbour, to hold their room, and
 /// then its column below the diagonal.
-fn push_list<I: PrimInt, S: Signed, A: Allocator>(
+fn push_list<I: Index, S: Signed, A: Allocator>(
     size: usize,
     a_p: &[I],
     a_i: &[I],
@@ -163,7 +163,7 @@ fn push_list<I: PrimInt, S: Signed, A: Allocator>(
 
 /// Appends the lists of `size` rows, each with the room for the earlier neighbours of its row before its column below
 /// the diagonal, and rows after the last list, `room` words in all.
-fn push_lists<I: PrimInt, S: Signed, A: Allocator>(
+fn push_lists<I: Index, S: Signed, A: Allocator>(
     size: usize,
     a_p: &[I],
     a_i: &[I],
@@ -230,7 +230,7 @@ fn spread_lists<S: Signed, U: Unsigned>(next: &mut [Cell<U>], iw: &mut [Word<S>]
 /// # Errors
 ///
 /// A refused request for memory.
-pub fn lower_lists<I: PrimInt, S: Signed, U: Unsigned, A: Allocator>(
+pub fn lower_lists<I: Index, S: Signed, U: Unsigned, A: Allocator>(
     alloc: A,
     size: usize,
     a_p: &[I],

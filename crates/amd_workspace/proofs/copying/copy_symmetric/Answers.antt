@@ -23,7 +23,7 @@ columns-init g c = let empty = c.requires.empty in record {
 
 pub push_others-requires-clause-room : goal.push_others-requires-clause-room
 push_others-requires-clause-room g c =
-    let room = others_room c.args.size (map g.I.Number.value c.args.a_p.now) (map g.I.Number.value c.args.a_i.now) c.columns.i
+    let room = others_room c.args.size (map g.I.Index.value c.args.a_p.now) (map g.I.Index.value c.args.a_i.now) c.columns.i
     c.columns.free c.columns-test.true c.columns.invariant.copied.place in
     let long = c.columns.invariant.copied.long in let wide = c.columns.invariant.capacity in let all = c.requires.room in
     omega (arith, room, long, wide, all)
@@ -38,14 +38,14 @@ offset_bounds-degrees-i g c = let a = c.requires.degrees.size in let b = c.colum
 
 pub returns-then-end-free-clause-long : goal.returns-then-end-free-clause-long
 returns-then-end-free-clause-long g c =
-    let az = map g.I.Number.value c.args.a_p.now in let bz = map g.I.Number.value c.args.a_i.now in let n = c.args.size in
+    let az = map g.I.Index.value c.args.a_p.now in let bz = map g.I.Index.value c.args.a_i.now in let n = c.args.size in
     let i = c.columns.i in let v = c.columns.invariant.copied in let new = c.push_others.new.iw.items in
     long_most n az bz c.args.degrees.now c.requires.degrees i c.columns.free c.columns-test.true c.columns.iw.items new
     c.push_others.ensures.items v
 
 pub returns-then-end-free-clause-words : goal.returns-then-end-free-clause-words
 returns-then-end-free-clause-words g c =
-    let az = map g.I.Number.value c.args.a_p.now in let bz = map g.I.Number.value c.args.a_i.now in let n = c.args.size in
+    let az = map g.I.Index.value c.args.a_p.now in let bz = map g.I.Index.value c.args.a_i.now in let n = c.args.size in
     let i = c.columns.i in let v = c.columns.invariant.copied in let new = c.push_others.new.iw.items in
     λ h. words_more n az bz c.args.degrees.now c.requires.degrees i c.columns.free c.columns-test.true c.columns.iw.items new
     c.push_others.ensures.items v (c.columns.invariant.words h)
@@ -53,7 +53,7 @@ returns-then-end-free-clause-words g c =
 pub returns-then-end-free-clause-symmetric : goal.returns-then-end-free-clause-symmetric
 unfolding graph_of
 returns-then-end-free-clause-symmetric g c =
-    let az = map g.I.Number.value c.args.a_p.now in let bz = map g.I.Number.value c.args.a_i.now in let n = c.args.size in
+    let az = map g.I.Index.value c.args.a_p.now in let bz = map g.I.Index.value c.args.a_i.now in let n = c.args.size in
     let i = c.columns.i in let v = c.columns.invariant.copied in let new = c.push_others.new.iw.items in
     let end : c.len-end.result ≡ length new = (let len = c.push_others.new.iw.ok.0 in let e = c.len-end.ensures in omega (arith, len, e)) in
     let long = long_is n az bz c.args.degrees.now c.requires.degrees i c.columns.free c.columns-test.true c.columns.iw.items new
@@ -65,7 +65,7 @@ returns-then-end-free-clause-symmetric g c =
 
 pub columns-preserved : goal.columns-preserved
 columns-preserved g c =
-    let az = map g.I.Number.value c.args.a_p.now in let bz = map g.I.Number.value c.args.a_i.now in let n = c.args.size in
+    let az = map g.I.Index.value c.args.a_p.now in let bz = map g.I.Index.value c.args.a_i.now in let n = c.args.size in
     let i = c.columns.i in let v = c.columns.invariant.copied in let new = c.push_others.new.iw.items in
     let end : c.len-end.result ≡ length new = (let len = c.push_others.new.iw.ok.0 in let e = c.len-end.ensures in omega (arith, len, e)) in
     let is = c.if-end-free.false in record {
@@ -80,7 +80,7 @@ columns-preserved g c =
 pub returns-clause-symmetric : goal.returns-clause-symmetric
 unfolding graph_of
 returns-clause-symmetric g c =
-    let az = map g.I.Number.value c.args.a_p.now in let bz = map g.I.Number.value c.args.a_i.now in let t = c.columns-test.false in (
+    let az = map g.I.Index.value c.args.a_p.now in let bz = map g.I.Index.value c.args.a_i.now in let t = c.columns-test.false in (
       λ e. counts_symmetric c.args.size az bz (λ i l. sym (c.requires.degrees.each i l)
           ∙ c.columns.invariant.copied.counts i (omega (arith, l, t))),
       λ mirror. refl,
@@ -89,7 +89,7 @@ returns-clause-symmetric g c =
 pub returns-clause-lists : goal.returns-clause-lists
 unfolding graph_of
 returns-clause-lists g c = λ e i l.
-    let az = map g.I.Number.value c.args.a_p.now in let bz = map g.I.Number.value c.args.a_i.now in let t = c.columns-test.false in
+    let az = map g.I.Index.value c.args.a_p.now in let bz = map g.I.Index.value c.args.a_i.now in let t = c.columns-test.false in
     let mirror = counts_symmetric c.args.size az bz (λ j m. sym (c.requires.degrees.each j m)
     ∙ c.columns.invariant.copied.counts j (omega (arith, m, t))) in
     c.columns.invariant.copied.lists i (omega (arith, l, t)) ∙ sym (symmetric_starting c.args.size az bz mirror i l)

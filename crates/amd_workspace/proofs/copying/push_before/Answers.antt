@@ -13,19 +13,19 @@ use Rattle.amd_workspace.proofs.Layings.{words_next}
 use Rattle.amd_workspace.proofs.copying.push_before.Goals as goal
 
 pub count_at-stop-requires-clause-fits : goal.count_at-stop-requires-clause-fits
-count_at-stop-requires-clause-fits g c = pointer_fits c.args.size (map g.I.Number.value c.args.a_p.now)
-    (map g.I.Number.value c.args.a_i.now) c.requires.form (c.args.i + 1) (let l = c.requires.row in omega (arith, l))
-    (subst (λ x. x < 2 ^ 64) (sym (length-map c.args.a_i.now g.I.Number.value)) (omega (arith, c.well_formed)))
+count_at-stop-requires-clause-fits g c = pointer_fits c.args.size (map g.I.Index.value c.args.a_p.now)
+    (map g.I.Index.value c.args.a_i.now) c.requires.form (c.args.i + 1) (let l = c.requires.row in omega (arith, l))
+    (subst (λ x. x < 2 ^ 64) (sym (length-map c.args.a_i.now g.I.Index.value)) (omega (arith, c.well_formed)))
 
 pub count_at-place-requires-clause-fits : goal.count_at-place-requires-clause-fits
-count_at-place-requires-clause-fits g c = pointer_fits c.args.size (map g.I.Number.value c.args.a_p.now)
-    (map g.I.Number.value c.args.a_i.now) c.requires.form c.args.i (let l = c.requires.row in omega (arith, l))
-    (subst (λ x. x < 2 ^ 64) (sym (length-map c.args.a_i.now g.I.Number.value)) (omega (arith, c.well_formed)))
+count_at-place-requires-clause-fits g c = pointer_fits c.args.size (map g.I.Index.value c.args.a_p.now)
+    (map g.I.Index.value c.args.a_i.now) c.requires.form c.args.i (let l = c.requires.row in omega (arith, l))
+    (subst (λ x. x < 2 ^ 64) (sym (length-map c.args.a_i.now g.I.Index.value)) (omega (arith, c.well_formed)))
 
 pub rows-init : goal.rows-init
 unfolding list_below
 rows-init g c =
-    let ap' = map g.I.Number.value c.args.a_p.now in let ai = map g.I.Number.value c.args.a_i.now in let i = c.args.i in
+    let ap' = map g.I.Index.value c.args.a_p.now in let ai = map g.I.Index.value c.args.a_i.now in let i = c.args.i in
     let form = sorted_form c.args.size ap' ai c.requires.form c.requires.sorted in
     let a = c.count_at-place.ensures.count in let b = c.count_at-stop.ensures.count in let rising = form.rising i c.requires.row in (
       0,
@@ -39,21 +39,21 @@ rows-init g c =
     )
 
 pub count_at-requires-clause-within : goal.count_at-requires-clause-within
-count_at-requires-clause-within g c = place_in g.I.Number.value c.args.a_i.now c.args.size (map g.I.Number.value c.args.a_p.now)
+count_at-requires-clause-within g c = place_in g.I.Index.value c.args.a_i.now c.args.size (map g.I.Index.value c.args.a_p.now)
     c.requires.form c.args.i c.rows.place c.count_at-stop.result c.requires.row c.count_at-stop.ensures.count c.rows-test.true
 
 pub count_at-requires-clause-fits : goal.count_at-requires-clause-fits
-count_at-requires-clause-fits g c = row_fits c.args.size (map g.I.Number.value c.args.a_p.now) (map g.I.Number.value c.args.a_i.now)
+count_at-requires-clause-fits g c = row_fits c.args.size (map g.I.Index.value c.args.a_p.now) (map g.I.Index.value c.args.a_i.now)
     c.requires.form c.args.i c.rows.place c.requires.row (before_end c.count_at-stop.ensures.count c.rows-test.true)
     c.ranges.size.fits
 
 pub count_at-requires-in-rows-clause-within : goal.count_at-requires-in-rows-clause-within
-count_at-requires-in-rows-clause-within g c = place_in g.I.Number.value c.args.a_i.now c.args.size (map g.I.Number.value c.args.a_p.now)
+count_at-requires-in-rows-clause-within g c = place_in g.I.Index.value c.args.a_i.now c.args.size (map g.I.Index.value c.args.a_p.now)
     c.requires.form c.args.i c.rows.place c.count_at-stop.result c.requires.row c.count_at-stop.ensures.count c.rows-test.true
 
 pub count_at-requires-in-rows-clause-fits : goal.count_at-requires-in-rows-clause-fits
-count_at-requires-in-rows-clause-fits g c = row_fits c.args.size (map g.I.Number.value c.args.a_p.now)
-    (map g.I.Number.value c.args.a_i.now) c.requires.form c.args.i c.rows.place c.requires.row
+count_at-requires-in-rows-clause-fits g c = row_fits c.args.size (map g.I.Index.value c.args.a_p.now)
+    (map g.I.Index.value c.args.a_i.now) c.requires.form c.args.i c.rows.place c.requires.row
     (before_end c.count_at-stop.ensures.count c.rows-test.true) c.ranges.size.fits
 
 -- the row that is read, which is before the diagonal
@@ -72,7 +72,7 @@ word_of-requires g c =
 
 pub push_reserved-requires : goal.push_reserved-requires
 push_reserved-requires g c =
-    let ap' = map g.I.Number.value c.args.a_p.now in let ai = map g.I.Number.value c.args.a_i.now in
+    let ap' = map g.I.Index.value c.args.a_p.now in let ai = map g.I.Index.value c.args.a_i.now in
     let form = sorted_form c.args.size ap' ai c.requires.form c.requires.sorted in
     let n = c.args.size in let i = c.args.i in let m = c.rows.invariant.0 in let v = c.rows.invariant.1 in
     let is = c.count_at-in-rows.ensures.count in let below = row_below c.count_at.ensures.count is c.if-count_at-i.true in
@@ -85,7 +85,7 @@ push_reserved-requires g c =
 
 pub rows-preserved : goal.rows-preserved
 rows-preserved g c =
-    let ap' = map g.I.Number.value c.args.a_p.now in let ai = map g.I.Number.value c.args.a_i.now in
+    let ap' = map g.I.Index.value c.args.a_p.now in let ai = map g.I.Index.value c.args.a_i.now in
     let form = sorted_form c.args.size ap' ai c.requires.form c.requires.sorted in
     let n = c.args.size in let i = c.args.i in let m = c.rows.invariant.0 in let v = c.rows.invariant.1 in
     let row = c.count_at-in-rows.result in let is = c.count_at-in-rows.ensures.count in let stop = c.count_at-stop.ensures.count in
@@ -112,7 +112,7 @@ rows-preserved g c =
 
 pub returns-else-count_at-i-clause-behind : goal.returns-else-count_at-i-clause-behind
 returns-else-count_at-i-clause-behind g c =
-    let ap' = map g.I.Number.value c.args.a_p.now in let ai = map g.I.Number.value c.args.a_i.now in
+    let ap' = map g.I.Index.value c.args.a_p.now in let ai = map g.I.Index.value c.args.a_i.now in
     let form = sorted_form c.args.size ap' ai c.requires.form c.requires.sorted in
     let ends = c.count_at-stop.ensures.count in let past = c.if-count_at-i.false in λ r a b. (
     let least = left_of c.args.size (counts ap') (counts ai) form c.args.i c.count_at-stop.result c.rows.invariant.0 c.rows.place
@@ -121,7 +121,7 @@ returns-else-count_at-i-clause-behind g c =
 
 pub returns-else-count_at-i-clause-items : goal.returns-else-count_at-i-clause-items
 returns-else-count_at-i-clause-items g c =
-    let ap' = map g.I.Number.value c.args.a_p.now in let ai = map g.I.Number.value c.args.a_i.now in
+    let ap' = map g.I.Index.value c.args.a_p.now in let ai = map g.I.Index.value c.args.a_i.now in
     let form = sorted_form c.args.size ap' ai c.requires.form c.requires.sorted in
     let v = c.rows.invariant.1 in let ends = c.count_at-stop.ensures.count in let past = c.if-count_at-i.false in
     v.items ∙ ap (λ xs. c.args.iw.now.items ++ map pos xs)
@@ -132,7 +132,7 @@ returns-else-count_at-i-clause-items g c =
 
 pub returns-after-rows-clause-items : goal.returns-after-rows-clause-items
 returns-after-rows-clause-items g c =
-    let ap' = map g.I.Number.value c.args.a_p.now in let ai = map g.I.Number.value c.args.a_i.now in
+    let ap' = map g.I.Index.value c.args.a_p.now in let ai = map g.I.Index.value c.args.a_i.now in
     let form = sorted_form c.args.size ap' ai c.requires.form c.requires.sorted in
     let v = c.rows.invariant.1 in let past = c.rows-test.false in
     v.items ∙ ap (λ xs. c.args.iw.now.items ++ map pos xs)

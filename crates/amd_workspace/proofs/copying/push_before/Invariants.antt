@@ -8,11 +8,11 @@ use Rattle.amd_workspace.proofs.copying.push_before.Given as goal
 
 abbrev pub invariant-rows : goal.invariant-rows
 invariant-rows g l = (m : ℕ) × record {
-  place : IsReading (counts (map g.I.Number.value l.a_i)) (get_or (counts (map g.I.Number.value l.a_p)) l.i 0) l.stop l.size m l.place;
+  place : IsReading (counts (map g.I.Index.value l.a_i)) (get_or (counts (map g.I.Index.value l.a_p)) l.i 0) l.stop l.size m l.place;
   low : m ≤ l.i;
   capacity : vec_capacity l.fn.iw ≤ vec_capacity l.iw;
   items : l.iw.items ≡ l.fn.iw.items
-      ++ map pos (list_below m (own (is_entry l.size (counts (map g.I.Number.value l.a_p)) (counts (map g.I.Number.value l.a_i))) l.i));
+      ++ map pos (list_below m (own (is_entry l.size (counts (map g.I.Index.value l.a_p)) (counts (map g.I.Index.value l.a_i))) l.i));
 }
 
 abbrev pub decreases-rows : goal.decreases-rows

@@ -14,23 +14,23 @@ use Rattle.amd_workspace.proofs.copying.push_others.Goals.{else-place-stop-via-t
 use Rattle.amd_workspace.proofs.copying.push_others.Goals.{else-place-stop-via-else-place-stop}
 
 pub count_at-stop-requires-clause-fits : goal.count_at-stop-requires-clause-fits
-count_at-stop-requires-clause-fits g c = pointer_fits c.args.size (map g.I.Number.value c.args.a_p.now)
-    (map g.I.Number.value c.args.a_i.now) c.requires.form (c.args.i + 1) (let l = c.requires.row in omega (arith, l))
-    (subst (λ x. x < 2 ^ 64) (sym (length-map c.args.a_i.now g.I.Number.value)) (omega (arith, c.well_formed)))
+count_at-stop-requires-clause-fits g c = pointer_fits c.args.size (map g.I.Index.value c.args.a_p.now)
+    (map g.I.Index.value c.args.a_i.now) c.requires.form (c.args.i + 1) (let l = c.requires.row in omega (arith, l))
+    (subst (λ x. x < 2 ^ 64) (sym (length-map c.args.a_i.now g.I.Index.value)) (omega (arith, c.well_formed)))
 
 pub count_at-requires-clause-within : goal.count_at-requires-clause-within
-count_at-requires-clause-within g c = place_in g.I.Number.value c.args.a_i.now c.args.size
-    (map g.I.Number.value c.args.a_p.now) c.requires.form c.args.i c.push_before-place.result c.count_at-stop.result c.requires.row
+count_at-requires-clause-within g c = place_in g.I.Index.value c.args.a_i.now c.args.size
+    (map g.I.Index.value c.args.a_p.now) c.requires.form c.args.i c.push_before-place.result c.count_at-stop.result c.requires.row
     c.count_at-stop.ensures.count c.if-place-stop.true
 
 pub count_at-requires-clause-fits : goal.count_at-requires-clause-fits
-count_at-requires-clause-fits g c = row_fits c.args.size (map g.I.Number.value c.args.a_p.now)
-    (map g.I.Number.value c.args.a_i.now) c.requires.form c.args.i c.push_before-place.result c.requires.row
+count_at-requires-clause-fits g c = row_fits c.args.size (map g.I.Index.value c.args.a_p.now)
+    (map g.I.Index.value c.args.a_i.now) c.requires.form c.args.i c.push_before-place.result c.requires.row
     (before_end c.count_at-stop.ensures.count c.if-place-stop.true) c.ranges.size.fits
 
 pub push_column-requires-clause-room : goal.push_column-requires-clause-room
 push_column-requires-clause-room g c =
-    let az = map g.I.Number.value c.args.a_p.now in let bz = map g.I.Number.value c.args.a_i.now in
+    let az = map g.I.Index.value c.args.a_p.now in let bz = map g.I.Index.value c.args.a_i.now in
     let n = c.args.size in let i = c.args.i in let ap' = counts az in let ai = counts bz in
     let form = sorted_form n az bz c.requires.form c.requires.sorted in
     let p = c.push_before-place.result in let v = c.push_before-place.ensures in let ends = c.count_at-stop.ensures.count in
@@ -51,7 +51,7 @@ push_column-requires-clause-room g c =
 
 pub returns-clause-items : goal.returns-clause-items
 returns-clause-items g c =
-    let az = map g.I.Number.value c.args.a_p.now in let bz = map g.I.Number.value c.args.a_i.now in
+    let az = map g.I.Index.value c.args.a_p.now in let bz = map g.I.Index.value c.args.a_i.now in
     let n = c.args.size in let i = c.args.i in let ap' = counts az in let ai = counts bz in
     let form = sorted_form n az bz c.requires.form c.requires.sorted in
     let p = c.push_before-place.result in let v = c.push_before-place.ensures in let ends = c.count_at-stop.ensures.count in

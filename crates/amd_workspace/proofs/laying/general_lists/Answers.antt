@@ -41,7 +41,7 @@ returns-then-copied-clause-words g c =
 pub returns-then-copied-clause-lists : goal.returns-then-copied-clause-lists
 unfolding graph_of
 returns-then-copied-clause-lists g c = λ i l.
-    let ap' = map g.I.Number.value c.args.a_p.now in let ai = map g.I.Number.value c.args.a_i.now in let n = c.args.size in
+    let ap' = map g.I.Index.value c.args.a_p.now in let ai = map g.I.Index.value c.args.a_i.now in let n = c.args.size in
     let r = c.requires in let xs = c.copy_symmetric-copied.new.iw.items in let ys = c.push_rows.new.iw.items in
     let e = c.copy_symmetric-copied.ensures in let most = e.long in let room = r.room in let some = r.some in
     let few : length xs ≤ c.args.room = omega (arith, most, room) in
@@ -59,7 +59,7 @@ returns-then-copied-clause-lists g c = λ i l.
 pub walk-requires-clause-held : goal.walk-requires-clause-held
 unfolding graph_of
 walk-requires-clause-held g c =
-    let ap' = map g.I.Number.value c.args.a_p.now in let ai = map g.I.Number.value c.args.a_i.now in
+    let ap' = map g.I.Index.value c.args.a_p.now in let ai = map g.I.Index.value c.args.a_i.now in
     let r = c.requires in let xs = c.copy_symmetric-copied.new.iw.items in let ys = c.push_rows.new.iw.items in
     let e = c.copy_symmetric-copied.ensures in let most = e.long in let room = r.room in let some = r.some in
     let few : length xs ≤ c.args.room = omega (arith, most, room) in
@@ -95,7 +95,7 @@ returns-clause-words g c = c.walk.ensures.held.words
 pub returns-clause-lists : goal.returns-clause-lists
 unfolding graph_of
 returns-clause-lists g c = λ i l.
-    let ap' = map g.I.Number.value c.args.a_p.now in let ai = map g.I.Number.value c.args.a_i.now in
+    let ap' = map g.I.Index.value c.args.a_p.now in let ai = map g.I.Index.value c.args.a_i.now in
     let graph = graph_of c.args.size ap' ai in
     walked_list graph c.args.degrees.now c.requires.degrees (arcs_of (met_edges c.args.size (is_pair c.args.size ap' ai)))
     g.S.Signed.MOST g.U.Unsigned.MOST c.walk.new.visitor.next.items c.walk.new.visitor.iw.items c.walk.ensures.held i l

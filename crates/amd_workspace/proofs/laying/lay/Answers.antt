@@ -19,7 +19,7 @@ starts-free-requires-clause-room g c =
 pub starts-free-requires-clause-fits : goal.starts-free-requires-clause-fits
 unfolding graph_of
 starts-free-requires-clause-fits g c =
-    let graph = graph_of c.args.size (map g.I.Number.value c.args.a_p.now) (map g.I.Number.value c.args.a_i.now) in
+    let graph = graph_of c.args.size (map g.I.Index.value c.args.a_p.now) (map g.I.Index.value c.args.a_i.now) in
     let r = c.requires in let e = total_is graph c.args.degrees.now r.degrees in let fits = r.fits in let room = r.room in
     (omega (arith, e, fits, room), omega (arith, e, fits, room))
 
@@ -31,7 +31,7 @@ lower_lists-requires-clause-long g c = ap length c.deref_mut.ensures.value ∙ c
 pub lower_lists-requires-clause-starts : goal.lower_lists-requires-clause-starts
 unfolding graph_of
 lower_lists-requires-clause-starts g c = λ i l.
-    let graph = graph_of c.args.size (map g.I.Number.value c.args.a_p.now) (map g.I.Number.value c.args.a_i.now) in
+    let graph = graph_of c.args.size (map g.I.Index.value c.args.a_p.now) (map g.I.Index.value c.args.a_i.now) in
     let s = c.starts-free.new in ap (λ xs. num xs i) c.deref_mut.ensures.value
     ∙ first_at graph c.args.degrees.now s.pe.items s.next.items s.len.items c.requires.degrees c.starts-free.ensures.starts i l
 
@@ -42,7 +42,7 @@ general_lists-requires-clause-long g c = c.starts-free.ensures.starts.long ∙ c
 pub general_lists-requires-clause-starts : goal.general_lists-requires-clause-starts
 unfolding graph_of
 general_lists-requires-clause-starts g c =
-    let graph = graph_of c.args.size (map g.I.Number.value c.args.a_p.now) (map g.I.Number.value c.args.a_i.now) in
+    let graph = graph_of c.args.size (map g.I.Index.value c.args.a_p.now) (map g.I.Index.value c.args.a_i.now) in
     let s = c.starts-free.new in
     first_at graph c.args.degrees.now s.pe.items s.next.items s.len.items c.requires.degrees c.starts-free.ensures.starts
 
@@ -50,7 +50,7 @@ general_lists-requires-clause-starts g c =
 pub returns-clause-laid : goal.returns-clause-laid
 unfolding graph_of
 returns-clause-laid g c =
-    let graph = graph_of c.args.size (map g.I.Number.value c.args.a_p.now) (map g.I.Number.value c.args.a_i.now) in
+    let graph = graph_of c.args.size (map g.I.Index.value c.args.a_p.now) (map g.I.Index.value c.args.a_i.now) in
     let r = c.requires in let s = c.starts-free.new in let iw = c.if-has_long_lower.iw.items in
     let long : length iw ≡ c.args.room = elim c.if-has_long_lower.branch [
       | then-has_long_lower+in_ok-iw w ↦ ap (λ v. length v.items) w.iw-is ∙ w.in_ok-iw.ensures.long
@@ -68,7 +68,7 @@ returns-clause-laid g c =
 pub returns-clause-long : goal.returns-clause-long
 unfolding graph_of
 returns-clause-long g c =
-    let graph = graph_of c.args.size (map g.I.Number.value c.args.a_p.now) (map g.I.Number.value c.args.a_i.now) in
+    let graph = graph_of c.args.size (map g.I.Index.value c.args.a_p.now) (map g.I.Index.value c.args.a_i.now) in
     let long : length c.if-has_long_lower.iw.items ≡ c.args.room = elim c.if-has_long_lower.branch [
       | then-has_long_lower+in_ok-iw w ↦ ap (λ v. length v.items) w.iw-is ∙ w.in_ok-iw.ensures.long
       | else-has_long_lower+in_ok-iw-2 w ↦ ap (λ v. length v.items) w.iw-is ∙ w.in_ok-iw-2.ensures.long
@@ -78,7 +78,7 @@ returns-clause-long g c =
 pub returns-clause-lists : goal.returns-clause-lists
 unfolding graph_of
 returns-clause-lists g c = λ i l.
-    let ap' = map g.I.Number.value c.args.a_p.now in let ai = map g.I.Number.value c.args.a_i.now in
+    let ap' = map g.I.Index.value c.args.a_p.now in let ai = map g.I.Index.value c.args.a_i.now in
     let graph = graph_of c.args.size ap' ai in
     let s = c.starts-free.new in
     let start = own_start c.args.size ap' ai i in let count = num c.args.degrees.now i in

@@ -7,38 +7,38 @@ use Rattle.amd_workspace.proofs.LowerColumns.{none_low, all_low, low_first, firs
 use Rattle.amd_workspace.proofs.lower.is_low.Goals as goal
 
 pub count_at-first-requires-clause-fits : goal.count_at-first-requires-clause-fits
-count_at-first-requires-clause-fits g c = pointer_fits c.args.size (map g.I.Number.value c.args.a_p.now)
-    (map g.I.Number.value c.args.a_i.now) c.requires.form c.args.j (let l = c.requires.row in omega (arith, l))
-    (subst (λ x. x < 2 ^ 64) (sym (length-map c.args.a_i.now g.I.Number.value)) (omega (arith, c.well_formed)))
+count_at-first-requires-clause-fits g c = pointer_fits c.args.size (map g.I.Index.value c.args.a_p.now)
+    (map g.I.Index.value c.args.a_i.now) c.requires.form c.args.j (let l = c.requires.row in omega (arith, l))
+    (subst (λ x. x < 2 ^ 64) (sym (length-map c.args.a_i.now g.I.Index.value)) (omega (arith, c.well_formed)))
 
 pub count_at-requires-clause-fits : goal.count_at-requires-clause-fits
-count_at-requires-clause-fits g c = pointer_fits c.args.size (map g.I.Number.value c.args.a_p.now)
-    (map g.I.Number.value c.args.a_i.now) c.requires.form (c.args.j + 1) (let l = c.requires.row in omega (arith, l))
-    (subst (λ x. x < 2 ^ 64) (sym (length-map c.args.a_i.now g.I.Number.value)) (omega (arith, c.well_formed)))
+count_at-requires-clause-fits g c = pointer_fits c.args.size (map g.I.Index.value c.args.a_p.now)
+    (map g.I.Index.value c.args.a_i.now) c.requires.form (c.args.j + 1) (let l = c.requires.row in omega (arith, l))
+    (subst (λ x. x < 2 ^ 64) (sym (length-map c.args.a_i.now g.I.Index.value)) (omega (arith, c.well_formed)))
 
 pub returns-then-first-count_at-clause-yes : goal.returns-then-first-count_at-clause-yes
-returns-then-first-count_at-clause-yes g c = λ e. none_low c.args.size (map g.I.Number.value c.args.a_p.now)
-    (map g.I.Number.value c.args.a_i.now) c.requires.form c.args.j c.requires.row
+returns-then-first-count_at-clause-yes g c = λ e. none_low c.args.size (map g.I.Index.value c.args.a_p.now)
+    (map g.I.Index.value c.args.a_i.now) c.requires.form c.args.j c.requires.row
     (let a = c.count_at-first.ensures.count in let b = c.count_at.ensures.count in let t = c.if-first-count_at.true in
     omega (arith, a, b, t))
 
 pub count_at-requires-2-clause-within : goal.count_at-requires-2-clause-within
-count_at-requires-2-clause-within g c = place_in g.I.Number.value c.args.a_i.now c.args.size (map g.I.Number.value c.args.a_p.now)
+count_at-requires-2-clause-within g c = place_in g.I.Index.value c.args.a_i.now c.args.size (map g.I.Index.value c.args.a_p.now)
     c.requires.form c.args.j c.count_at-first.result c.count_at.result c.requires.row c.count_at.ensures.count
-    (first_before c.args.size (map g.I.Number.value c.args.a_p.now) (map g.I.Number.value c.args.a_i.now) c.requires.form c.args.j
+    (first_before c.args.size (map g.I.Index.value c.args.a_p.now) (map g.I.Index.value c.args.a_i.now) c.requires.form c.args.j
     c.requires.row c.requires.sorted c.count_at-first.result c.count_at.result c.count_at-first.ensures.count c.count_at.ensures.count
     c.if-first-count_at.false)
 
 pub count_at-requires-2-clause-fits : goal.count_at-requires-2-clause-fits
-count_at-requires-2-clause-fits g c = row_fits c.args.size (map g.I.Number.value c.args.a_p.now) (map g.I.Number.value c.args.a_i.now)
+count_at-requires-2-clause-fits g c = row_fits c.args.size (map g.I.Index.value c.args.a_p.now) (map g.I.Index.value c.args.a_i.now)
     c.requires.form c.args.j c.count_at-first.result c.requires.row
-    (let t = first_before c.args.size (map g.I.Number.value c.args.a_p.now) (map g.I.Number.value c.args.a_i.now) c.requires.form c.args.j
+    (let t = first_before c.args.size (map g.I.Index.value c.args.a_p.now) (map g.I.Index.value c.args.a_i.now) c.requires.form c.args.j
     c.requires.row c.requires.sorted c.count_at-first.result c.count_at.result c.count_at-first.ensures.count c.count_at.ensures.count
     c.if-first-count_at.false in let e = c.count_at.ensures.count in omega (arith, t, e)) c.ranges.size.fits
 
 pub returns-clause-yes : goal.returns-clause-yes
 returns-clause-yes g c = λ e.
-    let ap' = map g.I.Number.value c.args.a_p.now in let ai = map g.I.Number.value c.args.a_i.now in
+    let ap' = map g.I.Index.value c.args.a_p.now in let ai = map g.I.Index.value c.args.a_i.now in
     let a = c.count_at-first.ensures.count in let b = c.count_at.ensures.count in
     let before = first_before c.args.size ap' ai c.requires.form c.args.j c.requires.row c.requires.sorted c.count_at-first.result
     c.count_at.result a b c.if-first-count_at.false in
@@ -47,7 +47,7 @@ returns-clause-yes g c = λ e.
 
 pub returns-clause-no : goal.returns-clause-no
 returns-clause-no g c = λ h.
-    let ap' = map g.I.Number.value c.args.a_p.now in let ai = map g.I.Number.value c.args.a_i.now in
+    let ap' = map g.I.Index.value c.args.a_p.now in let ai = map g.I.Index.value c.args.a_i.now in
     let a = c.count_at-first.ensures.count in let b = c.count_at.ensures.count in
     let before = first_before c.args.size ap' ai c.requires.form c.args.j c.requires.row c.requires.sorted c.count_at-first.result
     c.count_at.result a b c.if-first-count_at.false in

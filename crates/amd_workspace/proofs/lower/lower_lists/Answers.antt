@@ -29,7 +29,7 @@ module _ (n : ℕ) (ap' ai : List ℤ) (lower : IsLower n ap' ai) (degrees : Lis
 
 pub spread_lists-requires : goal.spread_lists-requires
 spread_lists-requires g c = let r = c.requires in let p = c.push_lists in
-    let ap' = map g.I.Number.value c.args.a_p.now in let ai = map g.I.Number.value c.args.a_i.now in record {
+    let ap' = map g.I.Index.value c.args.a_p.now in let ai = map g.I.Index.value c.args.a_i.now in record {
       laid = (
         record { n = c.args.size; ap = ap'; ai = ai },
         columns c.args.size ap' ai r.lower c.args.degrees.now _ _ c.args.room c.args.next.now p.new.iw.items c.deref_mut.result.now
@@ -39,7 +39,7 @@ spread_lists-requires g c = let r = c.requires in let p = c.push_lists in
 
 pub returns-clause-long : goal.returns-clause-long
 returns-clause-long g c = let r = c.requires in let p = c.push_lists in
-    let ap' = map g.I.Number.value c.args.a_p.now in let ai = map g.I.Number.value c.args.a_i.now in
+    let ap' = map g.I.Index.value c.args.a_p.now in let ai = map g.I.Index.value c.args.a_i.now in
     back_long c.args.size ap' ai r.lower c.args.degrees.now g.S.Signed.MOST g.U.Unsigned.MOST c.args.room c.args.next.now p.new.iw.items
     c.deref_mut.result.now r.degrees
     r.room r.fits.0 r.fits.1 r.long r.starts p.ensures.long p.ensures.own c.deref_mut.ensures.value c.spread_lists.new.iw p.new.iw.len
@@ -47,7 +47,7 @@ returns-clause-long g c = let r = c.requires in let p = c.push_lists in
 
 pub returns-clause-words : goal.returns-clause-words
 returns-clause-words g c = let r = c.requires in let p = c.push_lists in
-    let ap' = map g.I.Number.value c.args.a_p.now in let ai = map g.I.Number.value c.args.a_i.now in
+    let ap' = map g.I.Index.value c.args.a_p.now in let ai = map g.I.Index.value c.args.a_i.now in
     let so = columns c.args.size ap' ai r.lower c.args.degrees.now g.S.Signed.MOST g.U.Unsigned.MOST c.args.room c.args.next.now
     p.new.iw.items c.deref_mut.result.now r.degrees
     r.room r.fits.0 r.fits.1 r.long r.starts p.ensures.long p.ensures.own c.deref_mut.ensures.value in
@@ -59,7 +59,7 @@ returns-clause-words g c = let r = c.requires in let p = c.push_lists in
 
 pub returns-clause-lists : goal.returns-clause-lists
 returns-clause-lists g c = λ i l. let r = c.requires in let p = c.push_lists in
-    let ap' = map g.I.Number.value c.args.a_p.now in let ai = map g.I.Number.value c.args.a_i.now in
+    let ap' = map g.I.Index.value c.args.a_p.now in let ai = map g.I.Index.value c.args.a_i.now in
     let so = columns c.args.size ap' ai r.lower c.args.degrees.now g.S.Signed.MOST g.U.Unsigned.MOST c.args.room c.args.next.now
     p.new.iw.items c.deref_mut.result.now r.degrees
     r.room r.fits.0 r.fits.1 r.long r.starts p.ensures.long p.ensures.own c.deref_mut.ensures.value in

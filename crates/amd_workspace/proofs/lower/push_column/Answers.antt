@@ -9,9 +9,9 @@ use Rattle.amd_workspace.proofs.LowerColumns.{column_row, stretch_push}
 use Rattle.amd_workspace.proofs.lower.push_column.Goals as goal
 
 pub count_at-stop-requires-clause-fits : goal.count_at-stop-requires-clause-fits
-count_at-stop-requires-clause-fits g c = pointer_fits c.args.size (map g.I.Number.value c.args.a_p.now)
-    (map g.I.Number.value c.args.a_i.now) c.requires.form (c.args.j + 1) (let l = c.requires.row in omega (arith, l))
-    (subst (λ x. x < 2 ^ 64) (sym (length-map c.args.a_i.now g.I.Number.value)) (omega (arith, c.well_formed)))
+count_at-stop-requires-clause-fits g c = pointer_fits c.args.size (map g.I.Index.value c.args.a_p.now)
+    (map g.I.Index.value c.args.a_i.now) c.requires.form (c.args.j + 1) (let l = c.requires.row in omega (arith, l))
+    (subst (λ x. x < 2 ^ 64) (sym (length-map c.args.a_i.now g.I.Index.value)) (omega (arith, c.well_formed)))
 
 pub places-init : goal.places-init
 places-init g c =
@@ -20,21 +20,21 @@ places-init g c =
       to = (let a = c.requires.to in let b = c.count_at-stop.ensures.count in omega (arith, a, b));
       capacity = omega arith;
       items = sym (append-nil items)
-          ∙ ap (λ k. items ++ map pos (take k (drop first (counts (map g.I.Number.value c.args.a_i.now))))) (sym none);
+          ∙ ap (λ k. items ++ map pos (take k (drop first (counts (map g.I.Index.value c.args.a_i.now))))) (sym none);
     }
 
 pub count_at-requires-clause-within : goal.count_at-requires-clause-within
-count_at-requires-clause-within g c = place_in g.I.Number.value c.args.a_i.now c.args.size (map g.I.Number.value c.args.a_p.now)
+count_at-requires-clause-within g c = place_in g.I.Index.value c.args.a_i.now c.args.size (map g.I.Index.value c.args.a_p.now)
     c.requires.form c.args.j c.places.place c.count_at-stop.result c.requires.row c.count_at-stop.ensures.count c.places-test.true
 
 pub count_at-requires-clause-fits : goal.count_at-requires-clause-fits
-count_at-requires-clause-fits g c = row_fits c.args.size (map g.I.Number.value c.args.a_p.now) (map g.I.Number.value c.args.a_i.now)
+count_at-requires-clause-fits g c = row_fits c.args.size (map g.I.Index.value c.args.a_p.now) (map g.I.Index.value c.args.a_i.now)
     c.requires.form c.args.j c.places.place c.requires.row
     (let t = c.places-test.true in let e = c.count_at-stop.ensures.count in omega (arith, t, e)) c.ranges.size.fits
 
 pub overflow_cast-count_at : goal.overflow_cast-count_at
 overflow_cast-count_at g c =
-    let ap' = map g.I.Number.value c.args.a_p.now in let ai = map g.I.Number.value c.args.a_i.now in
+    let ap' = map g.I.Index.value c.args.a_p.now in let ai = map g.I.Index.value c.args.a_i.now in
     let small = column_row c.args.size (counts ap') (counts ai)
     (sorted_form c.args.size ap' ai c.requires.form c.requires.sorted) c.args.j c.args.first c.count_at-stop.result c.places.place
     c.count_at.result c.requires.row c.requires.from c.places.invariant.from c.places-test.true c.count_at-stop.ensures.count
@@ -44,7 +44,7 @@ overflow_cast-count_at g c =
 
 pub word_of-requires : goal.word_of-requires
 word_of-requires g c =
-    let ap' = map g.I.Number.value c.args.a_p.now in let ai = map g.I.Number.value c.args.a_i.now in
+    let ap' = map g.I.Index.value c.args.a_p.now in let ai = map g.I.Index.value c.args.a_i.now in
     let small = column_row c.args.size (counts ap') (counts ai)
     (sorted_form c.args.size ap' ai c.requires.form c.requires.sorted) c.args.j c.args.first c.count_at-stop.result c.places.place
     c.count_at.result c.requires.row c.requires.from c.places.invariant.from c.places-test.true c.count_at-stop.ensures.count
@@ -55,7 +55,7 @@ word_of-requires g c =
 
 pub places-preserved : goal.places-preserved
 places-preserved g c =
-    let ap' = map g.I.Number.value c.args.a_p.now in let ai = map g.I.Number.value c.args.a_i.now in
+    let ap' = map g.I.Index.value c.args.a_p.now in let ai = map g.I.Index.value c.args.a_i.now in
     let form = sorted_form c.args.size ap' ai c.requires.form c.requires.sorted in
     let small = column_row c.args.size (counts ap') (counts ai) form c.args.j c.args.first c.count_at-stop.result c.places.place
     c.count_at.result c.requires.row c.requires.from c.places.invariant.from c.places-test.true c.count_at-stop.ensures.count

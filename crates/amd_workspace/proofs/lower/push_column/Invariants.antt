@@ -8,5 +8,5 @@ invariant-places g l = record {
   from : l.first ≤ l.place;
   to : l.place ≤ l.stop;
   capacity : vec_capacity l.fn.iw ≤ vec_capacity l.iw;
-  items : l.iw.items ≡ l.fn.iw.items ++ map pos (take (l.place - l.first) (drop l.first (counts (map g.I.Number.value l.a_i))));
+  items : l.iw.items ≡ l.fn.iw.items ++ map pos (take (l.place - l.first) (drop l.first (counts (map g.I.Index.value l.a_i))));
 }

@@ -8,19 +8,19 @@ use Rattle.amd_workspace.proofs.LowerColumns.{slice_long}
 use Rattle.amd_workspace.proofs.lower.push_list.Goals as goal
 
 pub count_at-requires-clause-fits : goal.count_at-requires-clause-fits
-count_at-requires-clause-fits g c = pointer_fits c.args.size (map g.I.Number.value c.args.a_p.now)
-    (map g.I.Number.value c.args.a_i.now) c.requires.form (c.args.j + 1) (let l = c.requires.row in omega (arith, l))
-    (subst (λ x. x < 2 ^ 64) (sym (length-map c.args.a_i.now g.I.Number.value)) (omega (arith, c.well_formed)))
+count_at-requires-clause-fits g c = pointer_fits c.args.size (map g.I.Index.value c.args.a_p.now)
+    (map g.I.Index.value c.args.a_i.now) c.requires.form (c.args.j + 1) (let l = c.requires.row in omega (arith, l))
+    (subst (λ x. x < 2 ^ 64) (sym (length-map c.args.a_i.now g.I.Index.value)) (omega (arith, c.well_formed)))
 
 pub overflow_sub-degree : goal.overflow_sub-degree
 overflow_sub-degree g c =
-    let long = slice_long c.args.size (map g.I.Number.value c.args.a_p.now) (map g.I.Number.value c.args.a_i.now) c.requires.form c.args.j
+    let long = slice_long c.args.size (map g.I.Index.value c.args.a_p.now) (map g.I.Index.value c.args.a_i.now) c.requires.form c.args.j
     c.requires.row c.requires.sorted c.requires.lower c.own_first-first.result c.own_first-first.ensures.rows in
     let is = c.count_at.ensures.count in let few = c.requires.degree in omega (arith, long, is, few)
 
 pub push_column-requires-clause-room : goal.push_column-requires-clause-room
 push_column-requires-clause-room g c =
-    let long = slice_long c.args.size (map g.I.Number.value c.args.a_p.now) (map g.I.Number.value c.args.a_i.now) c.requires.form c.args.j
+    let long = slice_long c.args.size (map g.I.Index.value c.args.a_p.now) (map g.I.Index.value c.args.a_i.now) c.requires.form c.args.j
     c.requires.row c.requires.sorted c.requires.lower c.own_first-first.result c.own_first-first.ensures.rows in
     let is = c.count_at.ensures.count in let few = c.requires.degree in let room = c.requires.room in
     let count = c.args.degree - (c.count_at.result - c.own_first-first.result) in
@@ -30,7 +30,7 @@ push_column-requires-clause-room g c =
 
 pub returns-clause-items : goal.returns-clause-items
 returns-clause-items g c =
-    let ap' = map g.I.Number.value c.args.a_p.now in let ai = map g.I.Number.value c.args.a_i.now in
+    let ap' = map g.I.Index.value c.args.a_p.now in let ai = map g.I.Index.value c.args.a_i.now in
     let rows = c.own_first-first.ensures.rows in let old = c.args.iw.now.items in
     let long = slice_long c.args.size ap' ai c.requires.form c.args.j
     c.requires.row c.requires.sorted c.requires.lower c.own_first-first.result rows in

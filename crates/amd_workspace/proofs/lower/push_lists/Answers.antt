@@ -16,7 +16,7 @@ rows-init g c = record {
   free = refl;
   long = c.requires.empty;
   capacity = c.requires.capacity;
-  held = held_none c.args.size (map g.I.Number.value c.args.a_p.now) (map g.I.Number.value c.args.a_i.now) c.requires.lower
+  held = held_none c.args.size (map g.I.Index.value c.args.a_p.now) (map g.I.Index.value c.args.a_i.now) c.requires.lower
       c.args.iw.now.items c.requires.some c.requires.empty;
 }
 
@@ -30,25 +30,25 @@ offset_bounds-degrees-j g c = let a = c.requires.degrees.size in let b = c.rows-
 
 pub push_list-requires-clause-degree : goal.push_list-requires-clause-degree
 push_list-requires-clause-degree g c =
-    let d = degree_is c.args.size (map g.I.Number.value c.args.a_p.now) (map g.I.Number.value c.args.a_i.now) c.requires.lower
+    let d = degree_is c.args.size (map g.I.Index.value c.args.a_p.now) (map g.I.Index.value c.args.a_i.now) c.requires.lower
     c.args.degrees.now c.requires.degrees c.rows.j c.rows-test.true in omega (arith, d)
 
 pub push_list-requires-clause-room : goal.push_list-requires-clause-room
 push_list-requires-clause-room g c =
     let i = c.rows.invariant in let free = i.free in let long = i.long in let wide = i.capacity in let room = c.requires.room in
-    let d = list_room c.args.size (map g.I.Number.value c.args.a_p.now) (map g.I.Number.value c.args.a_i.now) c.requires.lower
+    let d = list_room c.args.size (map g.I.Index.value c.args.a_p.now) (map g.I.Index.value c.args.a_i.now) c.requires.lower
     c.args.degrees.now c.requires.degrees c.rows.j c.rows.free c.rows-test.true free in omega (arith, d, long, wide, room)
 
 pub overflow_add-free : goal.overflow_add-free
 overflow_add-free g c =
     let i = c.rows.invariant in let room = c.requires.room in
-    let d = list_room c.args.size (map g.I.Number.value c.args.a_p.now) (map g.I.Number.value c.args.a_i.now) c.requires.lower
+    let d = list_room c.args.size (map g.I.Index.value c.args.a_p.now) (map g.I.Index.value c.args.a_i.now) c.requires.lower
     c.args.degrees.now c.requires.degrees c.rows.j c.rows.free c.rows-test.true i.free in
     let fits = c.ranges.room.fits in omega (arith, d, room, fits)
 
 pub rows-preserved : goal.rows-preserved
 rows-preserved g c =
-    let ap' = map g.I.Number.value c.args.a_p.now in let ai = map g.I.Number.value c.args.a_i.now in let n = c.args.size in
+    let ap' = map g.I.Index.value c.args.a_p.now in let ai = map g.I.Index.value c.args.a_i.now in let n = c.args.size in
     let i = c.rows.invariant in let j = c.rows.j in let degree = num c.args.degrees.now j in let items = c.rows.iw.items in
     let parts = degree_is n ap' ai c.requires.lower c.args.degrees.now c.requires.degrees j c.rows-test.true in
     let own = own_of n ap' ai j in let count = degree - length own in
@@ -70,20 +70,20 @@ module _ (n : ℕ) (ap' ai : List ℤ) (j free : ℕ) (is : free ≡ own_start n
 pub overflow_sub-room : goal.overflow_sub-room
 overflow_sub-room g c =
     let a = c.rows.auto.j-end in let b = c.rows-test.false in let room = c.requires.room in
-    let e = free_end c.args.size (map g.I.Number.value c.args.a_p.now) (map g.I.Number.value c.args.a_i.now) c.rows.j c.rows.free
+    let e = free_end c.args.size (map g.I.Index.value c.args.a_p.now) (map g.I.Index.value c.args.a_i.now) c.rows.j c.rows.free
     c.rows.invariant.free (omega (arith, a, b)) in omega (arith, e, room)
 
 pub push_rows-requires-clause-room : goal.push_rows-requires-clause-room
 push_rows-requires-clause-room g c =
     let a = c.rows.auto.j-end in let b = c.rows-test.false in let room = c.requires.room in
-    let e = free_end c.args.size (map g.I.Number.value c.args.a_p.now) (map g.I.Number.value c.args.a_i.now) c.rows.j c.rows.free
+    let e = free_end c.args.size (map g.I.Index.value c.args.a_p.now) (map g.I.Index.value c.args.a_i.now) c.rows.j c.rows.free
     c.rows.invariant.free (omega (arith, a, b)) in
     let long = c.rows.invariant.long in let wide = c.rows.invariant.capacity in omega (arith, e, room, long, wide)
 
 pub returns-clause-long : goal.returns-clause-long
 returns-clause-long g c =
     let a = c.rows.auto.j-end in let b = c.rows-test.false in let room = c.requires.room in
-    let e = free_end c.args.size (map g.I.Number.value c.args.a_p.now) (map g.I.Number.value c.args.a_i.now) c.rows.j c.rows.free
+    let e = free_end c.args.size (map g.I.Index.value c.args.a_p.now) (map g.I.Index.value c.args.a_i.now) c.rows.j c.rows.free
     c.rows.invariant.free (omega (arith, a, b)) in
     let long = c.rows.invariant.long in let count = c.args.room - c.rows.free in
     let whole = ap length c.push_rows.ensures.items in let size = length-append c.rows.iw.items (replicate count (pos (c.args.size - 1))) in
@@ -91,7 +91,7 @@ returns-clause-long g c =
 
 pub returns-clause-own : goal.returns-clause-own
 returns-clause-own g c =
-    let ap' = map g.I.Number.value c.args.a_p.now in let ai = map g.I.Number.value c.args.a_i.now in let n = c.args.size in
+    let ap' = map g.I.Index.value c.args.a_p.now in let ai = map g.I.Index.value c.args.a_i.now in let n = c.args.size in
     let a = c.rows.auto.j-end in let b = c.rows-test.false in let last : c.rows.j ≡ n = omega (arith, a, b) in
     let e = free_end n ap' ai c.rows.j c.rows.free c.rows.invariant.free last in let long = c.rows.invariant.long in
     subst (HoldsOwn n ap' ai n) (sym c.push_rows.ensures.items)

@@ -5,8 +5,8 @@ use Rattle.amd_workspace.proofs.lower.push_lists.Given as goal
 
 abbrev pub invariant-rows : goal.invariant-rows
 invariant-rows g l = record {
-  free : l.free ≡ own_start l.size (map g.I.Number.value l.a_p) (map g.I.Number.value l.a_i) l.j;
+  free : l.free ≡ own_start l.size (map g.I.Index.value l.a_p) (map g.I.Index.value l.a_i) l.j;
   long : length l.iw.items ≡ l.free;
   capacity : l.room ≤ vec_capacity l.iw;
-  held : HoldsOwn l.size (map g.I.Number.value l.a_p) (map g.I.Number.value l.a_i) l.j l.iw.items;
+  held : HoldsOwn l.size (map g.I.Index.value l.a_p) (map g.I.Index.value l.a_i) l.j l.iw.items;
 }
