@@ -12,6 +12,7 @@ ghost use Rattle.amd_engine_law.specs.Engine.{IsEngineAnswer};
 
 use crate::amd_2::amd_2_from;
 use amd_types::amd::{Control, Info, Status};
+use amd_types::index::Index;
 use amd_words::{Signed, Unsigned, Word};
 use amd_workspace::laying::{Laid, lay};
 use num_traits::PrimInt;
@@ -60,7 +61,7 @@ fn ask_for_most<A: Allocator>(alloc: A, n: usize, iwlen: usize) -> Result<(), Al
 /// `OutOfMemory` where a request was refused. What `info` then holds is not said.
 ///
 /// Source: Amestoy, Davis and Duff 1996 and 2004.
-pub fn order_in<I: PrimInt, S: Signed, U: Unsigned, A: Allocator + Copy>(
+pub fn order_in<I: Index, S: Signed, U: Unsigned, A: Allocator + Copy>(
     alloc: A,
     flag: usize,
     n: I,

@@ -16,6 +16,7 @@ use crate::fresh::{fresh_lists, room_for};
 use crate::running::{Told, run};
 use amd_types::amd::{Control, Info, Status};
 use amd_types::dense::dense_threshold;
+use amd_types::index::Index;
 use amd_types::internal::from_count;
 use amd_views::{lend_cells, lend_words, raise};
 use amd_words::{Cell, Signed, Unsigned, Word, put_word, row_at, word_at};
@@ -52,7 +53,7 @@ fn tell(told: &Told, info: &mut Info)
 /// `OutOfMemory` where a request was refused. What `info` then holds is not said.
 ///
 /// Source: Amestoy, Davis and Duff 1996 and 2004.
-pub fn amd_2_from<I: PrimInt, S: Signed, U: Unsigned, A: Allocator + Copy>(
+pub fn amd_2_from<I: Index, S: Signed, U: Unsigned, A: Allocator + Copy>(
     alloc: A,
     flag: usize,
     n: I,
@@ -147,7 +148,7 @@ fn copy_raised(numbers: &[isize], words: &mut [Word<isize>])
 }
 
 /// Writes counts of rows as numbers of the caller's type.
-fn write_counts<I: PrimInt>(words: &[Word<isize>], numbers: &mut [I])
+fn write_counts<I: Index>(words: &[Word<isize>], numbers: &mut [I])
     requires room { length numbers.old ≡ length words.now }
     requires counts { (k : ℕ) → k < length words.now → is_place (word words.now k) ≡ true }
     requires fits { (k : ℕ) → k < length words.now → I.fits (word words.now k) }

@@ -6,13 +6,13 @@ ghost use Rattle.amd_words.specs.Words.{num};
 ghost use Rattle.amd_engine.specs.InPlace.{AreListed, AreOver};
 
 use amd_listing::listing::listing;
+use amd_types::index::Index;
 use amd_types::internal::from_count;
 use amd_words::{Cell, Signed, Unsigned, Word, cell_at};
 use amd_workspace::ending::end_rows;
-use num_traits::PrimInt;
 
 /// Writes figures as numbers of the caller's type.
-fn write_numbers<I: PrimInt, U: Unsigned>(figures: &[Cell<U>], numbers: &mut [I])
+fn write_numbers<I: Index, U: Unsigned>(figures: &[Cell<U>], numbers: &mut [I])
     requires room { length numbers.old ≡ length figures.now }
     requires fits { (k : ℕ) → k < length figures.now → I.fits (pos (num figures.now k)) }
     ensures { map I.value numbers.new ≡ map pos figures.now }
@@ -36,7 +36,7 @@ fn write_numbers<I: PrimInt, U: Unsigned>(figures: &[Cell<U>], numbers: &mut [I]
 /// element, or -1.
 ///
 /// Source: Amestoy, Davis and Duff 2004.
-pub fn list_rows<I: PrimInt, S: Signed, U: Unsigned>(
+pub fn list_rows<I: Index, S: Signed, U: Unsigned>(
     pe: &mut [Word<S>],
     e_len: &mut [Word<S>],
     nv: &mut [Word<S>],

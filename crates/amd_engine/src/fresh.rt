@@ -5,10 +5,10 @@ ghost use Rattle.std.specs.Prelude.{◌≡◌, ◌≤◌, ℕ, length, IfOk};
 ghost use Rattle.amd_words.specs.Sides.{nexts, lasts};
 ghost use Rattle.amd_engine.specs.InPlace.{AreFresh};
 
+use amd_types::index::Index;
 use amd_words::sides::Sides;
 use amd_words::{Cell, Signed, Unsigned, Word};
 use amd_workspace::filling::{cells, sides, words};
-use num_traits::PrimInt;
 use std::alloc::{AllocError, Allocator};
 
 /// All lists of an elimination beside its workspace, with a place for each row.
@@ -16,7 +16,7 @@ use std::alloc::{AllocError, Allocator};
 /// After the rounds `head` and `hash` are room for the listing, and `degree` and `w` for the permutation and its
 /// inverse as words.
 #[derive(Drop)]
-pub struct Lists<I: PrimInt, S: Signed, U: Unsigned, A: Allocator> {
+pub struct Lists<I: Index, S: Signed, U: Unsigned, A: Allocator> {
     /// The number of rows of each class, and at the end that of each block.
     pub nv: Vec<Word<S>, A>,
     /// The number of elements of each class, and at the end the number of rows of each front.
@@ -42,7 +42,7 @@ pub struct Lists<I: PrimInt, S: Signed, U: Unsigned, A: Allocator> {
 /// # Errors
 ///
 /// `AllocError` where the request for memory was refused.
-pub fn room_for<I: PrimInt, A: Allocator>(alloc: A, count: usize) -> Result<Vec<I, A>, AllocError>
+pub fn room_for<I: Index, A: Allocator>(alloc: A, count: usize) -> Result<Vec<I, A>, AllocError>
     ensures { IfOk result (λ v. length v.items ≡ count) }
 {
     vec![in alloc; I::zero(); count]
@@ -57,7 +57,7 @@ pub fn room_for<I: PrimInt, A: Allocator>(alloc: A, count: usize) -> Result<Vec<
 /// # Errors
 ///
 /// `AllocError` where a request for memory was refused.
-pub fn fresh_lists<I: PrimInt, S: Signed, U: Unsigned, A: Allocator + Copy>(
+pub fn fresh_lists<I: Index, S: Signed, U: Unsigned, A: Allocator + Copy>(
     alloc: A,
     n: usize,
 ) -> Result<Lists<I, S, U, A>, AllocError>

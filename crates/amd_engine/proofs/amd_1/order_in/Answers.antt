@@ -68,8 +68,8 @@ amd_2_from-requires-clause-laid g c =
 
 pub amd_2_from-requires-clause-graph : goal.amd_2_from-requires-clause-graph
 amd_2_from-requires-clause-graph g c =
-    let a_p : List ℤ = map g.I.Number.value c.args.a_p.now in
-    let a_i : List ℤ = map g.I.Number.value c.args.a_i.now in
+    let a_p : List ℤ = map g.I.Index.value c.args.a_p.now in
+    let a_i : List ℤ = map g.I.Index.value c.args.a_i.now in
     let n : ℕ = length c.args.len.now in
     let laid = c.in_ok-laid.ensures in
     let lays = lays_same (graph_of n a_p a_i) (starting_list n (is_pair n a_p a_i)) c.in_ok-laid.laid.iw.items c.deref_mut-2.result.now
@@ -105,8 +105,8 @@ amd_2_from-requires-clause-marks g c =
 
 pub returns-clause-orders : goal.returns-clause-orders
 returns-clause-orders g c =
-    let a_p : List ℤ = map g.I.Number.value c.args.a_p.now in
-    let a_i : List ℤ = map g.I.Number.value c.args.a_i.now in
+    let a_p : List ℤ = map g.I.Index.value c.args.a_p.now in
+    let a_i : List ℤ = map g.I.Index.value c.args.a_i.now in
     let n : ℕ = length c.args.len.now in
     let laid = c.in_ok-laid.ensures in
     let lays = lays_same (graph_of n a_p a_i) (starting_list n (is_pair n a_p a_i)) c.in_ok-laid.laid.iw.items c.deref_mut-2.result.now
@@ -117,7 +117,7 @@ returns-clause-orders g c =
     let size : length c.deref_mut-3.result.now ≡ length c.args.len.now =
     ap length c.deref_mut-3.ensures.value ∙ ap length c.in_ok-laid.ensures.degrees in
     subst (λ k. IsAnswerOf (graph_of n a_p a_i) (starting_list n (is_pair n a_p a_i)) (option_copied c.args.hold) k c.args.control.now.dense
-    c.args.control.now.aggressive (map g.I.Number.value c.in_ok-p_inv.p.items) (map g.I.Number.value c.in_ok-p_inv.p_inv.items)
+    c.args.control.now.aggressive (map g.I.Index.value c.in_ok-p_inv.p.items) (map g.I.Index.value c.in_ok-p_inv.p_inv.items)
     c.args.info.now c.amd_2_from.new.info) size
     (c.in_ok-p_inv.ensures.orders (graph_of n a_p a_i) (starting_list n (is_pair n a_p a_i)) lays).answer
 

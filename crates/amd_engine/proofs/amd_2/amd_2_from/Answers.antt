@@ -1,26 +1,21 @@
-use Rattle.std.proofs.Common.{arith, ℕ, ℤ, List, pos, map, length, take, drop, refl, ap, sym, subst, ◌≡◌, ◌<◌, ◌++◌, ◌∙◌}
-use Rattle.std.specs.Prelude.{◌≤ℤ◌}
+use Rattle.std.proofs.Common.{arith, ℕ, ℤ, List, map, length, take, drop, refl, ap, sym, subst, ◌≡◌, ◌++◌, ◌∙◌}
 use Rattle.std.proofs.lemmas.Int.{ints}
 use Rattle.std.proofs.lemmas.List.{take_at}
 use Rattle.std.specs.Option.{option_copied}
 use Rattle.amd_types.specs.Permutations.{AreInverse}
+use Rattle.amd_types.proofs.Fitting.{fits_below}
 use Rattle.amd_engine.proofs.EndingLaw.{answers, ends_same}
 use Rattle.amd_engine.proofs.amd_2.amd_2_from.Goals as goal
 
 pub list_rows-requires-clause-fits : goal.list_rows-requires-clause-fits
-list_rows-requires-clause-fits g c = λ k l.
-    let rows = c.run-told.ensures.over.words.0 in
-    let small : k < length c.args.len.now = omega (arith, l, rows) in
-    let size = c.requires.size in
-    let low : pos 0 ≤ℤ pos k = omega (arith, ints) in
-    let most : pos k ≤ℤ g.I.Number.value c.args.n = omega (arith, ints, small, size) in
-    let exact = g.met.I.Integral.exact_law in
-    g.I.Number.between_law (pos 0) (pos k) (g.I.Number.value c.args.n) exact (g.met.I.Zero.zero_fits_law exact) c.requires.fits low most
+list_rows-requires-clause-fits g c = λ k l. fits_below g.I.Index.fits g.met.I.Index.zero_fits g.met.I.Index.between k
+    (g.I.Index.value c.args.n) c.requires.fits
+    (let rows = c.run-told.ensures.over.words.0 in let size = c.requires.size in omega (arith, ints, l, rows, size))
 
 pub returns-clause-orders : goal.returns-clause-orders
 returns-clause-orders g c = λ graph lists lays.
     let n : ℕ = length c.args.len.now in
-    let value = g.I.Number.value in
+    let value = g.I.Index.value in
     let l = c.in_ok-lists.lists in
     let fresh = c.in_ok-lists.ensures.fresh in
     let told = c.run-told in

@@ -24,7 +24,7 @@ write_numbers-requires-2-clause-fits g c = λ k l.
 pub returns : goal.returns
 returns g c =
     let n : ℕ = length c.args.pe.now in
-    let value = g.I.Number.value in
+    let value = g.I.Index.value in
     let d : length c.args.degree.now ≡ n = c.requires.over.words.3 in
     let ended = c.end_rows.ensures.lengths in
     let rows : length c.end_rows.new.nv ≡ n = ended.2 ∙ d in

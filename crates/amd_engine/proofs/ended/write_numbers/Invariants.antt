@@ -4,5 +4,5 @@ use Rattle.amd_engine.proofs.ended.write_numbers.Given as goal
 abbrev pub invariant-figures : goal.invariant-figures
 invariant-figures g l = record {
   size : length l.numbers ≡ length l.figures;
-  items : map g.I.Number.value (take l.k l.numbers) ≡ map pos (take l.k l.figures);
+  items : map g.I.Index.value (take l.k l.numbers) ≡ map pos (take l.k l.figures);
 }
