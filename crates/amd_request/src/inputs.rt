@@ -13,7 +13,7 @@ use amd_types::amd::Control;
 use std::alloc::Global;
 use std::fs;
 use std::fs::OpenFile;
-use std::rt::Runtime;
+use std::rt::{Clock, Files};
 use thiserror::Error;
 
 /// A file of so many bytes takes some seconds to read.
@@ -54,7 +54,7 @@ pub fn about<'a, T: Drop>(subject: &'a str, outcome: Result<T, Cause>) -> Result
 }
 
 /// Opens a file to read, and says so where it is long.
-fn open_file<R: Runtime + AllocGlobal>(
+fn open_file<R: Files + Clock + Eprint>(
     rt: &R,
     progress: &Progress,
     path: &str,
@@ -72,7 +72,7 @@ fn open_file<R: Runtime + AllocGlobal>(
 }
 
 /// Reads the matrix of a file, or of standard input for `-`.
-pub fn read_file<R: Runtime + AllocGlobal>(
+pub fn read_file<R: Files + Input + Clock + Eprint + AllocGlobal>(
     rt: &R,
     progress: &Progress,
     path: &str,
@@ -89,7 +89,7 @@ pub fn read_file<R: Runtime + AllocGlobal>(
 }
 
 /// Reads the rows to hold last.
-fn read_marks<R: Runtime + AllocGlobal>(
+fn read_marks<R: Files + Clock + Eprint + AllocGlobal>(
     rt: &R,
     progress: &Progress,
     n: usize,
@@ -100,7 +100,7 @@ fn read_marks<R: Runtime + AllocGlobal>(
 }
 
 /// Reads the rows that a file lists.
-pub fn read_order<R: Runtime + AllocGlobal>(
+pub fn read_order<R: Files + Clock + Eprint + AllocGlobal>(
     rt: &R,
     progress: &Progress,
     n: usize,
@@ -111,7 +111,7 @@ pub fn read_order<R: Runtime + AllocGlobal>(
 }
 
 /// Says that a matrix is ordered, where it is large.
-fn tell_ordering<R: Runtime>(rt: &R, progress: &Progress, matrix: &Matrix<Global>) {
+fn tell_ordering<R: Clock + Eprint>(rt: &R, progress: &Progress, matrix: &Matrix<Global>) {
     let rows = matrix.n;
     let entries = matrix.a_i.len();
     let stage = format_args!("rimopaku: ordering {rows} rows, {entries} entries");
@@ -124,7 +124,7 @@ pub fn control_of<'a>(options: &Options<'a>) -> Result<Control, Complaint<'a>> {
 }
 
 /// Reads the rows to hold last, where a file of them is named.
-fn read_hold<'a, R: Runtime + AllocGlobal>(
+fn read_hold<'a, R: Files + Clock + Eprint + AllocGlobal>(
     rt: &R,
     progress: &Progress,
     options: &Options<'a>,
@@ -137,7 +137,7 @@ fn read_hold<'a, R: Runtime + AllocGlobal>(
 }
 
 /// Refuses an output that is a folder, or a file that the run reads or writes besides.
-fn check_output<'a, R: Runtime>(
+fn check_output<'a, R: Files>(
     rt: &R,
     output: Option<&'a str>,
     others: &[Option<&str>],
@@ -159,7 +159,7 @@ fn check_output<'a, R: Runtime>(
 }
 
 /// Refuses outputs that are folders, or one file with another output or an input.
-fn check_outputs<'a, R: Runtime>(rt: &R, options: &Options<'a>) -> Result<(), Complaint<'a>> {
+fn check_outputs<'a, R: Files>(rt: &R, options: &Options<'a>) -> Result<(), Complaint<'a>> {
     let inputs = [Some(options.file), options.hold, options.with];
     let outputs = [
         options.out,
@@ -176,7 +176,7 @@ fn check_outputs<'a, R: Runtime>(rt: &R, options: &Options<'a>) -> Result<(), Co
 }
 
 /// Reads what is to be ordered, and says so where it is large.
-pub fn read_task<'a, R: Runtime + AllocGlobal>(
+pub fn read_task<'a, R: Files + Input + Clock + Eprint + AllocGlobal>(
     rt: &R,
     options: &Options<'a>,
 ) -> Result<Task, Complaint<'a>> {

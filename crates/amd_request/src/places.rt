@@ -6,7 +6,7 @@ use crate::causes::Cause;
 use std::fs::OpenOptions;
 use std::io::{ErrorKind, Write};
 use std::os::unix::fs::MetadataExt;
-use std::rt::{Files, Runtime};
+use std::rt::Files;
 use std::{fs, io};
 
 /// How many names are tried for a file beside an output; a run that was killed may have left some of them.
@@ -85,7 +85,7 @@ fn open_new<R: Files>(rt: &R, path: &str) -> io::Result<R::File> {
 }
 
 /// Makes a file beside a place, with the first of some names that is free: a run beside this one takes another.
-fn make_beside<R: Runtime + AllocGlobal>(rt: &R, path: &str) -> Result<(String, R::File), Cause> {
+fn make_beside<R: Files + AllocGlobal>(rt: &R, path: &str) -> Result<(String, R::File), Cause> {
     'names: for count in 0..NAMES {
         let beside = format!(in rt.alloc(); "{path}.rimopaku-part-{count}")?;
         match open_new(rt, beside.as_str()) {
@@ -113,7 +113,7 @@ fn move_whole<R: Files>(
 }
 
 /// Writes a text to a regular file or to a place with no file, which has it whole or stays as it was.
-fn put_whole<R: Runtime + AllocGlobal>(rt: &R, path: &str, text: &[u8]) -> Result<(), Cause> {
+fn put_whole<R: Files + AllocGlobal>(rt: &R, path: &str, text: &[u8]) -> Result<(), Cause> {
     let (beside, file) = make_beside(rt, path)?;
     let outcome = move_whole(rt, file, beside.as_str(), path, text);
     if outcome.is_err() {
@@ -124,7 +124,7 @@ fn put_whole<R: Runtime + AllocGlobal>(rt: &R, path: &str, text: &[u8]) -> Resul
 
 /// Writes a text to a file, which has it whole or stays as it was. A link to a file is followed. A device or a pipe,
 /// and a link to nothing, is written to as it is.
-pub fn put_file<R: Runtime + AllocGlobal>(rt: &R, path: &str, text: &[u8]) -> Result<(), Cause> {
+pub fn put_file<R: Files + AllocGlobal>(rt: &R, path: &str, text: &[u8]) -> Result<(), Cause> {
     if is_plain(rt, path) {
         return put_whole(rt, path, text);
     }

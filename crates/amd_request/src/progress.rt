@@ -3,7 +3,7 @@
 // clock.
 
 use std::fmt::Display;
-use std::rt::Runtime;
+use std::rt::Clock;
 use std::time::{Duration, Instant};
 
 /// After so many seconds each stage is told.
@@ -19,7 +19,7 @@ pub struct Progress {
 
 impl Progress {
     /// The progress of a run that begins now, with percent or without.
-    pub fn begin<R: Runtime>(rt: &R, percent: bool) -> Progress {
+    pub fn begin<R: Clock>(rt: &R, percent: bool) -> Progress {
         Progress {
             start: Instant::now(rt).ok(),
             percent,
@@ -27,7 +27,7 @@ impl Progress {
     }
 
     /// Whether the run has taken some time already.
-    fn is_slow<R: Runtime>(&self, rt: &R) -> bool {
+    fn is_slow<R: Clock>(&self, rt: &R) -> bool {
         match self.start {
             Some(start) => match start.elapsed(rt) {
                 Ok(time) => time >= Duration::from_secs(SOME_SECONDS),
@@ -39,7 +39,7 @@ impl Progress {
 
     /// Tells the stage that begins, where it is `large` or the run has taken some time. Where standard error takes no
     /// text, the run goes on.
-    pub fn tell<R: Runtime, T: Display + Drop>(&self, rt: &R, large: bool, stage: T) {
+    pub fn tell<R: Clock + Eprint, T: Display + Drop>(&self, rt: &R, large: bool, stage: T) {
         if large || self.is_slow(rt) {
             let _ = rt.eprintln(stage);
         }
