@@ -70,6 +70,77 @@ fn dense_argument<'a>(alloc: Global) -> Arg<'a> {
         )
 }
 
+/// An option of a subcommand.
+struct Choice {
+    /// Its name, behind two hyphens.
+    name: &'static str,
+    /// Whether the name of a file stands behind it.
+    has_path: bool,
+    /// What it does.
+    help: &'static str,
+}
+
+/// The options of each subcommand.
+static COMMON: [Choice; 2] = [
+    Choice {
+        name: "json",
+        has_path: false,
+        help: "Write one object of JSON",
+    },
+    Choice {
+        name: "progress",
+        has_path: false,
+        help: "Tell in percent how much of FILE was read",
+    },
+];
+
+/// The options of each subcommand that orders.
+static ORDERING: [Choice; 2] = [
+    Choice {
+        name: "no-aggressive",
+        has_path: false,
+        help: "Do not absorb elements aggressively",
+    },
+    Choice {
+        name: "hold",
+        has_path: true,
+        help: "Hold the rows last whose numbers PATH lists, one a line",
+    },
+];
+
+/// The options of what `order` writes beside the permutation.
+static WRITING: [Choice; 2] = [
+    Choice {
+        name: "permuted",
+        has_path: true,
+        help: "Write the matrix in the new order to PATH, as a pattern",
+    },
+    Choice {
+        name: "tree",
+        has_path: true,
+        help: "Write the elimination tree to PATH: the parent of each column, 0 for a root; and then the supernodes",
+    },
+];
+
+/// The options of what is drawn.
+static DRAWING: [Choice; 3] = [
+    Choice {
+        name: "picture",
+        has_path: true,
+        help: "Draw the pattern before and after to PATH, as SVG",
+    },
+    Choice {
+        name: "symmetric",
+        has_path: false,
+        help: "Draw the pattern of A + A' before, and not that of A",
+    },
+    Choice {
+        name: "tree-picture",
+        has_path: true,
+        help: "Draw the assembly tree to PATH, as SVG",
+    },
+];
+
 /// An option with the name of a file.
 fn path_argument<'a>(alloc: Global, name: &'a str, help: &'a str) -> Arg<'a> {
     Arg::new(alloc, name)
@@ -86,7 +157,7 @@ fn flag_argument<'a>(alloc: Global, name: &'a str, help: &'a str) -> Arg<'a> {
         .help(help)
 }
 
-/// The option with another order, beside the one that asks for the figures under it.
+/// An option with another order, beside the one that asks for the figures under it.
 fn with_argument<'a>(alloc: Global, beside: &'a str) -> Result<Arg<'a>, AllocError> {
     path_argument(
         alloc,
@@ -96,22 +167,35 @@ fn with_argument<'a>(alloc: Global, beside: &'a str) -> Result<Arg<'a>, AllocErr
     .requires_all(&[beside])
 }
 
+/// A subcommand with these options too.
+fn with_choices<'a>(
+    alloc: Global,
+    command: Command<'a>,
+    choices: &'static [Choice],
+) -> Result<Command<'a>, AllocError> {
+    let mut command = command;
+    for choice in choices {
+        let argument = if choice.has_path {
+            path_argument(alloc, choice.name, choice.help)
+        } else {
+            flag_argument(alloc, choice.name, choice.help)
+        };
+        command = command.arg(argument)?;
+    }
+    Ok(command)
+}
+
 /// A subcommand that reads a matrix, with the arguments that all of them have.
 fn matrix_command<'a>(
     alloc: Global,
     name: &'a str,
     about: &'a str,
 ) -> Result<Command<'a>, AllocError> {
-    Command::new(alloc, name)
+    let command = Command::new(alloc, name)
         .about(about)
         .arg(file_argument(alloc))?
-        .arg(dense_argument(alloc))?
-        .arg(flag_argument(alloc, "json", "Write one object of JSON"))?
-        .arg(flag_argument(
-            alloc,
-            "progress",
-            "Tell in percent how much of FILE was read",
-        ))
+        .arg(dense_argument(alloc))?;
+    with_choices(alloc, command, &COMMON)
 }
 
 /// A subcommand that orders the rows of a file, with the arguments that all of them have.
@@ -121,12 +205,8 @@ fn ordering_command<'a>(
     about: &'a str,
     out: &'a str,
 ) -> Result<Command<'a>, AllocError> {
-    let hold = "Hold the rows last whose numbers PATH lists, one a line";
-    let plain = "Do not absorb elements aggressively";
-    matrix_command(alloc, name, about)?
-        .arg(flag_argument(alloc, "no-aggressive", plain))?
-        .arg(path_argument(alloc, "hold", hold))?
-        .arg(path_argument(alloc, "out", out))
+    let command = matrix_command(alloc, name, about)?;
+    with_choices(alloc, command, &ORDERING)?.arg(path_argument(alloc, "out", out))
 }
 
 /// A subcommand with the options that compare orders.
@@ -136,20 +216,8 @@ fn comparing_command<'a>(
     name: &'a str,
 ) -> Result<Command<'a>, AllocError> {
     let help = "Count what the factor needs as the rows stand, and as they are ordered";
-    command
-        .arg(flag_argument(alloc, name, help))?
-        .arg(with_argument(alloc, name)?)
-}
-
-/// A subcommand with the options of what is drawn.
-fn drawing_command<'a>(alloc: Global, command: Command<'a>) -> Result<Command<'a>, AllocError> {
-    let picture = "Draw the pattern before and after to PATH, as SVG";
-    let symmetric = "Draw the pattern of A + A' before, and not that of A";
-    let tree = "Draw the assembly tree to PATH, as SVG";
-    command
-        .arg(path_argument(alloc, "picture", picture))?
-        .arg(flag_argument(alloc, "symmetric", symmetric))?
-        .arg(path_argument(alloc, "tree-picture", tree))
+    let with = with_argument(alloc, name)?;
+    command.arg(flag_argument(alloc, name, help))?.arg(with)
 }
 
 /// The subcommand `order`.
@@ -160,13 +228,9 @@ fn order_command<'a>(alloc: Global) -> Result<Command<'a>, AllocError> {
         "Order the rows and write the permutation, one row a line, counted from 1",
         "Write the permutation to PATH and not to standard output",
     )?;
-    let permuted = "Write the matrix in the new order to PATH, as a pattern";
-    let tree =
-        "Write the elimination tree to PATH: the parent of each column, 0 for a root; and then the supernodes";
-    let command = command
-        .arg(path_argument(alloc, "permuted", permuted))?
-        .arg(path_argument(alloc, "tree", tree))?;
-    drawing_command(alloc, comparing_command(alloc, command, "compare")?)
+    let command = with_choices(alloc, command, &WRITING)?;
+    let command = comparing_command(alloc, command, "compare")?;
+    with_choices(alloc, command, &DRAWING)
 }
 
 /// The subcommand `analyze`.
@@ -225,6 +289,16 @@ fn options_of<'a>(matches: &ArgMatches<'a>) -> Options<'a> {
     }
 }
 
+/// What the subcommand that was found asks for.
+fn request_in<'a>(matches: &ArgMatches<'a>) -> Request<'a> {
+    match matches.subcommand() {
+        Some(("order", found)) => Request::Order(options_of(found)),
+        Some(("analyze", found)) => Request::Analyze(options_of(found)),
+        Some((_, found)) => Request::Info(options_of(found)),
+        None => Request::Info(options_of(matches)),
+    }
+}
+
 /// What the words of a command line ask for, the first of which is the name of the program.
 ///
 /// # Errors
@@ -232,12 +306,7 @@ fn options_of<'a>(matches: &ArgMatches<'a>) -> Options<'a> {
 /// An error with the text to show: for words that are wrong, and for those that ask for help or the version.
 pub fn request_of<'a>(alloc: Global, words: &'a [String]) -> Result<Request<'a>, Error> {
     let matches = whole_command(alloc)?.try_get_matches_from(words)?;
-    match matches.subcommand() {
-        Some(("order", found)) => Ok(Request::Order(options_of(found))),
-        Some(("analyze", found)) => Ok(Request::Analyze(options_of(found))),
-        Some((_, found)) => Ok(Request::Info(options_of(found))),
-        None => Ok(Request::Info(options_of(&matches))),
-    }
+    Ok(request_in(&matches))
 }
 
 /// The thousandths that the places behind the point spell: none, or up to three digits.
