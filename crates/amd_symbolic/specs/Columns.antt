@@ -4,6 +4,7 @@ use Rattle.std.specs.Prelude.{slice_index_or, slice_range}
 use Rattle.amd_model.specs.Factor.{IsFactor, needed}
 use Rattle.amd_model.specs.Figures.{entries}
 use Rattle.amd_model.specs.Graph.{Graph}
+use Rattle.amd_symbolic.specs.Orders.{Order}
 
 -- the first entry of a column, or none
 abbrev pub first_of : List ℕ → Option ℕ
@@ -34,3 +35,12 @@ pub record PassesRoom (g : Graph) (p : List ℕ) (room : ℕ) : Type 0 where
   pub columns : List (List ℕ)
   pub factor : IsFactor g p columns
   pub more : room < needed entries columns
+
+-- the lists in which the factor of an order is made have a place for each row, and one pointer more
+pub record FactorSizes (o : Order) (ptr : List ℕ) (parent : List (Option ℕ)) (mark : List ℕ) (link : List (Option ℕ))
+    (new : List ℕ) : Type 0 where
+  pub pointers : length ptr ≡ length o.rows + 1
+  pub parents : length parent ≡ length o.rows
+  pub marks : length mark ≡ length o.rows
+  pub links : length link ≡ length o.rows
+  pub fresh : length new ≡ length o.rows

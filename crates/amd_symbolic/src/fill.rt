@@ -6,7 +6,7 @@ ghost use Rattle.std.specs.Prelude.{ℕ, ◌≡◌, ◌<◌, ◌≤◌, ◌+◌,
 ghost use Rattle.std.specs.Prelude.{List, take};
 ghost use Rattle.std.specs.Vec.{vec_capacity};
 ghost use Rattle.amd_model.specs.Graph.{IsGraph};
-ghost use Rattle.amd_symbolic.specs.Columns.{HoldFactor, PassesRoom};
+ghost use Rattle.amd_symbolic.specs.Columns.{FactorSizes, HoldFactor, PassesRoom};
 ghost use Rattle.amd_symbolic.specs.Orders.{Order};
 ghost use Rattle.amd_symbolic.specs.Neighbours.{AreLater, HasLater};
 ghost use Rattle.amd_symbolic.specs.Numbers.{FillsFront};
@@ -95,11 +95,7 @@ pub fn fill<N: PrimInt, A: Allocator>(
     requires laws { IsGraph o.graph }
     requires fits { (j : ℕ) → j < length o.rows → N.fits (pos j) }
     requires later { HasLater o starts.now later.now }
-    requires pointers { length ptr.old ≡ length o.rows + 1 }
-    requires parents { length parent.old ≡ length o.rows }
-    requires marks { length mark.old ≡ length o.rows }
-    requires links { length link.old ≡ length o.rows }
-    requires fresh { length fresh.old ≡ length o.rows }
+    requires sizes { FactorSizes o ptr.old parent.old mark.old link.old fresh.old }
     requires empty { rows.old.items ≡ [] }
     requires capacity { room ≤ vec_capacity rows.old }
     ensures factor { MatchOption result (PassesRoom o.graph o.rows room)
@@ -191,14 +187,10 @@ pub fn fill_into<N: PrimInt>(
     fresh: &mut [usize],
 ) -> Option<usize>
     ghost o: { Order }
+    requires sizes { FactorSizes o ptr.old parent.old mark.old link.old fresh.old }
     requires laws { IsGraph o.graph }
     requires fits { (j : ℕ) → j < length o.rows → N.fits (pos j) }
     requires later { HasLater o starts.now later.now }
-    requires pointers { length ptr.old ≡ length o.rows + 1 }
-    requires parents { length parent.old ≡ length o.rows }
-    requires marks { length mark.old ≡ length o.rows }
-    requires links { length link.old ≡ length o.rows }
-    requires fresh { length fresh.old ≡ length o.rows }
     ensures factor { MatchOption result (PassesRoom o.graph o.rows (length rows.old))
         (λ total. (entries : List ℕ) × (total ≡ length entries) ×
         (map N.value rows.new ≡ map pos entries ++ drop total (map N.value rows.old)) ×

@@ -28,20 +28,14 @@ fill-requires g c κs inside =
               (
                 h,
                 (
-                  ptr ∙ h.room,
-                  (
-                    parent ∙ columns,
-                    (
-                      mark ∙ columns,
-                      (
-                        link ∙ columns,
-                        (
-                          fresh ∙ columns,
-                          (c.in_ok-rows.ensures.items, (let e = c.in_ok-rows.ensures.exact in omega (arith, e))),
-                        ),
-                      ),
-                    ),
-                  ),
+                  record {
+                    pointers = ptr ∙ h.room;
+                    parents = parent ∙ columns;
+                    marks = mark ∙ columns;
+                    links = link ∙ columns;
+                    fresh = fresh ∙ columns;
+                  },
+                  (c.in_ok-rows.ensures.items, (let e = c.in_ok-rows.ensures.exact in omega (arith, e))),
                 ),
               ),
             ),

@@ -19,7 +19,7 @@ add_column-requires g c κs inside =
                 q.1.0,
                 (
                   q.1.1.0.each c.columns.k (omega (arith, r, t)),
-                  (i.filled, (c.columns.auto.fresh ∙ q.1.1.1.1.1.1.1.0, (i.full, (i.within, i.capacity)))),
+                  (i.filled, (c.columns.auto.fresh ∙ q.1.1.1.0.fresh, (i.full, (i.within, i.capacity)))),
                 ),
               ),
             ),
@@ -34,7 +34,7 @@ returns-clause-factor g c =
     let i = c.columns.invariant in
     let r = i.filled.filled.parents.room in let t = c.columns-test.false in
     let end = c.columns.auto.k-end in
-    let from = q.1.1.1.1.0 in
+    let from = q.1.1.1.0.parents in
     let all : c.columns.k ≡ length g.o.rows = at_end c.columns.k (length c.args.parent.now) (length g.o.rows) t end from in
     let places : c.columns.k ≡ length c.columns.parent = all ∙ sym r in
     list_written {N = g.row.N.Denot} g.N.Number.value g.o q.0 c.columns.k (length c.columns.parent) c.columns.ptr c.columns.rows.items

@@ -11,14 +11,14 @@ add_column_into-requires g c κs inside =
       (
         inside.1,
         (
-          q.0,
+          q.1.0,
           (
             omega (arith, r, t),
             (
-              q.1.0,
+              q.1.1.0,
               (
-                q.1.1.0.each c.columns.k (omega (arith, r, t)),
-                (i.filled, c.columns.auto.fresh ∙ q.1.1.1.1.1.1.1),
+                q.1.1.1.each c.columns.k (omega (arith, r, t)),
+                (i.filled, c.columns.auto.fresh ∙ q.0.fresh),
               ),
             ),
           ),
@@ -41,9 +41,9 @@ returns g c =
     let i = c.columns.invariant in
     let r = i.filled.filled.parents.room in let t = c.columns-test.false in
     let end = c.columns.auto.k-end in
-    let from = q.1.1.1.1.0 in
+    let from = q.0.parents in
     record {
-      factor = front_written g.N.Number.value g.o q.0 c.columns.k (length c.columns.parent) c.columns.ptr c.columns.rows
+      factor = front_written g.N.Number.value g.o q.1.0 c.columns.k (length c.columns.parent) c.columns.ptr c.columns.rows
           c.columns.parent c.columns.link c.columns.marked.column c.columns.marked.stamp c.columns.mark i.filled
           (omega (arith, t, end, from)) (omega (arith, t, end, from, r)) c.args.rows.now i.rest;
     }

@@ -18,7 +18,16 @@ fill_into-requires g c κs inside =
       inside.0,
       (
         inside.1,
-        (r.0, (r.1.0, (h, (ptr ∙ h.room, (parent ∙ columns, (mark ∙ columns, (link ∙ columns, fresh ∙ columns))))))),
+        (
+          record {
+            pointers = ptr ∙ h.room;
+            parents = parent ∙ columns;
+            marks = mark ∙ columns;
+            links = link ∙ columns;
+            fresh = fresh ∙ columns;
+          },
+          (r.0, (r.1.0, h)),
+        ),
       ),
     )
 
