@@ -1,6 +1,6 @@
 -- Rows that are written as numbers of a caller's type: what they say as counts.
 use Rattle.std.proofs.Common.{ℕ, ℤ, pos, ◌≡◌, ◌<◌, ◌≤◌, ◌*◌, ◌^◌, Fits, w64, arith, refl, sym, ◌∙◌, ap, subst, List, [], ◌∷◌, length, map, set}
-use Rattle.std.specs.Prelude.{◌≤ℤ◌, unsigned_abs}
+use Rattle.std.specs.Prelude.{◌<ℤ◌, unsigned_abs}
 use Rattle.std.specs.Int.{FitsUnsignedBits}
 use Rattle.std.proofs.Math.Nat.{mul-le-mul_right}
 use Rattle.std.proofs.lemmas.Int.{ints}
@@ -32,11 +32,8 @@ in-range j n m l e = omega (arith, l, e)
 pub at-end : (j n m : ℕ) → n ≤ j → j ≤ n → n ≡ m → j ≡ m
 at-end j n m least most e = omega (arith, least, most, e)
 
-pub pos-low : (j : ℕ) → pos 0 ≤ℤ pos j
-pos-low j = omega (arith, ints)
-
-pub pos-most : (j n : ℕ) → j < n → pos j ≤ℤ pos n
-pos-most j n l = omega (arith, ints, l)
+pub pos-below : (j n : ℕ) → j < n → pos j <ℤ pos n
+pos-below j n l = omega (arith, ints, l)
 
 -- a length fits into a usize
 pub usize-fits : (z : ℤ) (n : ℕ) → z ≡ pos n → n < 2 ^ 64 → FitsUnsignedBits 64 z

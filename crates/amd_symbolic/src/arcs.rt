@@ -8,7 +8,7 @@ ghost use Rattle.amd_symbolic.specs.Arcs.{IsNext, arcs_before};
 ghost use Rattle.amd_symbolic.specs.Places.{ArePlaces};
 
 use amd::internal::count_at;
-use num_traits::PrimInt;
+use amd_types::index::Index;
 
 /// What takes the arcs of an order of `n` rows, one at a time. What holds of it speaks of `n`, of all arcs that it is
 /// to take, and of those that it took, the last one first.
@@ -36,7 +36,7 @@ fn in_order(a: usize, b: usize) -> (usize, usize)
 ///
 /// Which of the two places of an entry is the later one is as good as drawn, so that is no branch: only its test against
 /// an entry on the diagonal is one.
-fn column<I: PrimInt, V: ArcVisitor>(
+fn column<I: Index, V: ArcVisitor>(
     size: usize,
     column: usize,
     a_p: &[I],
@@ -67,7 +67,7 @@ fn column<I: PrimInt, V: ArcVisitor>(
 
 /// Hands on the arcs of all entries of a matrix with `size` rows and columns, column by column. The matrix may have
 /// columns out of order and repeats; each repeat gives its arc again. `places` holds the place of each row.
-pub fn walk<I: PrimInt, V: ArcVisitor>(
+pub fn walk<I: Index, V: ArcVisitor>(
     size: usize,
     a_p: &[I],
     a_i: &[I],

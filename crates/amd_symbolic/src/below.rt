@@ -11,10 +11,10 @@ ghost use Rattle.amd_symbolic.specs.Partitions.{WrittenTo};
 ghost use Rattle.amd_symbolic.specs.Supernodes.{HoldSupernodes};
 
 use amd::internal::from_count;
-use num_traits::PrimInt;
+use amd_types::index::Index;
 
 /// Writes 0 into each place.
-fn clear<I: PrimInt>(numbers: &mut [I])
+fn clear<I: Index>(numbers: &mut [I])
     ensures room { length numbers.new ≡ length numbers.old }
     ensures told { AreCounts (map I.value numbers.new) }
 {
@@ -25,7 +25,7 @@ fn clear<I: PrimInt>(numbers: &mut [I])
 }
 
 /// Puts the row `j`, which is that number, behind the rows of supernode `s`, marks that, and returns the parent of `s`.
-fn put_row<I: PrimInt>(
+fn put_row<I: Index>(
     j: usize,
     number: I,
     s: usize,
@@ -55,7 +55,7 @@ fn put_row<I: PrimInt>(
 }
 
 /// Puts the row `j` in supernode `from` and in those over it, up to one that has its mark.
-fn climb<I: PrimInt>(
+fn climb<I: Index>(
     j: usize,
     number: I,
     from: usize,
@@ -83,7 +83,7 @@ fn climb<I: PrimInt>(
 }
 
 /// Puts the row `j` in each supernode below whose block it is.
-fn add_row<I: PrimInt>(
+fn add_row<I: Index>(
     j: usize,
     number: I,
     earlier: &[usize],
@@ -121,7 +121,7 @@ fn add_row<I: PrimInt>(
 /// have as many places as there are supernodes.
 ///
 /// No memory is asked for. The steps are as many as there are earlier neighbours, rows below the blocks, and places.
-pub fn fill_rows<I: PrimInt>(
+pub fn fill_rows<I: Index>(
     starts: &[usize],
     earlier: &[usize],
     first: &[usize],

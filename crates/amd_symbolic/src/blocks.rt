@@ -10,7 +10,7 @@ ghost use Rattle.amd_symbolic.specs.Supernodes.{IsSupernodesOf};
 use crate::below::fill_rows;
 use crate::neighbours::NeighbourLists;
 use crate::partition::Cut;
-use num_traits::PrimInt;
+use amd_types::index::Index;
 use std::alloc::Allocator;
 
 /// The columns of a factor below its diagonal, by supernodes.
@@ -51,7 +51,7 @@ pub struct Partitioned<A: Allocator> {
 /// numbers has the number of rows of the matrix. No memory is asked for; what the work took is given back.
 ///
 /// Source: Liu 1990; Liu, Ng and Peyton 1993.
-pub fn write_rows<I: PrimInt, A: Allocator>(partition: Partitioned<A>, rows: &mut [I]) -> Cut<A>
+pub fn write_rows<I: Index, A: Allocator>(partition: Partitioned<A>, rows: &mut [I]) -> Cut<A>
     ghost m: { Matrix }
     requires partition { IsPartitionOf m partition.cut.first.items partition.cut.owner.items partition.cut.ptr.items
         partition.cut.parent.items partition.lists.starts.items partition.lists.neighbours.items }

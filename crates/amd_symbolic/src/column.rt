@@ -20,7 +20,7 @@ use crate::children::{greatest_child, has_only_child, link_child};
 use crate::gathering::{gather, gather_places, mark_rows};
 use crate::merge::write_merged;
 use crate::numbers::place_at;
-use num_traits::PrimInt;
+use amd_types::index::Index;
 
 /// A column, if there is one, and the mark of its entries: those of the rows behind it that have the mark.
 #[derive(Clone, Copy)]
@@ -61,7 +61,7 @@ pub fn inherited(k: usize, base: Option<usize>, ptr: &[usize]) -> (usize, usize)
 }
 
 /// Lists the rows of the children of column `k` but `base` that have no mark, marks them, and returns how many.
-pub fn gather_children<N: PrimInt>(
+pub fn gather_children<N: Index>(
     k: usize,
     base: usize,
     stamp: usize,
@@ -110,7 +110,7 @@ fn tells(marked: Marked, base: Option<usize>) -> bool
 }
 
 /// Gives the rows that column `k` takes over a mark, where they have none yet, and returns it.
-fn mark_base<N: PrimInt>(
+fn mark_base<N: Index>(
     k: usize,
     base: Option<usize>,
     rows: &[N],
@@ -137,7 +137,7 @@ fn mark_base<N: PrimInt>(
 /// the marks then tell. `base` is a child, if there is any, and `rows[from..to]` are its entries behind place `k`.
 ///
 /// Where it is the only child and there is no later neighbour, nothing is new, and no mark is written for it.
-pub fn new_rows<N: PrimInt>(
+pub fn new_rows<N: Index>(
     k: usize,
     base: Option<usize>,
     from: usize,
@@ -181,7 +181,7 @@ pub fn new_rows<N: PrimInt>(
 }
 
 /// Plans column `k`: lists its new rows, rising, in `fresh`.
-pub fn plan_column<N: PrimInt>(
+pub fn plan_column<N: Index>(
     k: usize,
     neighbours: &[usize],
     marked: Marked,
@@ -219,7 +219,7 @@ pub fn plan_column<N: PrimInt>(
 }
 
 /// Closes column `k`, whose entries end before place `end`: its pointer, its parent, and its link as a child.
-fn close_column<N: PrimInt>(
+fn close_column<N: Index>(
     k: usize,
     end: usize,
     ptr: &mut [usize],
@@ -255,7 +255,7 @@ fn close_column<N: PrimInt>(
 }
 
 /// Writes column `k`, as it is planned, behind those before it and up to the end of `rows`, and closes it.
-pub fn finish_column<N: PrimInt>(
+pub fn finish_column<N: Index>(
     k: usize,
     from: usize,
     to: usize,

@@ -19,11 +19,12 @@ use crate::ordering::ordered_lists;
 use amd::internal::to_count;
 use amd::valid::valid;
 use amd::{Control, Info, Status, order, order_holding};
+use amd_types::index::Index;
 use num_traits::PrimInt;
 use std::alloc::Allocator;
 
 /// The counts of a column form with `size` rows and columns.
-fn form_counts<I: PrimInt, A: Allocator + Copy>(
+fn form_counts<I: Index, A: Allocator + Copy>(
     alloc: A,
     size: usize,
     a_p: &[I],

@@ -19,6 +19,7 @@ use crate::forms::is_form;
 use crate::neighbours::later_lists;
 use crate::places::places;
 use amd::internal::to_count;
+use amd_types::index::Index;
 use num_traits::PrimInt;
 use std::alloc::{AllocError, AllocFailed, Allocator};
 
@@ -127,7 +128,7 @@ fn written_factor<A: Allocator + Copy>(
 }
 
 /// The factor of a column form with `size` rows and columns.
-fn form_columns<I: PrimInt, A: Allocator + Copy>(
+fn form_columns<I: Index, A: Allocator + Copy>(
     alloc: A,
     size: usize,
     a_p: &[I],

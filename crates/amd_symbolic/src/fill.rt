@@ -12,12 +12,12 @@ ghost use Rattle.amd_symbolic.specs.Neighbours.{AreLater, HasLater};
 ghost use Rattle.amd_symbolic.specs.Numbers.{FillsFront};
 
 use crate::column::{Marked, finish_column, plan_column};
-use num_traits::PrimInt;
+use amd_types::index::Index;
 use std::alloc::Allocator;
 
 /// Writes column `k` behind those before it, and returns the column that the marks then tell; none, exactly where it
 /// does not fit.
-fn add_column<N: PrimInt, A: Allocator>(
+fn add_column<N: Index, A: Allocator>(
     k: usize,
     neighbours: &[usize],
     marked: Marked,
@@ -80,7 +80,7 @@ fn add_column<N: PrimInt, A: Allocator>(
 /// No memory is asked for. The steps are as many as there are later neighbours, entries and rows, times at most the
 /// logarithm of the number of rows that are new in a column: those that it does not take over from its greatest child.
 /// Each place is a number of the type.
-pub fn fill<N: PrimInt, A: Allocator>(
+pub fn fill<N: Index, A: Allocator>(
     starts: &[usize],
     later: &[usize],
     room: usize,
@@ -123,7 +123,7 @@ pub fn fill<N: PrimInt, A: Allocator>(
 }
 
 /// Writes column `k` behind those before it, as `add_column`, into numbers of a caller; what is behind it stays.
-fn add_column_into<N: PrimInt>(
+fn add_column_into<N: Index>(
     k: usize,
     neighbours: &[usize],
     marked: Marked,
@@ -176,7 +176,7 @@ fn add_column_into<N: PrimInt>(
 
 /// Writes the columns of the factor as `fill`, into numbers of a caller, and returns how many; none, exactly where
 /// there are more entries than `rows` has places. Each place is a number of the type.
-pub fn fill_into<N: PrimInt>(
+pub fn fill_into<N: Index>(
     starts: &[usize],
     later: &[usize],
     ptr: &mut [usize],

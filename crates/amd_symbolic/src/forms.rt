@@ -6,10 +6,10 @@ ghost use Rattle.std.specs.Prelude.{◌≡◌, ◌<◌, ◌≤◌, ◌+◌, ◌�
 ghost use Rattle.amd_model.specs.Input.Columns.{IsColumnForm, IsRow, at};
 
 use amd::internal::{is_below, is_negative, to_count, value_at};
-use num_traits::PrimInt;
+use amd_types::index::Index;
 
 /// Whether the pointers up to that at place `size` never descend.
-fn ascend<I: PrimInt>(a_p: &[I], size: usize) -> bool
+fn ascend<I: Index>(a_p: &[I], size: usize) -> bool
     requires within { size < length a_p.now }
     ensures ascend { result ≡ true → (j : ℕ) → j < size →
         at (map I.value a_p.now) j ≤ℤ at (map I.value a_p.now) (j + 1) }
@@ -27,7 +27,7 @@ fn ascend<I: PrimInt>(a_p: &[I], size: usize) -> bool
 }
 
 /// Whether the first `count` numbers are rows of a matrix with `n` rows.
-fn are_rows<I: PrimInt>(n: I, a_i: &[I], count: usize) -> bool
+fn are_rows<I: Index>(n: I, a_i: &[I], count: usize) -> bool
     requires within { count ≤ length a_i.now }
     ensures are { result ≡ true → (k : ℕ) → k < count → IsRow (I.value n) (at (map I.value a_i.now) k) }
     ensures are_not { result ≡ false → (k : ℕ) × (k < count) × (¬ (IsRow (I.value n) (at (map I.value a_i.now) k))) }
@@ -44,7 +44,7 @@ fn are_rows<I: PrimInt>(n: I, a_i: &[I], count: usize) -> bool
 }
 
 /// Whether an input with `n` rows and columns is a column form, as that of [`amd::order`]; `size` is `n`.
-pub fn is_form<I: PrimInt>(n: I, size: usize, a_p: &[I], a_i: &[I]) -> bool
+pub fn is_form<I: Index>(n: I, size: usize, a_p: &[I], a_i: &[I]) -> bool
     requires size { I.value n ≡ pos size }
     ensures form { result ≡ true → IsColumnForm (pos size) size (map I.value a_p.now) (map I.value a_i.now) }
     ensures none { result ≡ false → ¬ (IsColumnForm (pos size) size (map I.value a_p.now) (map I.value a_i.now)) }

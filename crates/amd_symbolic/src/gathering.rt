@@ -6,10 +6,10 @@ ghost use Rattle.amd_symbolic.specs.Gathering.{Column, EntryOf, Marks};
 ghost use Rattle.amd_symbolic.specs.Numbers.{AreCounts};
 
 use crate::numbers::place_at;
-use num_traits::PrimInt;
+use amd_types::index::Index;
 
 /// Gives each of the rows this mark.
-pub fn mark_rows<N: PrimInt>(rows: &[N], stamp: usize, mark: &mut [usize])
+pub fn mark_rows<N: Index>(rows: &[N], stamp: usize, mark: &mut [usize])
     requires numbers { AreCounts (map N.value rows.now) }
     requires within { (j : ℕ) → Contains (counts (map N.value rows.now)) j → j < length mark.old }
     ensures marked { (j : ℕ) → Contains (counts (map N.value rows.now)) j → slice_index mark.new j ≡ stamp }
@@ -51,7 +51,7 @@ fn list_row(
 
 /// Lists each of the rows that has not this mark yet behind the first `count` of `fresh`, and marks it. Returns how
 /// many are listed then.
-pub fn gather<N: PrimInt>(
+pub fn gather<N: Index>(
     rows: &[N],
     stamp: usize,
     count: usize,

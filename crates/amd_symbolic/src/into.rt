@@ -19,6 +19,7 @@ use crate::forms::is_form;
 use crate::neighbours::later_lists;
 use crate::places::places;
 use amd::internal::to_count;
+use amd_types::index::Index;
 use num_traits::PrimInt;
 use std::alloc::{AllocError, Allocator};
 
@@ -50,7 +51,7 @@ fn empty_frame<A: Allocator + Copy>(alloc: A) -> Result<Frame<A>, Fault>
 /// # Errors
 ///
 /// A refused request for memory; `rows` stays as it was.
-fn written_into<I: PrimInt, A: Allocator + Copy>(
+fn written_into<I: Index, A: Allocator + Copy>(
     alloc: A,
     starts: &[usize],
     later: &[usize],
@@ -88,7 +89,7 @@ fn written_into<I: PrimInt, A: Allocator + Copy>(
 }
 
 /// The factor of a column form with `size` rows and columns.
-fn form_columns_into<I: PrimInt, A: Allocator + Copy>(
+fn form_columns_into<I: Index, A: Allocator + Copy>(
     alloc: A,
     size: usize,
     a_p: &[I],

@@ -5,11 +5,11 @@ ghost use Rattle.amd_types.specs.Counts.{counts};
 ghost use Rattle.amd_symbolic.specs.Numbers.{AreCounts};
 
 use amd::internal::{count_at, from_count};
-use num_traits::PrimInt;
+use amd_types::index::Index;
 
 /// The place that the number at `k` is, which is below the length of `numbers`.
 #[inline]
-pub fn place_at<N: PrimInt>(numbers: &[N], k: usize) -> usize
+pub fn place_at<N: Index>(numbers: &[N], k: usize) -> usize
     requires numbers { AreCounts (map N.value numbers.now) }
     requires within { k < length numbers.now }
     requires small { slice_index (counts (map N.value numbers.now)) k < 2 ^ 64 }
@@ -20,7 +20,7 @@ pub fn place_at<N: PrimInt>(numbers: &[N], k: usize) -> usize
 
 /// The number that a place is, which the type has.
 #[inline]
-pub fn number_of<N: PrimInt>(place: usize) -> N
+pub fn number_of<N: Index>(place: usize) -> N
     requires { N.fits (pos place) }
     ensures { N.value result ≡ pos place }
 {
@@ -32,7 +32,7 @@ pub fn number_of<N: PrimInt>(place: usize) -> N
 
 /// Writes places, which the type has, as numbers of it. One place alone, as in most of the lists, is written without the
 /// call of a copy that a loop over numbers of the same width becomes.
-pub fn write_places<N: PrimInt>(places: &[usize], numbers: &mut [N])
+pub fn write_places<N: Index>(places: &[usize], numbers: &mut [N])
     requires room { length numbers.old ≡ length places.now }
     requires fits { (k : ℕ) → k < length places.now → N.fits (pos (slice_index places.now k)) }
     ensures { map N.value numbers.new ≡ map pos places.now }

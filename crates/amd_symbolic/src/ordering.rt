@@ -12,7 +12,7 @@ ghost use Rattle.amd_symbolic.specs.Orders.{Permutes};
 use crate::factor::Fault;
 use crate::neighbours::{NeighbourLists, earlier_lists};
 use crate::places::places;
-use num_traits::PrimInt;
+use amd_types::index::Index;
 use std::alloc::Allocator;
 
 /// The earlier neighbours of each place of a column form with `size` rows and columns, in the order that `p` lists.
@@ -20,7 +20,7 @@ use std::alloc::Allocator;
 /// # Errors
 ///
 /// `NotPermutation` where `p` does not list each row, once; and `OutOfMemory`.
-pub fn ordered_lists<I: PrimInt, A: Allocator + Copy>(
+pub fn ordered_lists<I: Index, A: Allocator + Copy>(
     alloc: A,
     size: usize,
     a_p: &[I],

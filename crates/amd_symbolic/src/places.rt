@@ -7,7 +7,7 @@ ghost use Rattle.amd_types.specs.Counts.{counts};
 ghost use Rattle.amd_symbolic.specs.Places.{ArePlaces};
 
 use amd::internal::{to_count, value_at};
-use num_traits::PrimInt;
+use amd_types::index::Index;
 use std::alloc::{AllocError, Allocator};
 
 /// The place of each of `size` rows in the list `p`: row `p[k]` has place `k`. `None` where `p` does not list each
@@ -17,7 +17,7 @@ use std::alloc::{AllocError, Allocator};
 /// # Errors
 ///
 /// A refused request for memory. None is made for a list of another length.
-pub fn places<I: PrimInt, A: Allocator>(
+pub fn places<I: Index, A: Allocator>(
     alloc: A,
     size: usize,
     p: &[I],

@@ -19,11 +19,12 @@ use crate::partition::{Cut, cut_places};
 use amd::Status;
 use amd::internal::to_count;
 use amd::valid::valid;
+use amd_types::index::Index;
 use num_traits::PrimInt;
 use std::alloc::{AllocError, Allocator};
 
 /// The supernodes of a column form with `size` rows and columns, but for the rows below the blocks.
-fn form_partition<I: PrimInt, A: Allocator + Copy>(
+fn form_partition<I: Index, A: Allocator + Copy>(
     alloc: A,
     size: usize,
     a_p: &[I],

@@ -6,8 +6,8 @@ use Rattle.amd_symbolic.proofs.arcs.column.Given as goal
 
 abbrev pub invariant-entries : goal.invariant-entries
 invariant-entries g l = record {
-  from : get_or (counts (map g.I.Number.value l.a_p)) l.column 0 ≤ l.entry;
-  held : g.V.ArcVisitor.holds l.fn.size (arcs_before l.places (counts (map g.I.Number.value l.a_p)) (counts (map g.I.Number.value l.a_i))
+  from : get_or (counts (map g.I.Index.value l.a_p)) l.column 0 ≤ l.entry;
+  held : g.V.ArcVisitor.holds l.fn.size (arcs_before l.places (counts (map g.I.Index.value l.a_p)) (counts (map g.I.Index.value l.a_i))
       l.fn.size)
-      (so_far l.places (counts (map g.I.Number.value l.a_p)) (counts (map g.I.Number.value l.a_i)) l.column l.entry) l.visitor;
+      (so_far l.places (counts (map g.I.Index.value l.a_p)) (counts (map g.I.Index.value l.a_i)) l.column l.entry) l.visitor;
 }

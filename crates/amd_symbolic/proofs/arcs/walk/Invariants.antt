@@ -5,6 +5,6 @@ use Rattle.amd_symbolic.proofs.arcs.walk.Given as goal
 
 abbrev pub invariant-columns : goal.invariant-columns
 invariant-columns g l =
-    g.V.ArcVisitor.holds l.fn.size (arcs_before l.places (counts (map g.I.Number.value l.a_p)) (counts (map g.I.Number.value l.a_i))
+    g.V.ArcVisitor.holds l.fn.size (arcs_before l.places (counts (map g.I.Index.value l.a_p)) (counts (map g.I.Index.value l.a_i))
     l.fn.size)
-    (arcs_before l.places (counts (map g.I.Number.value l.a_p)) (counts (map g.I.Number.value l.a_i)) l.j) l.visitor
+    (arcs_before l.places (counts (map g.I.Index.value l.a_p)) (counts (map g.I.Index.value l.a_i)) l.j) l.visitor

@@ -9,7 +9,7 @@ ghost-climb g a = g.b
 
 abbrev pub invariant-earlier : goal.invariant-earlier
 invariant-earlier g l = record {
-  climbs : Climbs g.b l.j (slice_index g.b.owner l.j) l.next l.mark (counts (map g.I.Number.value l.rows));
-  told : AreCounts (map g.I.Number.value l.rows);
+  climbs : Climbs g.b l.j (slice_index g.b.owner l.j) l.next l.mark (counts (map g.I.Index.value l.rows));
+  told : AreCounts (map g.I.Index.value l.rows);
   marked : (s : ℕ) → s < l.i-index → IsMarkedBy l.mark l.j (slice_index g.b.owner (slice_index l.earlier s));
 }

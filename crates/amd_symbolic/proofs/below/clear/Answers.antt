@@ -8,6 +8,6 @@ pub returns-clause-told : goal.returns-clause-told
 returns-clause-told g c =
     let all : c.numbers.k ≡ length c.numbers.numbers = (let most = c.numbers.auto.k-end in let least = c.numbers-test.false in
     let size = c.numbers.invariant.size in omega (arith, most, least, size)) in
-    told-from (map g.I.Number.value c.numbers.numbers) (replicate c.numbers.k 0)
-    (ap (map g.I.Number.value) (sym (ap (λ k. take k c.numbers.numbers) all ∙ take-length c.numbers.numbers))
+    told-from (map g.I.Index.value c.numbers.numbers) (replicate c.numbers.k 0)
+    (ap (map g.I.Index.value) (sym (ap (λ k. take k c.numbers.numbers) all ∙ take-length c.numbers.numbers))
     ∙ c.numbers.invariant.items)

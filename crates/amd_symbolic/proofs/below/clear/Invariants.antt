@@ -5,5 +5,5 @@ use Rattle.amd_symbolic.proofs.below.clear.Given as goal
 abbrev pub invariant-numbers : goal.invariant-numbers
 invariant-numbers g l = record {
   size : length l.numbers ≡ length l.initial.numbers;
-  items : map g.I.Number.value (take l.k l.numbers) ≡ map pos (replicate l.k 0);
+  items : map g.I.Index.value (take l.k l.numbers) ≡ map pos (replicate l.k 0);
 }

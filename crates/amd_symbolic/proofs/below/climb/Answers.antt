@@ -22,5 +22,5 @@ up-preserved g c =
     }
 
 pub returns-clause-climbs : goal.returns-clause-climbs
-returns-clause-climbs g c = climbs-over g.b c.args.j c.up.s c.up.next c.up.mark (counts (map g.I.Number.value c.up.rows))
+returns-clause-climbs g c = climbs-over g.b c.args.j c.up.s c.up.next c.up.mark (counts (map g.I.Index.value c.up.rows))
     c.up.invariant.climbs c.up-test.false

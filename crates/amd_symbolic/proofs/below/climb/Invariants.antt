@@ -9,8 +9,8 @@ ghost-put_row g a = g.b
 
 abbrev pub invariant-up : goal.invariant-up
 invariant-up g l = record {
-  climbs : Climbs g.b l.j l.s l.next l.mark (counts (map g.I.Number.value l.rows));
-  told : AreCounts (map g.I.Number.value l.rows);
+  climbs : Climbs g.b l.j l.s l.next l.mark (counts (map g.I.Index.value l.rows));
+  told : AreCounts (map g.I.Index.value l.rows);
   marked : IsMarkedBy l.mark l.j l.from ⊎ (l.from ≡ l.s);
   kept : (t : ℕ) → IsMarkedBy l.initial.mark l.j t → IsMarkedBy l.mark l.j t;
 }

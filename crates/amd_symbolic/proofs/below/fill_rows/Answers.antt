@@ -1,44 +1,41 @@
 use Rattle.std.proofs.Common.{pos, ap, subst, length, map}
 use Rattle.amd_types.specs.Counts.{counts}
+use Rattle.amd_types.proofs.Fitting.{fits_below}
 use Rattle.amd_symbolic.specs.Partitions.{WrittenTo}
 use Rattle.amd_symbolic.proofs.SupernodeRows.{hold-supernodes}
 use Rattle.amd_symbolic.proofs.SupernodeTree.{places}
-use Rattle.amd_symbolic.proofs.TypedRows.{at-end, in-range, pos-low, pos-most}
+use Rattle.amd_symbolic.proofs.TypedRows.{at-end, in-range, pos-below}
 use Rattle.amd_symbolic.proofs.below.fill_rows.Goals as goal
 
 pub unreachable-requires : goal.unreachable-requires
 unreachable-requires g c =
-    let below = in-range c.rows.j (length c.args.owner.now) (length g.b.owner) c.rows-test.true (ap length c.requires.1.1.1.1.1.0) in
-    let exact = g.met.I.Integral.exact_law in
-    c.in_default.ensures (g.I.Number.between_law (pos 0) (pos c.rows.j) (pos (length g.b.owner)) exact
-    (g.met.I.Zero.zero_fits_law exact) c.requires.1.1.1.1.1.1.1.1.1.1.1.1 (pos-low c.rows.j) (pos-most c.rows.j (length g.b.owner) below))
+    let below = in-range c.rows.j (length c.args.owner.now) (length g.b.owner) c.rows-test.true (ap length c.requires.1.1.1.1.0) in
+    c.in_default.ensures (fits_below g.I.Index.fits g.met.I.Index.zero_fits g.met.I.Index.between c.rows.j (pos (length g.b.owner))
+    c.requires.1.1.1.1.1.1.1.1.1.1.1 (pos-below c.rows.j (length g.b.owner) below))
 
 pub add_row-requires : goal.add_row-requires
 add_row-requires g c κs within =
     let t = c.rows-test.true in
-    let o = ap length c.requires.1.1.1.1.1.0 in let p = places g.b c.requires.1.1.1.0.columns c.requires.1.1.1.0.partition in
+    let o = ap length c.requires.1.1.1.1.0 in let p = places g.b c.requires.1.1.0.columns c.requires.1.1.0.partition in
     let here = in-range c.rows.j (length c.args.owner.now) (length g.b.owner) t o in (
-      within.0,
+      within,
       (
-        within.1,
+        c.requires.1.0,
         (
-          c.requires.1.1.0,
+          here,
           (
-            here,
+            c.in-Some.ensures.1,
             (
-              c.in-Some.ensures.1,
+              c.requires.1.1.1.1.0,
               (
-                c.requires.1.1.1.1.1.0,
+                c.requires.1.1.1.1.1.1.0,
                 (
-                  c.requires.1.1.1.1.1.1.1.0,
+                  c.requires.1.1.1.1.1.1.1.0.each c.rows.j (in-range c.rows.j (length g.b.owner) (length g.b.order.rows) here p),
                   (
-                    c.requires.1.1.1.1.1.1.1.1.0.each c.rows.j (in-range c.rows.j (length g.b.owner) (length g.b.order.rows) here p),
+                    c.rows.invariant.written,
                     (
-                      c.rows.invariant.written,
-                      (
-                        c.rows.invariant.marks,
-                        c.rows.invariant.told,
-                      ),
+                      c.rows.invariant.marks,
+                      c.rows.invariant.told,
                     ),
                   ),
                 ),
@@ -52,6 +49,6 @@ add_row-requires g c κs within =
 pub returns-clause-rows : goal.returns-clause-rows
 returns-clause-rows g c =
     let all = at-end c.rows.j (length c.args.owner.now) (length g.b.owner) c.rows-test.false c.rows.auto.j-end
-    (ap length c.requires.1.1.1.1.1.0) in
-    hold-supernodes g.b c.requires.1.1.0 c.rows.next (counts (map g.I.Number.value c.rows.rows))
-    (subst (λ m. WrittenTo g.b m c.rows.next (counts (map g.I.Number.value c.rows.rows))) all c.rows.invariant.written)
+    (ap length c.requires.1.1.1.1.0) in
+    hold-supernodes g.b c.requires.1.0 c.rows.next (counts (map g.I.Index.value c.rows.rows))
+    (subst (λ m. WrittenTo g.b m c.rows.next (counts (map g.I.Index.value c.rows.rows))) all c.rows.invariant.written)

@@ -8,7 +8,7 @@ ghost-add_row g a = g.b
 
 abbrev pub invariant-rows : goal.invariant-rows
 invariant-rows g l = record {
-  written : WrittenTo g.b l.j l.next (counts (map g.I.Number.value l.rows));
-  told : AreCounts (map g.I.Number.value l.rows);
+  written : WrittenTo g.b l.j l.next (counts (map g.I.Index.value l.rows));
+  told : AreCounts (map g.I.Index.value l.rows);
   marks : MarkedBefore g.b l.j l.mark;
 }

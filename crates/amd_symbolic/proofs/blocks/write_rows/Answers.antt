@@ -6,14 +6,14 @@ use Rattle.amd_symbolic.proofs.blocks.write_rows.Goals as goal
 
 pub fill_rows-requires : goal.fill_rows-requires
 fill_rows-requires g c κs within =
-    let p = c.requires.1.1.1.0 in (
-      within.0,
+    let p = c.requires.1.1.0 in (
+      within,
       (
-        within.1,
+        pattern_graph (unsigned_abs g.m.size) g.m.pointers g.m.indices,
         (
-          pattern_graph (unsigned_abs g.m.size) g.m.pointers g.m.indices,
+          rw (c.deref-3.ensures.value, c.deref-4.ensures.value, c.deref-5.ensures.value, c.deref-6.ensures.value) p.cut,
           (
-            rw (c.deref-3.ensures.value, c.deref-4.ensures.value, c.deref-5.ensures.value, c.deref-6.ensures.value) p.cut,
+            refl,
             (
               refl,
               (
@@ -21,17 +21,14 @@ fill_rows-requires g c κs within =
                 (
                   refl,
                   (
-                    refl,
+                    rw (c.deref.ensures.value, c.deref-2.ensures.value) p.near,
                     (
-                      rw (c.deref.ensures.value, c.deref-2.ensures.value) p.near,
+                      rw (c.deref_mut.ensures.value, c.deref-3.ensures.value) c.requires.1.1.1.0,
                       (
-                        rw (c.deref_mut.ensures.value, c.deref-3.ensures.value) c.requires.1.1.1.1.0,
+                        rw (c.deref_mut-2.ensures.value, c.deref-3.ensures.value) c.requires.1.1.1.1.0,
                         (
-                          rw (c.deref_mut-2.ensures.value, c.deref-3.ensures.value) c.requires.1.1.1.1.1.0,
-                          (
-                            rw (c.deref-3.ensures.value, c.deref-5.ensures.value) c.requires.1.1.1.1.1.1.0,
-                            rw c.deref-4.ensures.value (subst g.I.Number.fits p.size c.requires.1.1.1.1.1.1.1),
-                          ),
+                          rw (c.deref-3.ensures.value, c.deref-5.ensures.value) c.requires.1.1.1.1.1.0,
+                          rw c.deref-4.ensures.value (subst g.I.Index.fits p.size c.requires.1.1.1.1.1.1),
                         ),
                       ),
                     ),
@@ -46,7 +43,7 @@ fill_rows-requires g c κs within =
 
 pub returns-clause-supernodes : goal.returns-clause-supernodes
 returns-clause-supernodes g c =
-    let p = c.requires.1.1.1.0 in
+    let p = c.requires.1.1.0 in
     record {
       form = p.form;
       order = counts g.m.list;

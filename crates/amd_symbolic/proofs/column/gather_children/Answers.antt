@@ -13,31 +13,28 @@ use Rattle.amd_symbolic.proofs.column.gather_children.Goals.{then-child-base, el
 
 pub gather-count-requires : goal.gather-count-requires
 gather-count-requires g c κs within =
-    let value = g.N.Number.value in
+    let value = g.N.Index.value in
     let from = c.inherited-from.result.0 in let to = c.inherited-from.result.1 in
     let is : IsChild g.c c.in-Some.child = subst (LeadsTo g.c.order g.c.place) c.in-Some.is c.children.invariant.leads in
-    let has = (c.inherited-from.ensures.inherits (counts (map value c.args.rows.now)) c.requires.1.1.1.1.1.1.1.0).1 in (
-      within.0,
+    let has = (c.inherited-from.ensures.inherits (counts (map value c.args.rows.now)) c.requires.1.1.1.1.1.1.0).1 in (
+      within,
       (
-        within.1,
+        are_range value c.args.rows.now from to c.requires.1.1.1.1.1.0,
         (
-          are_range value c.args.rows.now from to c.requires.1.1.1.1.1.1.0,
-          (
-            (λ j h. let e = (has j).0 (subst (λ xs. Contains xs j) (counts_range value c.args.rows.now from to) h) in
-                entry_by_child g.c.order.graph g.c.order.rows c.requires.1.1.0 g.c.place j e.0 e.1.1 c.in-Some.child is e.1),
-            (c.children.auto.fresh ∙ c.requires.1.1.1.1.1.1.1.1.1.0, (c.children.invariant.count, c.children.invariant.marks)),
-          ),
+          (λ j h. let e = (has j).0 (subst (λ xs. Contains xs j) (counts_range value c.args.rows.now from to) h) in
+              entry_by_child g.c.order.graph g.c.order.rows c.requires.1.0 g.c.place j e.0 e.1.1 c.in-Some.child is e.1),
+          (c.children.auto.fresh ∙ c.requires.1.1.1.1.1.1.1.1.0, (c.children.invariant.count, c.children.invariant.marks)),
         ),
       ),
     )
 
 pub children-preserved : goal.children-preserved
 children-preserved g c =
-    let value = g.N.Number.value in
+    let value = g.N.Index.value in
     let child = c.in-Some.child in
     let is : IsChild g.c child = subst (LeadsTo g.c.order g.c.place) c.in-Some.is c.children.invariant.leads in
     let previous : IsLastChild g.c.order g.c.place child (slice_index_or c.args.link.now child None) =
-    c.requires.1.1.1.1.1.0.previous child g.c.place is.entry.0 is in
+    c.requires.1.1.1.1.0.previous child g.c.place is.entry.0 is in
     let leads' = leads g.c.order g.c.place child (slice_index_or c.args.link.now child None) previous in
     let past : (m : ℕ) → IsChild g.c m → IsAhead c.children.next m → (m ≡ child) ⊎ IsAhead (slice_index_or c.args.link.now child None) m =
     (λ m p x. elim (cases_eq m child) [
@@ -58,7 +55,7 @@ children-preserved g c =
             | inl q ↦ inr (w.gather-count.ensures.all j
                 (subst (λ xs. Contains xs j) (sym (counts_range value c.args.rows.now w.inherited-from.result.0
                 w.inherited-from.result.1))
-                (((w.inherited-from.ensures.inherits (counts (map value c.args.rows.now)) c.requires.1.1.1.1.1.1.1.0).1 j).1
+                (((w.inherited-from.ensures.inherits (counts (map value c.args.rows.now)) c.requires.1.1.1.1.1.1.0).1 j).1
                 (behind, at m j q entry))))
             | inr a ↦ inl a
           ]
@@ -73,7 +70,7 @@ children-preserved g c =
         done = λ m j p behind entry. elim (c.children.invariant.done m j p behind entry) [
           | inl x ↦ elim (past m p x) [
             | inl q ↦ inr (c.children.invariant.kept j
-                (c.requires.1.1.1.1.1.1.1.1.0 (subst (λ y. IsChild g.c y) w.if-child-base.false is) j behind
+                (c.requires.1.1.1.1.1.1.1.0 (subst (λ y. IsChild g.c y) w.if-child-base.false is) j behind
                 (subst (λ y. Entry g.c.order.graph g.c.order.rows y j) w.if-child-base.false (at m j q entry))))
             | inr a ↦ inl a
           ]

@@ -23,26 +23,23 @@ tell_later o k column stamp mark h = record {
 pub returns-then-not-tells-clause-completes : goal.returns-then-not-tells-clause-completes
 returns-then-not-tells-clause-completes g c =
     let empty = c.is_empty.ensures in let t = c.if-is_empty.true in
-    completes_alone g.c c.requires.1.1.0 c.args.base c.args.neighbours.now c.requires.1.1.1.1.1.1.1.1.1.1.1.1.0
-    c.requires.1.1.1.1.1.1.1.1.0 c.requires.1.1.1.1.1.1.1.1.1.1.1.1.1.0
+    completes_alone g.c c.requires.1.0 c.args.base c.args.neighbours.now c.requires.1.1.1.1.1.1.1.1.1.1.1.0
+    c.requires.1.1.1.1.1.1.1.0 c.requires.1.1.1.1.1.1.1.1.1.1.1.1.0
     (eqb-true (length c.args.neighbours.now) 0 (sym empty ∙ t)) (c.has_only_child.ensures.only c.if-has_only_child.true)
 
 pub mark_base-stamp-requires : goal.mark_base-stamp-requires
 mark_base-stamp-requires g c κs within =
-    let value = g.N.Number.value in (
-      within.0,
+    let value = g.N.Index.value in (
+      within,
       (
-        within.1,
+        c.requires.1.1.0,
         (
           c.requires.1.1.1.0,
           (
-            c.requires.1.1.1.1.0,
+            are_range value c.args.rows.now c.args.from c.args.to c.requires.1.1.1.1.1.0,
             (
-              are_range value c.args.rows.now c.args.from c.args.to c.requires.1.1.1.1.1.1.0,
-              (
-                c.requires.1.1.1.1.1.1.1.1.1.0 ∙ sym (counts_range value c.args.rows.now c.args.from c.args.to),
-                (c.requires.1.1.1.1.1.1.1.1.1.1.1.1.0, c.requires.1.1.1.1.1.1.1.1.1.1.1.1.1.1.0),
-              ),
+              c.requires.1.1.1.1.1.1.1.1.0 ∙ sym (counts_range value c.args.rows.now c.args.from c.args.to),
+              (c.requires.1.1.1.1.1.1.1.1.1.1.1.0, c.requires.1.1.1.1.1.1.1.1.1.1.1.1.1.0),
             ),
           ),
         ),
@@ -52,9 +49,9 @@ mark_base-stamp-requires g c κs within =
 pub gather_children-count-requires : goal.gather_children-count-requires
 gather_children-count-requires g c κs within =
     let m = c.mark_base-stamp.ensures in let u = c.unwrap_or.ensures in (
-      within.0,
+      within,
       (
-        within.1,
+        c.requires.1.0,
         (
           c.requires.1.1.0,
           (
@@ -66,12 +63,9 @@ gather_children-count-requires g c κs within =
                 (
                   c.requires.1.1.1.1.1.1.0,
                   (
-                    c.requires.1.1.1.1.1.1.1.0,
-                    (
-                      base_marked g.c c.args.base c.requires.1.1.1.1.1.1.1.1.1.1.1.1.0 c.args.k c.unwrap_or.result
-                          c.mark_base-stamp.result _ _ c.requires.1.1.1.0 u m,
-                      (c.requires.1.1.1.1.1.1.1.1.1.1.1.1.1.1.1, m),
-                    ),
+                    base_marked g.c c.args.base c.requires.1.1.1.1.1.1.1.1.1.1.1.0 c.args.k c.unwrap_or.result
+                        c.mark_base-stamp.result _ _ c.requires.1.1.0 u m,
+                    (c.requires.1.1.1.1.1.1.1.1.1.1.1.1.1.1, m),
                   ),
                 ),
               ),
@@ -83,9 +77,9 @@ gather_children-count-requires g c κs within =
 
 pub gather_places-count-requires : goal.gather_places-count-requires
 gather_places-count-requires g c = (
-  neighbour_gives g.c c.requires.1.1.0 c.args.neighbours.now c.requires.1.1.1.1.1.1.1.1.1.1.1.1.1.0,
+  neighbour_gives g.c c.requires.1.0 c.args.neighbours.now c.requires.1.1.1.1.1.1.1.1.1.1.1.1.0,
   (
-    c.gather_children-count.auto.fresh ∙ c.requires.1.1.1.1.1.1.1.1.1.1.1.1.1.1.1,
+    c.gather_children-count.auto.fresh ∙ c.requires.1.1.1.1.1.1.1.1.1.1.1.1.1.1,
     (c.gather_children-count.ensures.count, c.gather_children-count.ensures.marks),
   ),
 )
@@ -100,19 +94,19 @@ returns-clause-completes g c =
     (completes g.c c.mark_base-stamp.result (take c.gather_places-count.result c.gather_places-count.new.fresh)
     c.gather_places-count.new.mark c.gather_places-count.ensures.marks ys
     c.sort_unstable.ensures.permutation (IsNonDecreasingBy-from_sort (λ x. x) ys c.sort_unstable.ensures.sorted)
-    (inherited_gives g.c c.requires.1.1.0 c.args.base c.requires.1.1.1.1.1.1.1.1.1.1.1.1.0)
-    (all_marked g.c c.requires.1.1.0 c.args.neighbours.now c.gather_places-count.new.mark c.mark_base-stamp.result
-    c.requires.1.1.1.1.1.1.1.1.1.1.1.1.1.0 c.gather_places-count.ensures.all
+    (inherited_gives g.c c.requires.1.0 c.args.base c.requires.1.1.1.1.1.1.1.1.1.1.1.0)
+    (all_marked g.c c.requires.1.0 c.args.neighbours.now c.gather_places-count.new.mark c.mark_base-stamp.result
+    c.requires.1.1.1.1.1.1.1.1.1.1.1.1.0 c.gather_places-count.ensures.all
     (λ m j p behind x. c.gather_places-count.ensures.kept j (c.gather_children-count.ensures.children m j p behind x))))
 
 pub returns-clause-marks : goal.returns-clause-marks
 returns-clause-marks g c =
-    tell_next g.c c.requires.1.1.0 c.args.base c.requires.1.1.1.1.1.1.1.1.1.1.1.1.0 c.args.k c.mark_base-stamp.result _
-    c.gather_places-count.new.mark c.requires.1.1.1.0 c.gather_places-count.ensures.marks
-    (all_marked g.c c.requires.1.1.0 c.args.neighbours.now c.gather_places-count.new.mark c.mark_base-stamp.result
-    c.requires.1.1.1.1.1.1.1.1.1.1.1.1.1.0 c.gather_places-count.ensures.all
+    tell_next g.c c.requires.1.0 c.args.base c.requires.1.1.1.1.1.1.1.1.1.1.1.0 c.args.k c.mark_base-stamp.result _
+    c.gather_places-count.new.mark c.requires.1.1.0 c.gather_places-count.ensures.marks
+    (all_marked g.c c.requires.1.0 c.args.neighbours.now c.gather_places-count.new.mark c.mark_base-stamp.result
+    c.requires.1.1.1.1.1.1.1.1.1.1.1.1.0 c.gather_places-count.ensures.all
     (λ m j p behind x. c.gather_places-count.ensures.kept j (c.gather_children-count.ensures.children m j p behind x)))
 
 pub returns-then-not-tells-clause-marks : goal.returns-then-not-tells-clause-marks
 returns-then-not-tells-clause-marks g c =
-    tell_later g.c.order g.c.place c.args.marked.column c.args.marked.stamp c.args.mark.now c.requires.1.1.1.1.1.1.1.1.1.1.1.1.1.1.0
+    tell_later g.c.order g.c.place c.args.marked.column c.args.marked.stamp c.args.mark.now c.requires.1.1.1.1.1.1.1.1.1.1.1.1.1.0

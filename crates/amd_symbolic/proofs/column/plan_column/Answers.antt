@@ -19,13 +19,13 @@ ends_within value numbers o k ptr to h l = let w = h.within in let n = counts_lo
 
 pub inherited-from-requires : goal.inherited-from-requires
 inherited-from-requires g c = (
-  c.requires.1.1.0,
+  c.requires.1.0,
   (
     refl,
     (
-      c.requires.1.1.1.0,
+      c.requires.1.1.0,
       (
-        (counts (map g.N.Number.value c.args.rows.now), c.requires.1.1.1.1.1.1.1.0),
+        (counts (map g.N.Index.value c.args.rows.now), c.requires.1.1.1.1.1.1.0),
         is_child (record { order = g.o; place = c.args.k; inherited = [] }) c.greatest_child-base.result
             c.greatest_child-base.ensures.child,
       ),
@@ -35,37 +35,34 @@ inherited-from-requires g c = (
 
 pub new_rows-count-requires : goal.new_rows-count-requires
 new_rows-count-requires g c κs inside = (
-  inside.0,
+  inside,
   (
-    inside.1,
+    c.requires.1.0,
     (
-      c.requires.1.1.0,
+      refl,
       (
-        refl,
+        c.requires.1.1.0,
         (
-          c.requires.1.1.1.0,
+          c.requires.1.1.1.1.0,
           (
             c.requires.1.1.1.1.1.0,
             (
               c.requires.1.1.1.1.1.1.0,
               (
-                c.requires.1.1.1.1.1.1.1.0,
+                c.greatest_child-base.ensures.child,
                 (
-                  c.greatest_child-base.ensures.child,
+                  refl,
                   (
-                    refl,
+                    c.inherited-from.ensures.range,
                     (
-                      c.inherited-from.ensures.range,
+                      ends_within g.N.Index.value c.args.rows.now g.o c.args.k c.args.ptr.now c.inherited-from.result.1
+                          c.requires.1.1.1.1.1.1.0 c.inherited-from.ensures.before,
                       (
-                        ends_within g.N.Number.value c.args.rows.now g.o c.args.k c.args.ptr.now c.inherited-from.result.1
-                            c.requires.1.1.1.1.1.1.1.0 c.inherited-from.ensures.before,
+                        c.inherited-from.ensures.inherits (counts (map g.N.Index.value c.args.rows.now))
+                            c.requires.1.1.1.1.1.1.0,
                         (
-                          c.inherited-from.ensures.inherits (counts (map g.N.Number.value c.args.rows.now))
-                              c.requires.1.1.1.1.1.1.1.0,
-                          (
-                            c.requires.1.1.1.1.0,
-                            (c.requires.1.1.1.1.1.1.1.1.0, c.requires.1.1.1.1.1.1.1.1.1),
-                          ),
+                          c.requires.1.1.1.0,
+                          (c.requires.1.1.1.1.1.1.1.0, c.requires.1.1.1.1.1.1.1.1),
                         ),
                       ),
                     ),
@@ -84,6 +81,6 @@ pub returns-clause-plans : goal.returns-clause-plans
 returns-clause-plans g c = record {
   range = c.inherited-from.ensures.range;
   before = c.inherited-from.ensures.before;
-  rising = c.inherited-from.ensures.rising (counts (map g.N.Number.value c.args.rows.now)) c.requires.1.1.1.1.1.1.1.0;
+  rising = c.inherited-from.ensures.rising (counts (map g.N.Index.value c.args.rows.now)) c.requires.1.1.1.1.1.1.0;
   completes = c.new_rows-count.ensures.completes;
 }

@@ -13,5 +13,5 @@ abbrev pub ghost-new_rows : goal.ghost-new_rows
 ghost-new_rows g a = record {
   order = g.o;
   place = a.k;
-  inherited = slice_range (counts (map g.N.Number.value a.rows.now)) a.from a.to;
+  inherited = slice_range (counts (map g.N.Index.value a.rows.now)) a.from a.to;
 }

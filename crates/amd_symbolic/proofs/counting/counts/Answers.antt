@@ -47,7 +47,7 @@ form_counts-requires g c κs within =
     let a_i : List ℤ = map g.I.Number.value c.args.a_i.now in
     let sound : c.valid.result ≢ Invalid = search rules in
     let form = subst (λ x. IsInput x x a_p a_i) (sym c.in-Some.ensures.1) (form_by z a_p a_i c.valid.result c.valid.ensures sound) in
-    (within.0, (within.1.0, (within.1.1, (form, (refl, refl)))))
+    (within.0, (within.1, (form, (refl, refl))))
 
 pub returns-clause-counts : goal.returns-clause-counts
 returns-clause-counts g c =

@@ -57,7 +57,7 @@ form_columns-requires g c κs within =
     let a_p : List ℤ = map g.I.Number.value c.args.a_p.now in
     let a_i : List ℤ = map g.I.Number.value c.args.a_i.now in
     let form = c.is_form.ensures.form c.if-not-is_form.false in
-    (within.0, (within.1.0, (within.1.1, (form, (refl, refl)))))
+    (within.0, (within.1, (form, (refl, refl))))
 
 pub returns-clause-factor : goal.returns-clause-factor
 returns-clause-factor g c =

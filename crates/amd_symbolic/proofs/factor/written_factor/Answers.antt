@@ -20,23 +20,20 @@ fill-requires g c κs inside =
       (
         inside,
         (
-          search rules,
+          c.requires.1.0,
           (
-            c.requires.1.0,
+            (λ j l. let room = h.room in omega (arith, l, room)),
             (
-              (λ j l. let room = h.room in omega (arith, l, room)),
+              h,
               (
-                h,
-                (
-                  record {
-                    pointers = ptr ∙ h.room;
-                    parents = parent ∙ columns;
-                    marks = mark ∙ columns;
-                    links = link ∙ columns;
-                    fresh = fresh ∙ columns;
-                  },
-                  (c.in_ok-rows.ensures.items, (let e = c.in_ok-rows.ensures.exact in omega (arith, e))),
-                ),
+                record {
+                  pointers = ptr ∙ h.room;
+                  parents = parent ∙ columns;
+                  marks = mark ∙ columns;
+                  links = link ∙ columns;
+                  fresh = fresh ∙ columns;
+                },
+                (c.in_ok-rows.ensures.items, (let e = c.in_ok-rows.ensures.exact in omega (arith, e))),
               ),
             ),
           ),

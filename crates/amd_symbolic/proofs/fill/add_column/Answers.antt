@@ -23,25 +23,22 @@ module _ {N : Type 0} (value : N → ℤ) (o : Order) (k : ℕ) (ptr : List ℕ)
 
 pub plan_column-plan-requires : goal.plan_column-plan-requires
 plan_column-plan-requires g c κs inside = (
-  inside.0,
+  inside,
   (
-    inside.1,
+    c.requires.1.1.0,
     (
       c.requires.1.1.1.0,
       (
-        c.requires.1.1.1.1.0,
+        c.requires.1.1.1.1.1.0,
         (
-          c.requires.1.1.1.1.1.1.0,
+          c.requires.1.1.1.1.1.1.0.filled.links,
           (
-            c.requires.1.1.1.1.1.1.1.0.filled.links,
+            numbers_now g.N.Index.value g.o c.args.k c.args.ptr.now c.args.rows.now.items c.deref.result.now
+                c.requires.1.1.1.1.1.1.1.1.0 c.deref.ensures.value c.requires.1.1.1.1.1.1.0.numbers,
             (
-              numbers_now g.N.Number.value g.o c.args.k c.args.ptr.now c.args.rows.now.items c.deref.result.now
-                  c.requires.1.1.1.1.1.1.1.1.1.0 c.deref.ensures.value c.requires.1.1.1.1.1.1.1.0.numbers,
-              (
-                columns_now g.N.Number.value g.o c.args.k c.args.ptr.now c.args.rows.now.items c.deref.result.now
-                    c.requires.1.1.1.1.1.1.1.1.1.0 c.deref.ensures.value c.requires.1.1.1.1.1.1.1.0.filled.columns,
-                (c.requires.1.1.1.1.1.1.1.0.filled.marks, c.requires.1.1.1.1.1.1.1.1.0),
-              ),
+              columns_now g.N.Index.value g.o c.args.k c.args.ptr.now c.args.rows.now.items c.deref.result.now
+                  c.requires.1.1.1.1.1.1.1.1.0 c.deref.ensures.value c.requires.1.1.1.1.1.1.0.filled.columns,
+              (c.requires.1.1.1.1.1.1.0.filled.marks, c.requires.1.1.1.1.1.1.1.0),
             ),
           ),
         ),
@@ -52,13 +49,13 @@ plan_column-plan-requires g c κs inside = (
 
 pub returns-then-room-begin-clause-filled : goal.returns-then-room-begin-clause-filled
 returns-then-room-begin-clause-filled g c =
-    let full = c.requires.1.1.1.1.1.1.1.1.1.0 in let plan = c.plan_column-plan.result in
-    let columns = columns_now g.N.Number.value g.o c.args.k c.args.ptr.now c.args.rows.now.items c.deref.result.now full
-    c.deref.ensures.value c.requires.1.1.1.1.1.1.1.0.filled.columns in
+    let full = c.requires.1.1.1.1.1.1.1.1.0 in let plan = c.plan_column-plan.result in
+    let columns = columns_now g.N.Index.value g.o c.args.k c.args.ptr.now c.args.rows.now.items c.deref.result.now full
+    c.deref.ensures.value c.requires.1.1.1.1.1.1.0.filled.columns in
     let count = length-take-le plan.count c.plan_column-plan.new.fresh c.plan_column-plan.ensures.count in
-    let begin = c.len-begin.ensures in let more = c.if-room-begin.true in let within = c.requires.1.1.1.1.1.1.1.1.1.1.0 in
-    passes g.o c.requires.1.1.1.0 c.args.k c.args.ptr.now (counts (map g.N.Number.value c.deref.result.now))
-    (take plan.count c.plan_column-plan.new.fresh) plan.from plan.to c.args.room c.requires.1.1.1.1.0 columns
+    let begin = c.len-begin.ensures in let more = c.if-room-begin.true in let within = c.requires.1.1.1.1.1.1.1.1.1.0 in
+    passes g.o c.requires.1.1.0 c.args.k c.args.ptr.now (counts (map g.N.Index.value c.deref.result.now))
+    (take plan.count c.plan_column-plan.new.fresh) plan.from plan.to c.args.room c.requires.1.1.1.0 columns
     c.plan_column-plan.ensures.plans (omega (arith, count, begin, more, within, full))
 
 pub returns-clause-within : goal.returns-clause-within

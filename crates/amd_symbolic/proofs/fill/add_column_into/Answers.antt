@@ -40,23 +40,20 @@ size_is rows fresh begin taken count low fits few =
 
 pub plan_column-plan-requires : goal.plan_column-plan-requires
 plan_column-plan-requires g c κs inside = (
-  inside.0,
+  inside,
   (
-    inside.1,
+    c.requires.1.0,
     (
       c.requires.1.1.0,
       (
-        c.requires.1.1.1.0,
+        c.requires.1.1.1.1.0,
         (
-          c.requires.1.1.1.1.1.0,
+          c.requires.1.1.1.1.1.0.filled.links,
           (
-            c.requires.1.1.1.1.1.1.0.filled.links,
+            c.requires.1.1.1.1.1.0.numbers,
             (
-              c.requires.1.1.1.1.1.1.0.numbers,
-              (
-                c.requires.1.1.1.1.1.1.0.filled.columns,
-                (c.requires.1.1.1.1.1.1.0.filled.marks, c.requires.1.1.1.1.1.1.1),
-              ),
+              c.requires.1.1.1.1.1.0.filled.columns,
+              (c.requires.1.1.1.1.1.0.filled.marks, c.requires.1.1.1.1.1.1),
             ),
           ),
         ),
@@ -67,23 +64,23 @@ plan_column-plan-requires g c κs inside = (
 
 pub overflow_add-size : goal.overflow_add-size
 overflow_add-size g c =
-    let filled = c.requires.1.1.1.1.1.1.0 in
+    let filled = c.requires.1.1.1.1.1.0 in
     let plan = c.plan_column-plan.result in let count = c.plan_column-plan.ensures.count in
-    let short = taken_short g.o c.args.k c.args.ptr.now (counts (map g.N.Number.value (take (slice_index c.args.ptr.now c.args.k)
+    let short = taken_short g.o c.args.k c.args.ptr.now (counts (map g.N.Index.value (take (slice_index c.args.ptr.now c.args.k)
     c.args.rows.now))) (take plan.count c.plan_column-plan.new.fresh) plan.from plan.to filled.filled.columns
     c.plan_column-plan.ensures.plans in
-    let room = filled.filled.parents.room in let same = c.plan_column-plan.auto.fresh in let all = c.requires.1.1.1.1.1.1.1 in
+    let room = filled.filled.parents.room in let same = c.plan_column-plan.auto.fresh in let all = c.requires.1.1.1.1.1.1 in
     omega (arith, short, count, room, same, all)
 
 pub returns-then-rows-begin-clause-filled : goal.returns-then-rows-begin-clause-filled
 returns-then-rows-begin-clause-filled g c =
-    let filled = c.requires.1.1.1.1.1.1.0 in
+    let filled = c.requires.1.1.1.1.1.0 in
     let plan = c.plan_column-plan.result in let count = length-take-le plan.count c.plan_column-plan.new.fresh
     c.plan_column-plan.ensures.count in
     let more = c.if-rows-begin.true in let within = filled.within in
-    passes g.o c.requires.1.1.0 c.args.k c.args.ptr.now
-    (counts (map g.N.Number.value (take (slice_index c.args.ptr.now c.args.k) c.args.rows.now)))
-    (take plan.count c.plan_column-plan.new.fresh) plan.from plan.to (length c.args.rows.now) c.requires.1.1.1.0 filled.filled.columns
+    passes g.o c.requires.1.0 c.args.k c.args.ptr.now
+    (counts (map g.N.Index.value (take (slice_index c.args.ptr.now c.args.k) c.args.rows.now)))
+    (take plan.count c.plan_column-plan.new.fresh) plan.from plan.to (length c.args.rows.now) c.requires.1.1.0 filled.filled.columns
     c.plan_column-plan.ensures.plans
     (omega (arith, count, more, within))
 
@@ -91,31 +88,28 @@ pub finish_column-requires : goal.finish_column-requires
 finish_column-requires g c κs inside =
     let plan = c.plan_column-plan.result in
     let size : ℕ = plan.to - plan.from + plan.count in (
-      inside.0,
+      inside,
       (
-        inside.1,
+        c.requires.1.0,
         (
           c.requires.1.1.0,
           (
             c.requires.1.1.1.0,
             (
-              c.requires.1.1.1.1.0,
+              plans_here g.N.Index.value g.o c.args.k c.args.ptr.now c.args.rows.now size plan.from plan.to
+                  (take plan.count c.plan_column-plan.new.fresh) c.plan_column-plan.ensures.plans,
               (
-                plans_here g.N.Number.value g.o c.args.k c.args.ptr.now c.args.rows.now size plan.from plan.to
-                    (take plan.count c.plan_column-plan.new.fresh) c.plan_column-plan.ensures.plans,
+                size_is c.args.rows.now c.plan_column-plan.new.fresh (slice_index c.args.ptr.now c.args.k) (plan.to - plan.from)
+                    plan.count c.requires.1.1.1.1.1.0.within c.if-rows-begin.false c.plan_column-plan.ensures.count,
                 (
-                  size_is c.args.rows.now c.plan_column-plan.new.fresh (slice_index c.args.ptr.now c.args.k) (plan.to - plan.from)
-                      plan.count c.requires.1.1.1.1.1.1.0.within c.if-rows-begin.false c.plan_column-plan.ensures.count,
+                  numbers_here g.N.Index.value g.o c.args.k c.args.ptr.now c.args.rows.now size c.requires.1.1.1.1.1.0.numbers,
                   (
-                    numbers_here g.N.Number.value g.o c.args.k c.args.ptr.now c.args.rows.now size c.requires.1.1.1.1.1.1.0.numbers,
+                    columns_here g.N.Index.value g.o c.args.k c.args.ptr.now c.args.rows.now size
+                        c.requires.1.1.1.1.1.0.filled.columns,
                     (
-                      columns_here g.N.Number.value g.o c.args.k c.args.ptr.now c.args.rows.now size
-                          c.requires.1.1.1.1.1.1.0.filled.columns,
-                      (
-                        parents_here g.N.Number.value g.o c.args.k c.args.ptr.now c.args.rows.now size c.args.parent.now
-                            c.requires.1.1.1.1.1.1.0.filled.parents,
-                        c.requires.1.1.1.1.1.1.0.filled.links,
-                      ),
+                      parents_here g.N.Index.value g.o c.args.k c.args.ptr.now c.args.rows.now size c.args.parent.now
+                          c.requires.1.1.1.1.1.0.filled.parents,
+                      c.requires.1.1.1.1.1.0.filled.links,
                     ),
                   ),
                 ),

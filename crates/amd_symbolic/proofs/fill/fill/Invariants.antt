@@ -9,7 +9,7 @@ ghost-add_column g a = g.o
 
 abbrev pub invariant-columns : goal.invariant-columns
 invariant-columns g l = record {
-  filled : FillsFront g.N.Number.value g.o l.k l.ptr l.rows.items l.parent l.link l.marked.column l.marked.stamp l.mark;
+  filled : FillsFront g.N.Index.value g.o l.k l.ptr l.rows.items l.parent l.link l.marked.column l.marked.stamp l.mark;
   full : slice_index l.ptr l.k ≡ length l.rows.items;
   within : length l.rows.items ≤ l.room;
   capacity : l.room ≤ vec_capacity l.rows;

@@ -5,21 +5,18 @@ use Rattle.amd_symbolic.proofs.fill.fill_into.Goals as goal
 
 pub add_column_into-requires : goal.add_column_into-requires
 add_column_into-requires g c κs inside =
-    let q = c.requires.1.1 in
+    let q = c.requires.1 in
     let i = c.columns.invariant in let r = i.filled.filled.parents.room in let t = c.columns-test.true in (
-      inside.0,
+      inside,
       (
-        inside.1,
+        q.1.0,
         (
-          q.1.0,
+          omega (arith, r, t),
           (
-            omega (arith, r, t),
+            q.1.1.0,
             (
-              q.1.1.0,
-              (
-                q.1.1.1.each c.columns.k (omega (arith, r, t)),
-                (i.filled, c.columns.auto.fresh ∙ q.0.fresh),
-              ),
+              q.1.1.1.each c.columns.k (omega (arith, r, t)),
+              (i.filled, c.columns.auto.fresh ∙ q.0.fresh),
             ),
           ),
         ),
@@ -37,13 +34,13 @@ columns-preserved g c =
 
 pub returns : goal.returns
 returns g c =
-    let q = c.requires.1.1 in
+    let q = c.requires.1 in
     let i = c.columns.invariant in
     let r = i.filled.filled.parents.room in let t = c.columns-test.false in
     let end = c.columns.auto.k-end in
     let from = q.0.parents in
     record {
-      factor = front_written g.N.Number.value g.o q.1.0 c.columns.k (length c.columns.parent) c.columns.ptr c.columns.rows
+      factor = front_written g.N.Index.value g.o q.1.0 c.columns.k (length c.columns.parent) c.columns.ptr c.columns.rows
           c.columns.parent c.columns.link c.columns.marked.column c.columns.marked.stamp c.columns.mark i.filled
           (omega (arith, t, end, from)) (omega (arith, t, end, from, r)) c.args.rows.now i.rest;
     }

@@ -8,7 +8,7 @@ ghost-add_column_into g a = g.o
 
 abbrev pub invariant-columns : goal.invariant-columns
 invariant-columns g l = record {
-  filled : FillsFront g.N.Number.value g.o l.k l.ptr l.rows l.parent l.link l.marked.column l.marked.stamp l.mark;
+  filled : FillsFront g.N.Index.value g.o l.k l.ptr l.rows l.parent l.link l.marked.column l.marked.stamp l.mark;
   room : length l.rows ≡ length l.initial.rows;
   rest : drop (slice_index l.ptr l.k) l.rows ≡ drop (slice_index l.ptr l.k) l.initial.rows;
 }

@@ -4,7 +4,7 @@ use Rattle.amd_model.specs.Input.Columns.{at}
 use Rattle.amd_symbolic.proofs.forms.ascend.Given as goal
 
 abbrev pub invariant-pointers : goal.invariant-pointers
-invariant-pointers g l = let ap : List ℤ = map g.I.Number.value l.a_p in record {
+invariant-pointers g l = let ap : List ℤ = map g.I.Index.value l.a_p in record {
   ascend : l.ascending ≡ true → (j : ℕ) → j < l.j → at ap j ≤ℤ at ap (j + 1);
   descend : l.ascending ≡ false → (j : ℕ) × (j < l.j) × (at ap (j + 1) <ℤ at ap j);
 }

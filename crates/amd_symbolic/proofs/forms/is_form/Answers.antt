@@ -13,8 +13,8 @@ returns-in_default-to_count-clause-none g c = λ no form.
 
 pub returns-clause-form : goal.returns-clause-form
 returns-clause-form g c = λ all.
-    let a_p : List ℤ = map g.I.Number.value c.args.a_p.now in
-    let a_i : List ℤ = map g.I.Number.value c.args.a_i.now in
+    let a_p : List ℤ = map g.I.Index.value c.args.a_p.now in
+    let a_i : List ℤ = map g.I.Index.value c.args.a_i.now in
     let count = c.in-Some-to_count.count in
     let total : at a_p c.args.size ≡ pos count = sym c.value_at-2.ensures ∙ sym c.in-Some-to_count.ensures.1 in
     let few : count ≤ length a_i = simp length-map (omega arith) in

@@ -9,24 +9,24 @@ use Rattle.amd_symbolic.proofs.gathering.mark_rows.Goals as goal
 
 pub place_at-requires-clause-small : goal.place_at-requires-clause-small
 place_at-requires-clause-small g c =
-    let w = c.requires.within _ (place_of g.N.Number.value c.args.rows.now c.rows.k c.rows-test.true) in omega (arith, w)
+    let w = c.requires.within _ (place_of g.N.Index.value c.args.rows.now c.rows.k c.rows-test.true) in omega (arith, w)
 
 pub offset_bounds-mark-place_at : goal.offset_bounds-mark-place_at
 offset_bounds-mark-place_at g c =
-    let w = c.requires.within _ (place_of g.N.Number.value c.args.rows.now c.rows.k c.rows-test.true) in
+    let w = c.requires.within _ (place_of g.N.Index.value c.args.rows.now c.rows.k c.rows-test.true) in
     let e = c.place_at.ensures in omega (arith, w, e)
 
 pub bounds-mark-place_at : goal.bounds-mark-place_at
 bounds-mark-place_at g c =
-    let w = c.requires.within _ (place_of g.N.Number.value c.args.rows.now c.rows.k c.rows-test.true) in
+    let w = c.requires.within _ (place_of g.N.Index.value c.args.rows.now c.rows.k c.rows-test.true) in
     let e = c.place_at.ensures in
     let same = c.rows.auto.mark in omega (arith, w, e, same)
 
 pub rows-preserved : goal.rows-preserved
 rows-preserved g c =
-    let rows = counts (map g.N.Number.value c.args.rows.now) in
+    let rows = counts (map g.N.Index.value c.args.rows.now) in
     let row = slice_index rows c.rows.k in
-    let w = c.requires.within _ (place_of g.N.Number.value c.args.rows.now c.rows.k c.rows-test.true) in
+    let w = c.requires.within _ (place_of g.N.Index.value c.args.rows.now c.rows.k c.rows-test.true) in
     let same = c.rows.auto.mark in
     let inside : row < length c.rows.mark = omega (arith, w, same) in
     let here : slice_index (set c.rows.mark row c.args.stamp) row ≡ c.args.stamp = get_or-set_same c.rows.mark row c.args.stamp 0 inside in
@@ -45,11 +45,11 @@ rows-preserved g c =
 
 pub returns-clause-marked : goal.returns-clause-marked
 returns-clause-marked g c = λ j h.
-    let p = place_in (counts (map g.N.Number.value c.args.rows.now)) j h in
-    let t = c.rows-test.false in let n = counts_long g.N.Number.value c.args.rows.now in
+    let p = place_in (counts (map g.N.Index.value c.args.rows.now)) j h in
+    let t = c.rows-test.false in let n = counts_long g.N.Index.value c.args.rows.now in
     subst (λ x. slice_index c.rows.mark x ≡ c.args.stamp) p.2 (c.rows.invariant.marked p.0 (let l = p.1 in omega (arith, l, t, n)))
 
 pub returns-clause-others : goal.returns-clause-others
 returns-clause-others g c = λ j none. c.rows.invariant.others j (λ k l q. none (subst (λ x. Contains
-    (counts (map g.N.Number.value c.args.rows.now)) x) q
-    (place_of g.N.Number.value c.args.rows.now k (let t = c.rows.auto.k-end in omega (arith, l, t)))))
+    (counts (map g.N.Index.value c.args.rows.now)) x) q
+    (place_of g.N.Index.value c.args.rows.now k (let t = c.rows.auto.k-end in omega (arith, l, t)))))

@@ -5,7 +5,7 @@ use Rattle.amd_symbolic.proofs.gathering.mark_rows.Given as goal
 
 abbrev pub invariant-rows : goal.invariant-rows
 invariant-rows g l = record {
-  marked : (i : ℕ) → i < l.k → slice_index l.mark (slice_index (counts (map g.N.Number.value l.rows)) i) ≡ l.stamp;
-  others : (j : ℕ) → ((i : ℕ) → i < l.k → slice_index (counts (map g.N.Number.value l.rows)) i ≢ j) →
+  marked : (i : ℕ) → i < l.k → slice_index l.mark (slice_index (counts (map g.N.Index.value l.rows)) i) ≡ l.stamp;
+  others : (j : ℕ) → ((i : ℕ) → i < l.k → slice_index (counts (map g.N.Index.value l.rows)) i ≢ j) →
       slice_index l.mark j ≡ slice_index l.initial.mark j;
 }

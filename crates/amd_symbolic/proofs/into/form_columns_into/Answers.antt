@@ -10,47 +10,44 @@ use Rattle.amd_symbolic.proofs.into.form_columns_into.Goals as goal
 pub returns-in_err-places-clause-fault : goal.returns-in_err-places-clause-fault
 returns-in_err-places-clause-fault g c =
     let memory : IfErr c.from_residual.result (λ e. e ≡ OutOfMemory) = search rules in
-    memory_of c.from_residual.result (IsFault (pos c.args.size) (map g.I.Number.value c.args.a_p.now) (map g.I.Number.value c.args.a_i.now)
-    (map g.I.Number.value c.args.p.now) (length c.args.rows.now)) memory
-    (λ _. c.requires.1.1.1.0)
+    memory_of c.from_residual.result (IsFault (pos c.args.size) (map g.I.Index.value c.args.a_p.now) (map g.I.Index.value c.args.a_i.now)
+    (map g.I.Index.value c.args.p.now) (length c.args.rows.now)) memory
+    (λ _. c.requires.1.1.0)
 
 pub returns-in_default-clause-fault : goal.returns-in_default-clause-fault
-returns-in_default-clause-fault g c = ((λ _. c.requires.1.1.1.0), rw c.in_default.is at c.in_ok-places.ensures.none)
+returns-in_default-clause-fault g c = ((λ _. c.requires.1.1.0), rw c.in_default.is at c.in_ok-places.ensures.none)
 
 pub later_lists-requires-clause-form : goal.later_lists-requires-clause-form
-later_lists-requires-clause-form g c = c.requires.1.1.1.0
+later_lists-requires-clause-form g c = c.requires.1.1.0
 
 pub later_lists-requires-clause-places : goal.later_lists-requires-clause-places
 later_lists-requires-clause-places g c =
-    (counts (map g.I.Number.value c.args.p.now), rw c.deref.ensures.value (rw c.in-Some.is at c.in_ok-places.ensures.places))
+    (counts (map g.I.Index.value c.args.p.now), rw c.deref.ensures.value (rw c.in-Some.is at c.in_ok-places.ensures.places))
 
 pub returns-in_err-lists-clause-fault : goal.returns-in_err-lists-clause-fault
 returns-in_err-lists-clause-fault g c =
     let memory : IfErr c.from_residual-in_err-lists.result (λ e. e ≡ OutOfMemory) = search rules in
-    memory_of c.from_residual-in_err-lists.result (IsFault (pos c.args.size) (map g.I.Number.value c.args.a_p.now)
-    (map g.I.Number.value c.args.a_i.now) (map g.I.Number.value c.args.p.now) (length c.args.rows.now)) memory
-    (λ _. c.requires.1.1.1.0)
+    memory_of c.from_residual-in_err-lists.result (IsFault (pos c.args.size) (map g.I.Index.value c.args.a_p.now)
+    (map g.I.Index.value c.args.a_i.now) (map g.I.Index.value c.args.p.now) (length c.args.rows.now)) memory
+    (λ _. c.requires.1.1.0)
 
 pub written_into-requires : goal.written_into-requires
 written_into-requires g c κs within =
-    let a_p : List ℤ = map g.I.Number.value c.args.a_p.now in
-    let a_i : List ℤ = map g.I.Number.value c.args.a_i.now in
-    let p : List ℤ = map g.I.Number.value c.args.p.now in
+    let a_p : List ℤ = map g.I.Index.value c.args.a_p.now in
+    let a_i : List ℤ = map g.I.Index.value c.args.a_i.now in
+    let p : List ℤ = map g.I.Index.value c.args.p.now in
     let permutes = rw c.in-Some.is at c.in_ok-places.ensures.permutation in (
       within.0,
       (
-        within.1.0,
+        within.1,
         (
-          within.1.1,
+          laws c.args.size a_p a_i p g.o c.requires.1.1.1.0 c.requires.1.1.1.1.0,
           (
-            laws c.args.size a_p a_i p g.o c.requires.1.1.1.1.0 c.requires.1.1.1.1.1.0,
-            (
-              (λ j l. c.requires.1.1.1.1.1.1 j
-                  (let rows = ap length c.requires.1.1.1.1.1.0 in let all = permutes.each.places in omega (arith, l, rows, all))),
-              later_of c.args.size a_p a_i p g.o c.requires.1.1.1.1.0 c.requires.1.1.1.1.1.0 c.deref-2.result.now c.deref-3.result.now
-                  (rw (c.deref-2.ensures.value, c.deref-3.ensures.value)
-                  (c.in_ok-lists.ensures (counts p) (rw c.deref.ensures.value (rw c.in-Some.is at c.in_ok-places.ensures.places)))),
-            ),
+            (λ j l. c.requires.1.1.1.1.1 j
+                (let rows = ap length c.requires.1.1.1.1.0 in let all = permutes.each.places in omega (arith, l, rows, all))),
+            later_of c.args.size a_p a_i p g.o c.requires.1.1.1.0 c.requires.1.1.1.1.0 c.deref-2.result.now c.deref-3.result.now
+                (rw (c.deref-2.ensures.value, c.deref-3.ensures.value)
+                (c.in_ok-lists.ensures (counts p) (rw c.deref.ensures.value (rw c.in-Some.is at c.in_ok-places.ensures.places)))),
           ),
         ),
       ),
@@ -59,22 +56,22 @@ written_into-requires g c κs within =
 pub returns-in_err-frame-clause-fault : goal.returns-in_err-frame-clause-fault
 returns-in_err-frame-clause-fault g c =
     let memory : IfErr c.from_residual-in_err-frame.result (λ e. e ≡ OutOfMemory) = search rules in
-    memory_of c.from_residual-in_err-frame.result (IsFault (pos c.args.size) (map g.I.Number.value c.args.a_p.now)
-    (map g.I.Number.value c.args.a_i.now) (map g.I.Number.value c.args.p.now) (length c.args.rows.now)) memory
-    (λ _. c.requires.1.1.1.0)
+    memory_of c.from_residual-in_err-frame.result (IsFault (pos c.args.size) (map g.I.Index.value c.args.a_p.now)
+    (map g.I.Index.value c.args.a_i.now) (map g.I.Index.value c.args.p.now) (length c.args.rows.now)) memory
+    (λ _. c.requires.1.1.0)
 
 pub returns-in-Some-2-clause-factor : goal.returns-in-Some-2-clause-factor
 returns-in-Some-2-clause-factor g c =
     let f = rw c.in-Some-2.is at c.in_ok-frame.ensures.factor in record {
       entries = f.0;
-      factor = factor_of c.args.size (map g.I.Number.value c.args.a_p.now) (map g.I.Number.value c.args.a_i.now)
-          (map g.I.Number.value c.args.p.now) g.o c.requires.1.1.1.1.0 c.requires.1.1.1.1.1.0 c.requires.1.1.1.0
+      factor = factor_of c.args.size (map g.I.Index.value c.args.a_p.now) (map g.I.Index.value c.args.a_i.now)
+          (map g.I.Index.value c.args.p.now) g.o c.requires.1.1.1.0 c.requires.1.1.1.1.0 c.requires.1.1.0
           (rw c.in-Some.is at c.in_ok-places.ensures.permutation) c.in-Some-2.frame.ptr.items f.0 c.in-Some-2.frame.parent.items f.2;
       written = f.1;
     }
 
 pub returns-clause-fault : goal.returns-clause-fault
 returns-clause-fault g c =
-    too_many c.args.size (map g.I.Number.value c.args.a_p.now) (map g.I.Number.value c.args.a_i.now) (map g.I.Number.value c.args.p.now) g.o
-    c.requires.1.1.1.1.0 c.requires.1.1.1.1.1.0 c.requires.1.1.1.0
+    too_many c.args.size (map g.I.Index.value c.args.a_p.now) (map g.I.Index.value c.args.a_i.now) (map g.I.Index.value c.args.p.now) g.o
+    c.requires.1.1.1.0 c.requires.1.1.1.1.0 c.requires.1.1.0
     (rw c.in-Some.is at c.in_ok-places.ensures.permutation) (length c.args.rows.now) (rw c.in-None.is at c.in_ok-frame.ensures.factor)

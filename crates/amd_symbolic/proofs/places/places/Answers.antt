@@ -11,11 +11,11 @@ pub rows-init : goal.rows-init
 rows-init g c =
     let size : length c.in_ok-places.places.items ≡ c.args.size = search rules in
     let none : (r : ℕ) → r < c.args.size → get_or c.in_ok-places.places.items r 0 ≡ c.args.size = grind (arith, common_steps) in
-    places_none c.args.size (map g.I.Number.value c.args.p.now) c.in_ok-places.places.items size none
+    places_none c.args.size (map g.I.Index.value c.args.p.now) c.in_ok-places.places.items size none
 
 pub returns-in_default-clause-none : goal.returns-in_default-clause-none
 returns-in_default-clause-none g c = λ rows h.
-    let p = map g.I.Number.value c.args.p.now in
+    let p = map g.I.Index.value c.args.p.now in
     let is = permutes_at c.args.size p rows h c.rows.k (omega arith) in
     let below = permutes_below c.args.size p rows h c.rows.k (omega arith) in
     let fits : FitsUnsignedBits 64 (pos (get_or rows c.rows.k 0)) = omega (arith, below) in
@@ -23,7 +23,7 @@ returns-in_default-clause-none g c = λ rows h.
 
 pub returns-then-row-size-clause-none : goal.returns-then-row-size-clause-none
 returns-then-row-size-clause-none g c = λ rows h.
-    let p = map g.I.Number.value c.args.p.now in
+    let p = map g.I.Index.value c.args.p.now in
     let row = c.in-Some.row in
     let is = permutes_at c.args.size p rows h c.rows.k (omega arith) in
     let below = permutes_below c.args.size p rows h c.rows.k (omega arith) in
@@ -42,7 +42,7 @@ returns-then-row-size-clause-none g c = λ rows h.
 
 pub rows-preserved : goal.rows-preserved
 rows-preserved g c =
-    let p = map g.I.Number.value c.args.p.now in
+    let p = map g.I.Index.value c.args.p.now in
     let row = c.in-Some.row in
     let inside : row < c.args.size = (let x = c.if-row-size.false in omega (arith, x)) in
     let room = c.rows.invariant.room in
@@ -52,14 +52,14 @@ rows-preserved g c =
 
 pub returns-clause-permutation : goal.returns-clause-permutation
 returns-clause-permutation g c =
-    let p = map g.I.Number.value c.args.p.now in
+    let p = map g.I.Index.value c.args.p.now in
     let all : c.rows.k ≡ c.args.size = omega arith in
     let size : length p ≡ c.args.size = (let x = c.if-p-size.false in simp length-map (omega (arith, x))) in
     all_permutes c.args.size p size c.rows.places.items (rw all at c.rows.invariant)
 
 pub returns-clause-places : goal.returns-clause-places
 returns-clause-places g c =
-    let p = map g.I.Number.value c.args.p.now in
+    let p = map g.I.Index.value c.args.p.now in
     let all : c.rows.k ≡ c.args.size = omega arith in
     let size : length p ≡ c.args.size = (let x = c.if-p-size.false in simp length-map (omega (arith, x))) in
     all_places c.args.size p size c.rows.places.items (rw all at c.rows.invariant)

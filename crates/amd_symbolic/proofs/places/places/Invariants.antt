@@ -3,4 +3,4 @@ use Rattle.amd_symbolic.proofs.Inverse.{PlacesUpTo}
 use Rattle.amd_symbolic.proofs.places.places.Given as goal
 
 abbrev pub invariant-rows : goal.invariant-rows
-invariant-rows g l = PlacesUpTo l.fn.size (map g.I.Number.value l.p) l.k l.places.items
+invariant-rows g l = PlacesUpTo l.fn.size (map g.I.Index.value l.p) l.k l.places.items

@@ -23,17 +23,14 @@ write_rows-cut-requires g c κs within =
       (
         within,
         (
-          (λ a h. absurd (not-mem-nil h)),
+          p,
           (
-            p,
+            c.in_ok-found.ensures.next,
             (
-              c.in_ok-found.ensures.next,
+              c.in_ok-found.ensures.mark,
               (
-                c.in_ok-found.ensures.mark,
-                (
-                  (long ∙ read ∙ ap (slice_index cut.ptr.items) last),
-                  usize-fits g.m.size (length cut.owner.items) p.size (omega arith),
-                ),
+                (long ∙ read ∙ ap (slice_index cut.ptr.items) last),
+                usize-fits g.m.size (length cut.owner.items) p.size (omega arith),
               ),
             ),
           ),
