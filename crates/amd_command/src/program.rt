@@ -26,7 +26,7 @@ use clap::error::ErrorKind;
 use std::alloc::Global;
 use std::io;
 use std::io::Write;
-use std::rt::Runtime;
+use std::rt::{Clock, Files, Runtime};
 
 /// A factor with so many entries takes some seconds to draw.
 const LARGE_FACTOR: usize = 1 << 26;
@@ -37,7 +37,7 @@ fn output_name<'a>(path: Option<&'a str>) -> &'a str {
 }
 
 /// What the factor needs under the order of a file.
-fn other_need<R: Runtime + AllocGlobal>(
+fn other_need<R: Files + Clock + Eprint + AllocGlobal>(
     rt: &R,
     progress: &Progress,
     matrix: &Matrix<Global>,
@@ -55,7 +55,7 @@ fn other_need<R: Runtime + AllocGlobal>(
 }
 
 /// What the factor needs under each order, where that is asked for.
-fn compare_orders<'a, R: Runtime + AllocGlobal>(
+fn compare_orders<'a, R: Files + Clock + Eprint + AllocGlobal>(
     rt: &R,
     progress: &Progress,
     options: &Options<'a>,
@@ -80,7 +80,7 @@ fn compare_orders<'a, R: Runtime + AllocGlobal>(
 }
 
 /// Writes a text to a file, or to standard output where none is named.
-fn put_text<R: Runtime + AllocGlobal>(
+fn put_text<R: Files + Print + AllocGlobal>(
     rt: &R,
     path: Option<&str>,
     text: &[u8],
@@ -92,7 +92,7 @@ fn put_text<R: Runtime + AllocGlobal>(
 }
 
 /// Writes a text to a file where both are there.
-fn put_where_asked<'a, R: Runtime + AllocGlobal>(
+fn put_where_asked<'a, R: Files + AllocGlobal>(
     rt: &R,
     path: Option<&'a str>,
     text: &Option<Vec<u8>>,
@@ -104,7 +104,7 @@ fn put_where_asked<'a, R: Runtime + AllocGlobal>(
 }
 
 /// Writes the texts on a file to where they belong. No memory is asked for once a byte is written.
-fn put_texts<'a, R: Runtime + AllocGlobal>(
+fn put_texts<'a, R: Files + Print + Eprint + AllocGlobal>(
     rt: &R,
     options: &Options<'a>,
     texts: Texts,
@@ -118,7 +118,7 @@ fn put_texts<'a, R: Runtime + AllocGlobal>(
 }
 
 /// Draws what a task has and its ordering, whose factor has at most so many entries, to a file.
-fn draw_file<R: Runtime + AllocGlobal>(
+fn draw_file<R: Files + Clock + Eprint + AllocGlobal>(
     rt: &R,
     path: &str,
     task: &Task,
@@ -134,7 +134,7 @@ fn draw_file<R: Runtime + AllocGlobal>(
 }
 
 /// Draws the assembly tree of what a task has and its ordering, to a file.
-fn draw_tree<R: Runtime + AllocGlobal>(
+fn draw_tree<R: Files + AllocGlobal>(
     rt: &R,
     path: &str,
     matrix: &Matrix<Global>,
@@ -147,7 +147,7 @@ fn draw_tree<R: Runtime + AllocGlobal>(
 }
 
 /// Draws what a task has and its ordering, where files are named for the pictures.
-fn put_pictures<'a, R: Runtime + AllocGlobal>(
+fn put_pictures<'a, R: Files + Clock + Eprint + AllocGlobal>(
     rt: &R,
     options: &Options<'a>,
     task: &Task,
@@ -190,7 +190,7 @@ fn analyze_file<'a, R: Runtime + AllocGlobal>(
 
 /// What the factor of a matrix needs as its rows stand, as they are ordered and as a file lists them, where that is
 /// asked for.
-fn exact_needs<'a, R: Runtime + AllocGlobal>(
+fn exact_needs<'a, R: Files + Clock + Eprint + AllocGlobal>(
     rt: &R,
     progress: &Progress,
     options: &Options<'a>,
