@@ -22,9 +22,11 @@ statistics_of info = record {
   nz_a_plus_at = info.nz_a_plus_at;
   n_dense = info.n_dense;
   n_cmp_a = info.n_cmp_a;
-  lnz = info.lnz;
-  n_div = info.n_div;
-  n_mult_subs_ldl = info.n_mult_subs_ldl;
-  n_mult_subs_lu = info.n_mult_subs_lu;
-  d_max = info.d_max;
+  bounds = record {
+    lnz = info.lnz;
+    n_div = info.n_div;
+    n_mult_subs_ldl = info.n_mult_subs_ldl;
+    n_mult_subs_lu = info.n_mult_subs_lu;
+    d_max = info.d_max;
+  };
 }

@@ -6,7 +6,9 @@ ghost use Rattle.std.specs.Prelude.{ℕ, ◌≡◌, ◌<◌, ◌↔◌, IsTrue, 
 ghost use Rattle.num_traits.specs.Laws.{Checks};
 ghost use Rattle.amd_c.specs.Columns.{HasColumnPlaces, LeavesColumns, arrays, number_of_end, parent_number};
 
+use crate::signed::SignedIndex;
 use amd_symbolic::Fault;
+use amd_types::index::Index;
 use amd_types::internal::{from_count, to_count};
 use num_traits::PrimInt;
 use std::alloc::Global;
@@ -26,7 +28,7 @@ pub fn number_of_end(outcome: &Result<(), Fault>) -> i32
 }
 
 /// Whether an array has `n + 1` places, and another one `n`.
-fn have_column_places<I: PrimInt>(n: I, ptr: &[I], parent: &[I]) -> bool
+fn have_column_places<I: Index>(n: I, ptr: &[I], parent: &[I]) -> bool
     ensures { IsTrue result ↔ HasColumnPlaces (I.value n) (map I.value ptr.now) (map I.value parent.now) }
 {
     match to_count(n) {
@@ -36,7 +38,7 @@ fn have_column_places<I: PrimInt>(n: I, ptr: &[I], parent: &[I]) -> bool
 }
 
 /// Whether the caller's type has each of the counts.
-pub fn has_numbers<I: PrimInt>(counts: &[usize]) -> bool
+pub fn has_numbers<I: Index>(counts: &[usize]) -> bool
     ensures { result ≡ true → (k : ℕ) → k < length counts.now → I.fits (pos (slice_index counts.now k)) }
 {
     'counts: for k in 0..counts.len() {
@@ -48,7 +50,7 @@ pub fn has_numbers<I: PrimInt>(counts: &[usize]) -> bool
 }
 
 /// Writes counts, which the caller's type has, as numbers of it.
-pub fn write_numbers<I: PrimInt>(counts: &[usize], numbers: &mut [I])
+pub fn write_numbers<I: Index>(counts: &[usize], numbers: &mut [I])
     requires room { length numbers.old ≡ length counts.now }
     requires fits { (k : ℕ) → k < length counts.now → I.fits (pos (slice_index counts.now k)) }
     ensures { map I.value numbers.new ≡ map pos counts.now }
@@ -62,17 +64,17 @@ pub fn write_numbers<I: PrimInt>(counts: &[usize], numbers: &mut [I])
 }
 
 /// The number of a parent, -1 for none, where the type has it.
-fn number_of_parent<I: PrimInt>(parent: Option<usize>) -> Option<I>
+fn number_of_parent<I: SignedIndex>(parent: Option<usize>) -> Option<I>
     ensures { Checks I.value I.fits (parent_number parent) result }
 {
     match parent {
         Some(place) => from_count(place),
-        None => num_traits::cast::<i32, I>(-1),
+        None => I::from_signed(-1),
     }
 }
 
 /// Whether the caller's type has the number of each of the parents.
-pub fn has_parents<I: PrimInt>(parents: &[Option<usize>]) -> bool
+pub fn has_parents<I: SignedIndex>(parents: &[Option<usize>]) -> bool
     ensures { result ≡ true → (k : ℕ) → k < length parents.now →
         I.fits (parent_number (slice_index_or parents.now k None)) }
 {
@@ -85,7 +87,7 @@ pub fn has_parents<I: PrimInt>(parents: &[Option<usize>]) -> bool
 }
 
 /// Writes the numbers of parents, which the caller's type has.
-pub fn write_parents<I: PrimInt>(parents: &[Option<usize>], numbers: &mut [I])
+pub fn write_parents<I: SignedIndex>(parents: &[Option<usize>], numbers: &mut [I])
     requires room { length numbers.old ≡ length parents.now }
     requires fits { (k : ℕ) → k < length parents.now → I.fits (parent_number (slice_index_or parents.now k None)) }
     ensures { map I.value numbers.new ≡ map parent_number parents.now }

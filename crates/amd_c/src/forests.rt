@@ -11,18 +11,18 @@ ghost use Rattle.amd_c.specs.Forests.{AreParents, HasForestPlaces, HasNoCycle, I
 ghost use Rattle.amd_c.specs.Forests.{StaysInside, parent_in};
 
 use crate::patterns::has_row_places;
+use crate::signed::SignedIndex;
 use amd_postorder::postorder::postorder;
 use amd_types::amd::Status;
 use amd_types::internal::value_at;
-use num_traits::PrimInt;
 use std::alloc::Global;
 
 /// The number at a place of a list of the caller's type, where an `isize` has it.
-fn signed_at<I: PrimInt>(numbers: &[I], place: usize) -> Option<isize>
+fn signed_at<I: SignedIndex>(numbers: &[I], place: usize) -> Option<isize>
     requires { place < length numbers.now }
     ensures { IfSome result (λ number. number ≡ at (map I.value numbers.now) place) }
 {
-    value_at(numbers, place).to_isize()
+    value_at(numbers, place).to_signed()
 }
 
 /// The numbers of a list of the caller's type.
@@ -30,7 +30,7 @@ fn signed_at<I: PrimInt>(numbers: &[I], place: usize) -> Option<isize>
 /// # Errors
 ///
 /// `OutOfMemory` where a request was refused, or a number is too large.
-fn signed_of<I: PrimInt>(alloc: Global, numbers: &[I]) -> Result<Vec<isize, Global>, Status>
+fn signed_of<I: SignedIndex>(alloc: Global, numbers: &[I]) -> Result<Vec<isize, Global>, Status>
     ensures numbers { IfOk result (λ v. v.items ≡ map I.value numbers.now) }
     ensures refused { IfErr result (λ e. e ≡ Status.OutOfMemory) }
 {
@@ -45,11 +45,11 @@ fn signed_of<I: PrimInt>(alloc: Global, numbers: &[I]) -> Result<Vec<isize, Glob
 }
 
 /// The number at a place, as one of the caller's type, where the type has it.
-fn number_from<I: PrimInt>(signed: &[isize], place: usize) -> Option<I>
+fn number_from<I: SignedIndex>(signed: &[isize], place: usize) -> Option<I>
     requires { place < length signed.now }
     ensures { IfSome result (λ number. I.value number ≡ at signed.now place) }
 {
-    num_traits::cast::<isize, I>(signed[place])
+    I::from_signed(signed[place])
 }
 
 /// The numbers as those of the caller's type.
@@ -57,7 +57,7 @@ fn number_from<I: PrimInt>(signed: &[isize], place: usize) -> Option<I>
 /// # Errors
 ///
 /// `OutOfMemory` where a request was refused, or a number is too large for the type.
-fn numbers_from<I: PrimInt>(alloc: Global, signed: &[isize]) -> Result<Vec<I, Global>, Status>
+fn numbers_from<I: SignedIndex>(alloc: Global, signed: &[isize]) -> Result<Vec<I, Global>, Status>
     ensures numbers { IfOk result (λ v. map I.value v.items ≡ signed.now) }
     ensures refused { IfErr result (λ e. e ≡ Status.OutOfMemory) }
 {
@@ -210,7 +210,7 @@ fn is_forest(
 ///
 /// `Invalid` exactly where the lists are no forest; `OutOfMemory` where a request was refused, or a number is too
 /// large.
-fn postorder_of<I: PrimInt>(
+fn postorder_of<I: SignedIndex>(
     alloc: Global,
     parent: &[I],
     nv: &[I],
@@ -239,7 +239,13 @@ fn postorder_of<I: PrimInt>(
 }
 
 /// Whether each of four arrays has `n` places.
-fn have_forest_places<I: PrimInt>(n: I, parent: &[I], nv: &[I], f_size: &[I], order: &[I]) -> bool
+fn have_forest_places<I: SignedIndex>(
+    n: I,
+    parent: &[I],
+    nv: &[I],
+    f_size: &[I],
+    order: &[I],
+) -> bool
     ensures { IsTrue result ↔ HasForestPlaces (I.value n) (map I.value parent.now) (map I.value nv.now)
         (map I.value f_size.now) (map I.value order.now) }
 {
@@ -260,7 +266,7 @@ fn have_forest_places<I: PrimInt>(n: I, parent: &[I], nv: &[I], f_size: &[I], or
 /// itself. `OutOfMemory` where a request was refused, or a number does not fit.
 ///
 /// Source: Amestoy, Davis and Duff 2004.
-pub fn postorder_into<I: PrimInt>(
+pub fn postorder_into<I: SignedIndex>(
     alloc: Global,
     n: I,
     parent: &[I],

@@ -15,6 +15,7 @@ mod laid;
 mod narrow;
 mod patterns;
 pub mod records;
+mod signed;
 mod supernodal;
 mod writing;
 

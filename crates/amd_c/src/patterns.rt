@@ -14,19 +14,20 @@ use amd_input::preprocess::preprocess;
 use amd_input::valid::valid;
 use amd_symbolic::Fault;
 use amd_types::amd::{Info, Status};
+use amd_types::index::Index;
 use amd_types::internal::to_count;
 use num_traits::PrimInt;
 use std::alloc::Global;
 
 /// Whether an array has `n` places.
-pub fn has_row_places<I: PrimInt>(n: I, numbers: &[I]) -> bool
+pub fn has_row_places<I: Index>(n: I, numbers: &[I]) -> bool
     ensures { IsTrue result ↔ HasRowPlaces (I.value n) (map I.value numbers.now) }
 {
     to_count(n) == Some(numbers.len())
 }
 
 /// Whether an array has `n + 1` places.
-fn has_pointer_places<I: PrimInt>(n: I, pointers: &[I]) -> bool
+fn has_pointer_places<I: Index>(n: I, pointers: &[I]) -> bool
     ensures { IsTrue result ↔ HasPointerPlaces (I.value n) (map I.value pointers.now) }
 {
     match to_count(n) {

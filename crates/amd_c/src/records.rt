@@ -37,16 +37,26 @@ pub struct Statistics {
     pub n_dense: usize,
     /// Compactions of the workspace.
     pub n_cmp_a: usize,
-    /// A bound on the entries of `L` below the diagonal. It and the next three bounds saturate: one that is
-    /// `usize::MAX` may be too small.
+    /// What the factor needs at most.
+    pub bounds: Bounds,
+}
+
+/// Upper bounds on what a factor needs, the last fields of what C knows as one record. The first four saturate: one that
+/// is `usize::MAX` may be too small.
+///
+/// Source: AMD user guide.
+#[derive(Drop)]
+#[repr(C)]
+pub struct Bounds {
+    /// The entries of `L` below the diagonal.
     pub lnz: usize,
-    /// A bound on the divisions.
+    /// The divisions.
     pub n_div: usize,
-    /// A bound on the multiply-subtract steps of `LDL'`.
+    /// The multiply-subtract steps of `LDL'`.
     pub n_mult_subs_ldl: usize,
-    /// A bound on those of `LU`.
+    /// Those of `LU`.
     pub n_mult_subs_lu: usize,
-    /// A bound on the entries of a column of `L`, with its diagonal.
+    /// The entries of a column of `L`, with its diagonal.
     pub d_max: usize,
 }
 
@@ -89,11 +99,13 @@ pub fn statistics_of(info: &Info) -> Statistics
         nz_a_plus_at: info.nz_a_plus_at,
         n_dense: info.n_dense,
         n_cmp_a: info.n_cmp_a,
-        lnz: info.lnz,
-        n_div: info.n_div,
-        n_mult_subs_ldl: info.n_mult_subs_ldl,
-        n_mult_subs_lu: info.n_mult_subs_lu,
-        d_max: info.d_max,
+        bounds: Bounds {
+            lnz: info.lnz,
+            n_div: info.n_div,
+            n_mult_subs_ldl: info.n_mult_subs_ldl,
+            n_mult_subs_lu: info.n_mult_subs_lu,
+            d_max: info.d_max,
+        },
     }
 }
 

@@ -9,6 +9,7 @@ ghost use Rattle.amd_c.specs.Supernodal.{HasBlockPlaces, LeavesSizes, LeavesSupe
 use crate::factors::{has_numbers, has_parents, write_numbers, write_parents};
 use crate::records::SupernodeSizes;
 use amd_symbolic::{Fault, supernode_partition, supernode_sizes, write_rows};
+use amd_types::index::Index;
 use num_traits::PrimInt;
 use std::alloc::Global;
 
@@ -43,7 +44,7 @@ pub fn supernode_sizes_into<I: PrimInt>(
 }
 
 /// Whether two arrays have one place more than a third.
-fn have_block_places<I: PrimInt>(first: &[I], ptr: &[I], parent: &[I]) -> bool
+fn have_block_places<I: Index>(first: &[I], ptr: &[I], parent: &[I]) -> bool
     ensures { IsTrue result ↔ HasBlockPlaces (map I.value first.now) (map I.value ptr.now) (map I.value parent.now) }
 {
     first.len().checked_sub(1) == Some(parent.len())

@@ -32,11 +32,11 @@ fn numbers_of(told: &Statistics) -> [usize; 11] {
         told.nz_a_plus_at,
         told.n_dense,
         told.n_cmp_a,
-        told.lnz,
-        told.n_div,
-        told.n_mult_subs_ldl,
-        told.n_mult_subs_lu,
-        told.d_max,
+        told.bounds.lnz,
+        told.bounds.n_div,
+        told.bounds.n_mult_subs_ldl,
+        told.bounds.n_mult_subs_lu,
+        told.bounds.d_max,
     ]
 }
 
@@ -105,7 +105,7 @@ fn a_jumbled_path(rt: HostRuntime) {
         &mut told,
     );
     assert!(rt; number == 1 && p == [1, 0, 2] && p_inv == [1, 0, 2]);
-    let numbers = [told.nz, told.nz_diag, told.nz_a_plus_at, told.lnz];
+    let numbers = [told.nz, told.nz_diag, told.nz_a_plus_at, told.bounds.lnz];
     assert!(rt; numbers == [3, 1, 4, 2] && rimopaku_valid_i64(3, 3, &a_p, &a_i) == 1);
 }
 
@@ -127,7 +127,7 @@ fn a_row_of_a_cycle_held_last(rt: HostRuntime) {
         &mut told,
     );
     assert!(rt; number == 0 && p == [3, 1, 2, 0] && p_inv == [3, 1, 2, 0]);
-    assert!(rt; [told.n_dense, told.lnz, told.d_max] == [1, 5, 3]);
+    assert!(rt; [told.n_dense, told.bounds.lnz, told.bounds.d_max] == [1, 5, 3]);
 }
 
 #[test]
@@ -393,7 +393,7 @@ fn a_cycle_in_64_bits(rt: HostRuntime) {
         &mut p_inv,
         &mut told,
     );
-    assert!(rt; number == 0 && p == [3, 1, 2, 0] && p_inv == [3, 1, 2, 0] && told.lnz == 5);
+    assert!(rt; number == 0 && p == [3, 1, 2, 0] && p_inv == [3, 1, 2, 0] && told.bounds.lnz == 5);
     let mut ptr = [-5; 5];
     let mut rows = [-5; 5];
     let mut parent = [-5; 4];

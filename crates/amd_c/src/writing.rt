@@ -7,12 +7,13 @@ ghost use Rattle.amd_c.specs.Calls.{HasPlaces, Leaves, memory};
 
 use crate::records::{Parameters, Statistics, statistics_of};
 use amd::{Control, Status, order_marked};
+use amd_types::index::Index;
 use amd_types::internal::to_count;
 use num_traits::PrimInt;
 use std::alloc::Global;
 
 /// Whether each of two arrays has `n` places.
-pub fn have_places<I: PrimInt>(n: I, p: &[I], p_inv: &[I]) -> bool
+pub fn have_places<I: Index>(n: I, p: &[I], p_inv: &[I]) -> bool
     ensures { IsTrue result ↔ HasPlaces (I.value n) (map I.value p.now) (map I.value p_inv.now) }
 {
     match to_count(n) {

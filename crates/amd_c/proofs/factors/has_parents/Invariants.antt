@@ -4,4 +4,4 @@ use Rattle.amd_c.specs.Columns.{parent_number}
 use Rattle.amd_c.proofs.factors.has_parents.Given as goal
 
 abbrev pub invariant-parents : goal.invariant-parents
-invariant-parents g l = (i : ℕ) → i < l.k → g.I.Number.fits (parent_number (slice_index_or l.parents i None))
+invariant-parents g l = (i : ℕ) → i < l.k → g.I.Index.fits (parent_number (slice_index_or l.parents i None))

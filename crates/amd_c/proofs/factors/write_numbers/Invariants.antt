@@ -4,5 +4,5 @@ use Rattle.amd_c.proofs.factors.write_numbers.Given as goal
 abbrev pub invariant-counts : goal.invariant-counts
 invariant-counts g l = record {
   size : length l.numbers ≡ length l.counts;
-  items : map g.I.Number.value (take l.k l.numbers) ≡ map pos (take l.k l.counts);
+  items : map g.I.Index.value (take l.k l.numbers) ≡ map pos (take l.k l.counts);
 }

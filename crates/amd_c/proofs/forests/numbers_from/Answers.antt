@@ -5,7 +5,7 @@ use Rattle.amd_c.proofs.forests.numbers_from.Goals as goal
 
 pub numbers-preserved : goal.numbers-preserved
 numbers-preserved g c =
-    let value = g.I.Number.value in
+    let value = g.I.Index.value in
     ap (map value) c.in_ok-push.ensures.items
     ∙ map-append value c.numbers.numbers.items (c.in-Some.number ∷ [])
     ∙ ap (λ xs. xs ++ value c.in-Some.number ∷ []) c.numbers.invariant

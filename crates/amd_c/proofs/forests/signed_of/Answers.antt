@@ -6,7 +6,7 @@ use Rattle.amd_c.proofs.forests.signed_of.Goals as goal
 
 pub numbers-preserved : goal.numbers-preserved
 numbers-preserved g c =
-    let value = g.I.Number.value in
+    let value = g.I.Index.value in
     let numbers = map value c.args.numbers.now in
     let inside : c.numbers.k < length numbers = (let t = c.numbers-test.true in let m = length-map c.args.numbers.now value in
     omega (arith, t, m)) in
