@@ -2,7 +2,8 @@
 // entries are written in place, and the short arrays last, so those stay as they were where there is a fault. Called
 // by `int32` and `int64`.
 
-ghost use Rattle.std.specs.Prelude.{ℕ, ◌≡◌, ◌<◌, ◌↔◌, IsTrue, None, length, map, pos, slice_index, slice_index_or, true};
+ghost use Rattle.std.specs.Prelude.{ℕ, ◌≡◌, ◌<◌, ◌≤◌, ◌↔◌, ◌++◌, IsTrue, None, drop, length, map, pos, slice_index};
+ghost use Rattle.std.specs.Prelude.{slice_index_or, true};
 ghost use Rattle.num_traits.specs.Laws.{Checks};
 ghost use Rattle.amd_c.specs.Columns.{HasColumnPlaces, LeavesColumns, arrays, number_of_end, parent_number};
 
@@ -86,6 +87,15 @@ pub fn has_parents<I: SignedIndex>(parents: &[Option<usize>]) -> bool
     true
 }
 
+/// Writes counts, which the caller's type has, as the first numbers of an array; those behind them stay.
+pub fn write_first_numbers<I: Index>(counts: &[usize], numbers: &mut [I])
+    requires room { length counts.now ≤ length numbers.old }
+    requires fits { (k : ℕ) → k < length counts.now → I.fits (pos (slice_index counts.now k)) }
+    ensures { map I.value numbers.new ≡ map pos counts.now ++ drop (length counts.now) (map I.value numbers.old) }
+{
+    write_numbers(counts, &mut numbers[..counts.len()]);
+}
+
 /// Writes the numbers of parents, which the caller's type has.
 pub fn write_parents<I: SignedIndex>(parents: &[Option<usize>], numbers: &mut [I])
     requires room { length numbers.old ≡ length parents.now }
@@ -98,6 +108,16 @@ pub fn write_parents<I: SignedIndex>(parents: &[Option<usize>], numbers: &mut [I
         };
         numbers[k] = number;
     }
+}
+
+/// Writes the numbers of parents, which the caller's type has, as the first ones of an array; those behind them stay.
+pub fn write_first_parents<I: SignedIndex>(parents: &[Option<usize>], numbers: &mut [I])
+    requires room { length parents.now ≤ length numbers.old }
+    requires fits { (k : ℕ) → k < length parents.now → I.fits (parent_number (slice_index_or parents.now k None)) }
+    ensures { map I.value numbers.new ≡ map parent_number parents.now ++
+        drop (length parents.now) (map I.value numbers.old) }
+{
+    write_parents(parents, &mut numbers[..parents.len()]);
 }
 
 /// Writes the columns of the factor of a matrix under the order `p` into the caller's arrays.

@@ -6,7 +6,7 @@ ghost use Rattle.std.specs.Prelude.{◌≡◌, ◌↔◌, IsTrue, map};
 ghost use Rattle.amd_symbolic.specs.Partitions.{Matrix, matrix};
 ghost use Rattle.amd_c.specs.Supernodal.{HasBlockPlaces, LeavesSizes, LeavesSupernodes, blocks};
 
-use crate::factors::{has_numbers, has_parents, write_numbers, write_parents};
+use crate::factors::{has_numbers, has_parents, write_first_numbers, write_first_parents};
 use crate::records::SupernodeSizes;
 use amd_symbolic::{Fault, supernode_partition, supernode_sizes, write_rows};
 use amd_types::index::Index;
@@ -85,9 +85,9 @@ fn matrix_supernodes_into<I: PrimInt>(
         return Err(Fault::OutOfMemory);
     }
     let cut = write_rows(found, &mut rows[..below]);
-    write_numbers(&cut.first, &mut first[..cut.first.len()]);
-    write_numbers(&cut.ptr, &mut ptr[..cut.ptr.len()]);
-    write_parents(&cut.parent, &mut parent[..cut.parent.len()]);
+    write_first_numbers(&cut.first, first);
+    write_first_numbers(&cut.ptr, ptr);
+    write_first_parents(&cut.parent, parent);
     Ok(())
 }
 

@@ -1,5 +1,5 @@
 -- What was written to the front of each array are the numbers of the supernodes; where there was no place, they are more.
-use Rattle.std.proofs.Common.{◌≡◌, ◌<◌, ◌+◌, ◌-◌, ◌⊎◌, inl, inr, map, pos, length, refl, sym, ◌∙◌, ap, subst, arith, rules}
+use Rattle.std.proofs.Common.{◌≡◌, ◌<◌, ◌+◌, ◌-◌, ◌⊎◌, ◌++◌, drop, inl, inr, map, pos, length, refl, sym, ◌∙◌, ap, subst, arith, rules}
 use Rattle.std.specs.Prelude.{slice_index}
 use Rattle.std.proofs.lemmas.List.{get_or_read, length-map}
 use Rattle.amd_types.specs.Counts.{counts}
@@ -46,9 +46,6 @@ returns g c =
     let e = c.write_rows-cut.ensures in
     let cut = c.write_rows-cut.result in
     let rows = c.write_rows-cut.new.rows in
-    let firsts : c.len-3.result ≡ length cut.first.items = (let l = c.len-3.ensures in omega (arith, l)) in
-    let ptrs : c.len-4.result ≡ length cut.ptr.items = (let l = c.len-4.ensures in omega (arith, l)) in
-    let over : c.len-5.result ≡ length cut.parent.items = (let l = c.len-5.ensures in omega (arith, l)) in
     let long : length rows ≡ c.index-below.result.now = search rules in
     record {
       first = cut.first.items;
@@ -56,12 +53,12 @@ returns g c =
       rows = counts (map value rows);
       parent = cut.parent.items;
       supernodes = rw e.same e.supernodes;
-      begin = front_values value pos c.write_numbers.new.numbers c.args.first.now cut.first.items c.len-3.result
-          (c.write_numbers.ensures ∙ ap (map pos) c.deref-2.ensures.value) firsts;
-      pointers = front_values value pos c.write_numbers-2.new.numbers c.args.ptr.now cut.ptr.items c.len-4.result
-          (c.write_numbers-2.ensures ∙ ap (map pos) c.deref-3.ensures.value) ptrs;
+      begin = c.write_first_numbers.ensures ∙ ap (λ xs. map pos xs ++ drop (length xs) (map value c.args.first.now))
+          c.deref-2.ensures.value;
+      pointers = c.write_first_numbers-2.ensures ∙ ap (λ xs. map pos xs ++ drop (length xs) (map value c.args.ptr.now))
+          c.deref-3.ensures.value;
       entries = front_values value pos rows c.args.rows.now (counts (map value rows)) c.index-below.result.now (sym e.told)
           (sym (count-length value rows ∙ long));
-      parents = front_values value parent_number c.write_parents.new.numbers c.args.parent.now cut.parent.items c.len-5.result
-          (c.write_parents.ensures ∙ ap (map parent_number) c.deref-4.ensures.value) over;
+      parents = c.write_first_parents.ensures
+          ∙ ap (λ xs. map parent_number xs ++ drop (length xs) (map value c.args.parent.now)) c.deref-4.ensures.value;
     }
