@@ -1,5 +1,5 @@
 -- the goals of copying::copy_symmetric.
-use Rattle.std.proofs.Common.{◌≡◌, ◌+◌, arith, map, sym, refl, ◌∙◌, length, subst}
+use Rattle.std.proofs.Common.{◌≡◌, ◌+◌, arith, map, sym, refl, ◌∙◌, length, subst, ap}
 use Rattle.std.proofs.lemmas.Bool.{false≢true}
 use Rattle.amd_model.specs.Below.{sum_below}
 use Rattle.amd_model.specs.Input.Pattern.{graph_of}
@@ -35,6 +35,14 @@ bounds-degrees-i g c = let a = c.requires.degrees.size in let b = c.columns-test
 pub offset_bounds-degrees-i : goal.offset_bounds-degrees-i
 unfolding graph_of
 offset_bounds-degrees-i g c = let a = c.requires.degrees.size in let b = c.columns-test.true in omega (arith, a, b, c.well_formed)
+
+pub overflow_sub-end : goal.overflow_sub-end
+unfolding graph_of
+overflow_sub-end g c =
+    let az = map g.I.Index.value c.args.a_p.now in let bz = map g.I.Index.value c.args.a_i.now in let new = c.push_others.new.iw in
+    let long = long_is c.args.size az bz c.args.degrees.now c.requires.degrees c.columns.i c.columns.free c.columns-test.true
+    c.columns.iw.items new.items c.push_others.ensures.items c.columns.invariant.copied in
+    let len = new.ok.0 in let end = c.len-end.ensures in omega (arith, long, len, end)
 
 pub returns-then-end-free-clause-long : goal.returns-then-end-free-clause-long
 returns-then-end-free-clause-long g c =
@@ -93,3 +101,34 @@ returns-clause-lists g c = λ e i l.
     let mirror = counts_symmetric c.args.size az bz (λ j m. sym (c.requires.degrees.each j m)
     ∙ c.columns.invariant.copied.counts j (omega (arith, m, t))) in
     c.columns.invariant.copied.lists i (omega (arith, l, t)) ∙ sym (symmetric_starting c.args.size az bz mirror i l)
+
+-- the lists of all rows fill what was appended
+pub returns-clause-long : goal.returns-clause-long
+returns-clause-long g c =
+    let v = c.columns.invariant.copied in let long = v.long in
+    let end : c.columns.i ≡ c.args.size = (let a = c.columns-test.false in let b = c.columns.auto.i-end in omega (arith, a, b)) in
+    let place = v.place ∙ ap (start_of (graph_of c.args.size (map g.I.Index.value c.args.a_p.now) (map g.I.Index.value c.args.a_i.now))) end in
+    omega (arith, long, place)
+
+pub returns-clause-all : goal.returns-clause-all
+returns-clause-all g c = λ e.
+    let v = c.columns.invariant.copied in let long = v.long in
+    let end : c.columns.i ≡ c.args.size = (let a = c.columns-test.false in let b = c.columns.auto.i-end in omega (arith, a, b)) in
+    let place = v.place ∙ ap (start_of (graph_of c.args.size (map g.I.Index.value c.args.a_p.now) (map g.I.Index.value c.args.a_i.now))) end in
+    omega (arith, long, place)
+
+pub returns-clause-words : goal.returns-clause-words
+returns-clause-words g c = c.columns.invariant.words
+
+pub returns-clause-capacity : goal.returns-clause-capacity
+returns-clause-capacity g c = c.columns.invariant.capacity
+
+pub returns-then-end-free-clause-capacity : goal.returns-then-end-free-clause-capacity
+returns-then-end-free-clause-capacity g c =
+    let x = c.columns.invariant.capacity in let y = c.push_others.ensures.capacity in omega (arith, x, y)
+
+pub returns-then-end-free-clause-all : goal.returns-then-end-free-clause-all
+returns-then-end-free-clause-all g c = λ e. absurd (false≢true e)
+
+pub returns-then-end-free-clause-lists : goal.returns-then-end-free-clause-lists
+returns-then-end-free-clause-lists g c = λ e i l. absurd (false≢true e)

@@ -12,10 +12,20 @@ use Rattle.amd_workspace.proofs.Copied.{left_of, others_before, others_more, oth
 use Rattle.amd_workspace.proofs.Layings.{words_next}
 use Rattle.amd_workspace.proofs.copying.push_before.Goals as goal
 
+pub count_at-stop-requires-clause-within : goal.count_at-stop-requires-clause-within
+count_at-stop-requires-clause-within g c =
+    let enough = c.requires.form.enough in let long = length-map c.args.a_p.now g.I.Index.value in let row = c.requires.row in
+    omega (arith, enough, long, row)
+
 pub count_at-stop-requires-clause-fits : goal.count_at-stop-requires-clause-fits
 count_at-stop-requires-clause-fits g c = pointer_fits c.args.size (map g.I.Index.value c.args.a_p.now)
     (map g.I.Index.value c.args.a_i.now) c.requires.form (c.args.i + 1) (let l = c.requires.row in omega (arith, l))
     (subst (λ x. x < 2 ^ 64) (sym (length-map c.args.a_i.now g.I.Index.value)) (omega (arith, c.well_formed)))
+
+pub count_at-place-requires-clause-within : goal.count_at-place-requires-clause-within
+count_at-place-requires-clause-within g c =
+    let enough = c.requires.form.enough in let long = length-map c.args.a_p.now g.I.Index.value in let row = c.requires.row in
+    omega (arith, enough, long, row)
 
 pub count_at-place-requires-clause-fits : goal.count_at-place-requires-clause-fits
 count_at-place-requires-clause-fits g c = pointer_fits c.args.size (map g.I.Index.value c.args.a_p.now)
@@ -83,6 +93,9 @@ push_reserved-requires g c =
     let whole = ap length v.items in let both = length-append c.args.iw.now.items (map pos part) in let long = length-map part pos in
     let len = c.rows.iw.ok.0 in let wide = v.capacity in omega (arith, more, same, room, whole, both, long, len, wide)
 
+pub overflow_add-place : goal.overflow_add-place
+overflow_add-place g c = let t = c.rows-test.true in let fits = c.count_at-stop.type_inv in omega (arith, t, fits)
+
 pub rows-preserved : goal.rows-preserved
 rows-preserved g c =
     let ap' = map g.I.Index.value c.args.a_p.now in let ai = map g.I.Index.value c.args.a_i.now in
@@ -138,3 +151,36 @@ returns-after-rows-clause-items g c =
     v.items ∙ ap (λ xs. c.args.iw.now.items ++ map pos xs)
     (others_before c.args.size ap' ai c.requires.form form c.args.i c.rows.invariant.0 c.count_at-stop.result c.rows.place
     c.requires.row c.count_at-stop.ensures.count v.place v.low (λ r a b. absurd (omega (arith, past, a, b))))
+
+-- what was read is before the diagonal
+pub returns-else-count_at-i-clause-from : goal.returns-else-count_at-i-clause-from
+returns-else-count_at-i-clause-from g c = c.rows.invariant.1.place.from
+
+pub returns-else-count_at-i-clause-to : goal.returns-else-count_at-i-clause-to
+returns-else-count_at-i-clause-to g c =
+    let to = c.rows.invariant.1.place.to in let ends = c.count_at-stop.ensures.count in omega (arith, to, ends)
+
+pub returns-else-count_at-i-clause-before : goal.returns-else-count_at-i-clause-before
+returns-else-count_at-i-clause-before g c = λ r a b.
+    let low = c.rows.invariant.1.low in let read = c.rows.invariant.1.place.read r a b in omega (arith, low, read)
+
+pub returns-else-count_at-i-clause-capacity : goal.returns-else-count_at-i-clause-capacity
+returns-else-count_at-i-clause-capacity g c = c.rows.invariant.1.capacity
+
+pub returns-after-rows-clause-from : goal.returns-after-rows-clause-from
+returns-after-rows-clause-from g c = c.rows.invariant.1.place.from
+
+pub returns-after-rows-clause-to : goal.returns-after-rows-clause-to
+returns-after-rows-clause-to g c =
+    let to = c.rows.invariant.1.place.to in let ends = c.count_at-stop.ensures.count in omega (arith, to, ends)
+
+pub returns-after-rows-clause-before : goal.returns-after-rows-clause-before
+returns-after-rows-clause-before g c = λ r a b.
+    let low = c.rows.invariant.1.low in let read = c.rows.invariant.1.place.read r a b in omega (arith, low, read)
+
+pub returns-after-rows-clause-behind : goal.returns-after-rows-clause-behind
+returns-after-rows-clause-behind g c = λ r a b.
+    let past = c.rows-test.false in let ends = c.count_at-stop.ensures.count in omega (arith, past, a, b, ends)
+
+pub returns-after-rows-clause-capacity : goal.returns-after-rows-clause-capacity
+returns-after-rows-clause-capacity g c = c.rows.invariant.1.capacity

@@ -1,4 +1,4 @@
-use Rattle.std.proofs.Common.{ℕ, ◌++◌, ◌∷◌, [], arith, ap, length, ◌∙◌}
+use Rattle.std.proofs.Common.{◌≡◌, replicate, ℕ, ◌++◌, ◌∷◌, [], arith, ap, length, ◌∙◌}
 use Rattle.std.proofs.lemmas.List.{length-replicate, replicate_more}
 use Rattle.amd_workspace.proofs.filling.sides.Goals as goal
 
@@ -15,3 +15,11 @@ sides-preserved g c =
       items = e.items ∙ ap (λ x. c.sides.list.items ++ x ∷ []) c.sides_of.ensures
           ∙ ap (λ xs. xs ++ (c.args.number, c.args.number) ∷ []) i.items ∙ replicate_more c.sides.counter (c.args.number, c.args.number);
     }
+
+pub sides-init : goal.sides-init
+sides-init g c = record { room = c.in_ok-list.ensures.capacity; items = c.in_ok-list.ensures.items }
+
+pub returns : goal.returns
+returns g c =
+    let end : c.sides.counter ≡ c.args.count = (let a = c.sides-test.false in let b = c.sides.auto.counter-end in omega (arith, a, b)) in
+    c.sides.invariant.items ∙ ap (λ n. replicate n (c.args.number, c.args.number)) end

@@ -16,3 +16,6 @@ words-preserved g c =
           ∙ ap (λ xs. xs ++ (to_z w64 (of_z w64 c.args.number)) ∷ []) i.items
           ∙ replicate_more c.words.counter (to_z w64 (of_z w64 c.args.number));
     }
+
+pub words-init : goal.words-init
+words-init g c = record { room = c.in_ok-list.ensures.capacity; items = c.in_ok-list.ensures.items }

@@ -89,3 +89,27 @@ returns-clause-lists g c = λ i l.
     ] in
     list_at graph c.args.degrees.now s.pe.items s.next.items s.len.items c.requires.degrees c.starts-free.ensures.starts
     c.if-has_long_lower.iw.items _ i l list
+
+-- what both ways and the choice between them ask for
+pub lower_lists-requires-clause-lower : goal.lower_lists-requires-clause-lower
+lower_lists-requires-clause-lower g c = c.has_long_lower.ensures.yes c.if-has_long_lower.true
+
+pub lower_lists-requires-clause-room : goal.lower_lists-requires-clause-room
+unfolding graph_of
+lower_lists-requires-clause-room g c = let room = c.requires.room in omega (arith, room)
+
+pub lower_lists-requires-clause-fits : goal.lower_lists-requires-clause-fits
+lower_lists-requires-clause-fits g c = (c.requires.fits.0, c.requires.fits.2)
+
+pub general_lists-requires-clause-room : goal.general_lists-requires-clause-room
+unfolding graph_of
+general_lists-requires-clause-room g c = let room = c.requires.room in let some = c.requires.some in omega (arith, room, some)
+
+pub general_lists-requires-clause-fits : goal.general_lists-requires-clause-fits
+general_lists-requires-clause-fits g c = (c.requires.fits.0, c.requires.fits.2)
+
+pub general_lists-requires-clause-degrees : goal.general_lists-requires-clause-degrees
+general_lists-requires-clause-degrees g c = c.requires.degrees
+
+pub lower_lists-requires-clause-degrees : goal.lower_lists-requires-clause-degrees
+lower_lists-requires-clause-degrees g c = c.requires.degrees

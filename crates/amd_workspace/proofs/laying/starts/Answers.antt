@@ -1,7 +1,7 @@
 use Rattle.std.proofs.Common.{◌≡◌, ◌<◌, ◌≤◌, ◌+◌, ◌++◌, ◌∷◌, [], ◌^◌, ℕ, arith, rules, refl, sym, ap, ◌∙◌}
 use Rattle.std.proofs.Common.{length, get_or, w64, pos, map, take}
 use Rattle.std.proofs.lemmas.Int.{to_z_pos}
-use Rattle.std.proofs.lemmas.List.{length_push, take_more, take_all, nil_from_length}
+use Rattle.std.proofs.lemmas.List.{length_push, length-map, length-take, take_more, take_all, nil_from_length}
 use Rattle.amd_model.specs.Below.{sum_below}
 use Rattle.amd_model.proofs.Counting.Below.{sum_upto}
 use Rattle.amd_words.specs.Words.{num}
@@ -50,6 +50,22 @@ cell_of-requires-in-rows g c =
     let s = small (length c.args.degrees.now) c.rows.degree-index c.rows.total (num c.args.degrees.now) _ i.total c.rows-test.true
     c.requires.fits.1 in
     omega (arith, s)
+
+pub push_reserved-requires : goal.push_reserved-requires
+push_reserved-requires g c =
+    let i = c.rows.invariant in let size = i.size in let t = c.rows-test.true in let room = i.pe_room in let len = c.rows.pe.ok.0 in
+    let is = ap length i.words in let long = length-map c.rows.next.items pos in omega (arith, size, t, room, len, is, long)
+
+pub push_reserved-requires-in-rows : goal.push_reserved-requires-in-rows
+push_reserved-requires-in-rows g c =
+    let i = c.rows.invariant in let size = i.size in let t = c.rows-test.true in let room = i.next_room in let len = c.rows.next.ok.0 in
+    omega (arith, size, t, room, len)
+
+pub push_reserved-requires-in-rows-2 : goal.push_reserved-requires-in-rows-2
+push_reserved-requires-in-rows-2 g c =
+    let i = c.rows.invariant in let t = c.rows-test.true in let room = i.len_room in let len = c.rows.len.ok.0 in
+    let is = ap length i.counts in let long = length-take c.rows.degree-index c.args.degrees.now in
+    omega (arith, t, room, len, is, long)
 
 pub overflow_cast-total : goal.overflow_cast-total
 overflow_cast-total g c =

@@ -1,8 +1,8 @@
 -- the goals of lower::push_column.
 use Rattle.std.proofs.Common.{◌≡◌, ◌+◌, ◌-◌, ◌<◌, ◌^◌, ◌++◌, ◌∷◌, [], arith, rules, map, take, drop, pos, ap, sym, ◌∙◌, subst}
-use Rattle.std.proofs.Common.{append_assoc, w64}
+use Rattle.std.proofs.Common.{append_assoc, length, w64}
 use Rattle.std.proofs.lemmas.Int.{to_z_pos}
-use Rattle.std.proofs.lemmas.List.{length-map, append-nil}
+use Rattle.std.proofs.lemmas.List.{length-map, length-append, length-take, append-nil}
 use Rattle.amd_types.specs.Counts.{counts}
 use Rattle.amd_edges.proofs.Forms.{pointer_fits, row_fits, place_in, sorted_form}
 use Rattle.amd_workspace.proofs.LowerColumns.{column_row, stretch_push}
@@ -73,3 +73,22 @@ places-preserved g c =
       items = e.items ∙ ap (λ x. c.places.iw.items ++ x ∷ []) (c.word_of.ensures ∙ to_z_pos w64 row low)
           ∙ ap (λ xs. xs ++ pos row ∷ []) i.items ∙ append_assoc old part (pos row ∷ []) ∙ ap (λ xs. old ++ xs) pushed;
     }
+
+pub push_reserved-requires : goal.push_reserved-requires
+push_reserved-requires g c =
+    let i = c.places.invariant in let rest = drop c.args.first (counts (map g.I.Index.value c.args.a_i.now)) in
+    let some = c.places.place - c.args.first in let part = take some rest in
+    let whole = ap length i.items in let both = length-append c.args.iw.now.items (map pos part) in let long = length-map part pos in
+    let few = length-take some rest in let from = i.from in let t = c.places-test.true in let e = c.count_at-stop.ensures.count in
+    let room = c.requires.room in let wide = i.capacity in let len = c.places.iw.ok.0 in
+    omega (arith, whole, both, long, few, from, t, e, room, wide, len)
+
+pub returns-clause-items : goal.returns-clause-items
+returns-clause-items g c =
+    let i = c.places.invariant in
+    let end : c.places.place ≡ c.count_at-stop.result = (let to = i.to in let t = c.places-test.false in omega (arith, to, t)) in
+    i.items ∙ ap (λ k. c.args.iw.now.items ++ map pos (take (k - c.args.first)
+    (drop c.args.first (counts (map g.I.Index.value c.args.a_i.now))))) (end ∙ c.count_at-stop.ensures.count)
+
+pub returns-clause-capacity : goal.returns-clause-capacity
+returns-clause-capacity g c = c.places.invariant.capacity

@@ -12,7 +12,7 @@ use Rattle.amd_round_laws.proofs.Lists.Rising.{count_yes, count_no}
 use Rattle.amd_round_laws.proofs.Starting.{class_test}
 use Rattle.amd_words.specs.Words.{num, flip_of}
 use Rattle.amd_lists.specs.Chains.{DegreeLists}
-use Rattle.amd_workspace.specs.Starting.{Rows, held_in, begins_class, classes_of}
+use Rattle.amd_workspace.specs.Starting.{Rows, BeginsRows, held_in, begins_class, classes_of}
 use Rattle.amd_workspace.proofs.Starts.{aside, placed, AreEqual, equal_rows, equal_rest, none_begin, aside_rows, placed_rows, count_next}
 use Rattle.amd_workspace.proofs.Starts.{linked_none, linked_skip, linked_take}
 use Rattle.amd_workspace.proofs.starting.begin.Goals as goal
@@ -178,3 +178,63 @@ rows-preserved g c =
             dense = w.n_dense-is ∙ count_no held i c.rows.n_dense was.dense free;
           })
     ]
+
+-- every row was begun
+begun_all : {i n : ℕ} {held : ℕ → Bool} {p q : Rows} → i ≡ n → BeginsRows i n held p q → BeginsRows n n held p q
+begun_all {i} {n} {held} {p} {q} end begun = subst (λ k. BeginsRows k n held p q) end begun
+
+pub returns-clause-begins : goal.returns-clause-begins
+returns-clause-begins g c =
+    let end : c.rows.i ≡ length c.args.len.now = (let a = c.rows-test.false in let b = c.rows.auto.i-end in omega (arith, a, b)) in
+    begun_all end c.rows.invariant.begins
+
+pub returns-clause-lengths : goal.returns-clause-lengths
+returns-clause-lengths g c = c.rows.invariant.links
+
+pub returns-clause-linked : goal.returns-clause-linked
+returns-clause-linked g c =
+    let len : List ℕ = c.args.len.now in
+    let end : c.rows.i ≡ length len = (let a = c.rows-test.false in let b = c.rows.auto.i-end in omega (arith, a, b)) in
+    subst (λ k. DegreeLists (length len) c.rows.head (nexts c.rows.sides) (lasts c.rows.sides) c.rows.degree
+    (λ b. reverse (classes_of (held_in (option_copied c.args.hold) c.args.threshold len) len k b))) end c.rows.invariant.linked
+
+pub returns-clause-live : goal.returns-clause-live
+returns-clause-live g c =
+    let len : List ℕ = c.args.len.now in
+    let end : c.rows.i ≡ length len = (let a = c.rows-test.false in let b = c.rows.auto.i-end in omega (arith, a, b)) in
+    c.rows.invariant.live
+    ∙ ap (λ k. count_below k (begins_class (held_in (option_copied c.args.hold) c.args.threshold len) len)) end
+
+pub returns-clause-dense : goal.returns-clause-dense
+returns-clause-dense g c =
+    let len : List ℕ = c.args.len.now in
+    let end : c.rows.i ≡ length len = (let a = c.rows-test.false in let b = c.rows.auto.i-end in omega (arith, a, b)) in
+    c.rows.invariant.dense ∙ ap (λ k. count_below k (held_in (option_copied c.args.hold) c.args.threshold len)) end
+
+-- all lists are as long
+pub put_aside-requires-clause-words : goal.put_aside-requires-clause-words
+put_aside-requires-clause-words g c =
+    let t = c.rows-test.true in let a = c.rows.invariant.begins.long.pe in let b = c.rows.invariant.begins.long.e_len in
+    let d = c.rows.invariant.begins.long.nv in (omega (arith, t, a), omega (arith, t, b), omega (arith, t, d))
+
+pub put_aside-requires-clause-cells : goal.put_aside-requires-clause-cells
+put_aside-requires-clause-cells g c =
+    let t = c.rows-test.true in let a = c.rows.invariant.begins.long.len in let b = c.rows.invariant.begins.long.degree in
+    let d = c.rows.invariant.begins.long.w in (omega (arith, t, a), omega (arith, t, b), omega (arith, t, d))
+
+pub place_row-requires-clause-words : goal.place_row-requires-clause-words
+place_row-requires-clause-words g c =
+    let t = c.rows-test.true in let a = c.rows.invariant.begins.long.e_len in let b = c.rows.invariant.begins.long.nv in
+    let d = c.rows.invariant.begins.long.w in (omega (arith, t, a), omega (arith, t, b), omega (arith, t, d))
+
+pub place_row-requires-clause-lengths : goal.place_row-requires-clause-lengths
+place_row-requires-clause-lengths g c = let links = c.rows.invariant.links in
+    (links.0 ∙ sym links.1, c.rows.invariant.begins.long.degree ∙ sym links.1)
+
+pub place_row-requires-clause-narrow : goal.place_row-requires-clause-narrow
+place_row-requires-clause-narrow g c =
+    let narrow = c.requires.narrow in let a = narrow.0 in let b = narrow.1 in let d = c.rows.invariant.links.1 in
+    (omega (arith, a), omega (arith, b, d))
+
+pub is_held_last-held-requires : goal.is_held_last-held-requires
+is_held_last-held-requires g c = record { within = (length c.args.len.now, c.rows-test.true, c.requires.marks) }

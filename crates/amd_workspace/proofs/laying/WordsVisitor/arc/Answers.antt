@@ -1,4 +1,4 @@
-use Rattle.std.proofs.Common.{◌+◌, arith, refl, ap, ◌∙◌, length, get_or, set, drop}
+use Rattle.std.proofs.Common.{◌+◌, arith, refl, ap, ◌∙◌, length, get_or, set, drop, pos}
 use Rattle.std.proofs.lemmas.List.{length-set}
 use Rattle.amd_workspace.proofs.Layings.{appended, lay_in, lays_more, written}
 use Rattle.amd_workspace.proofs.laying.WordsVisitor.arc.Goals as goal
@@ -27,3 +27,10 @@ returns-clause-held g c = λ gr seen arcs h new.
     let iw_is = appended l.next.items c.deref_mut.result.now l.iw.items c.deref_mut-2.result.now c.append.new.iw c.args.i c.args.j l.iw.len
     c.deref_mut.ensures.value c.deref_mut-2.ensures.value c.append.ensures.words (let b = l.iw.ok.0 in omega (arith, b)) in
     rw (next_is, iw_is) (lays_more gr seen arcs c.args.i c.args.j new _ _ l.next.items l.iw.items h place refl)
+
+pub returns-clause-kept : goal.returns-clause-kept
+returns-clause-kept g c =
+    let l = c.args.self.now in let place = get_or l.next.items c.args.i 0 in
+    let iw_is = appended l.next.items c.deref_mut.result.now l.iw.items c.deref_mut-2.result.now c.append.new.iw c.args.i c.args.j l.iw.len
+    c.deref_mut.ensures.value c.deref_mut-2.ensures.value c.append.ensures.words (let b = l.iw.ok.0 in omega (arith, b)) in
+    ap length iw_is ∙ length-set l.iw.items place (pos c.args.j)

@@ -60,3 +60,16 @@ returns-clause-held g c = λ gr seen arcs h new.
       run_more gr seen arcs c.args.i c.args.j c.args.mark new _ _ l.next.items l.iw.items h.0 place refl,
       omega (arith, own, places),
     )
+
+pub returns-clause-kept : goal.returns-clause-kept
+returns-clause-kept g c =
+    let l = c.args.self.now in let place = get_or l.next.items c.args.i 0 in
+    let first = appended l.next.items c.deref_mut.result.now l.iw.items c.deref_mut-2.result.now c.append.new.iw c.args.i c.args.j l.iw.len
+    c.deref_mut.ensures.value c.deref_mut-2.ensures.value c.append.ensures.words (let b = l.iw.ok.0 in omega (arith, b)) in
+    let one = length-set l.iw.items place (pos c.args.j) in
+    let two = length-set (set l.iw.items place (pos c.args.j)) c.args.mark (pos c.args.i) in
+    let iw_is = written c.put_row.new.words (set (set l.iw.items place (pos c.args.j)) c.args.mark (pos c.args.i))
+    (drop (length c.put_row.new.words) (take l.iw.len (c.append.new.iw ++ drop (length c.append.new.iw) l.iw.items))) l.iw.len
+    (c.put_row.ensures ∙ ap (λ xs. set xs c.args.mark (pos c.args.i)) (c.deref_mut-3.ensures.value ∙ first))
+    (let b = l.iw.ok.0 in omega (arith, one, two, b)) in
+    ap length iw_is ∙ two ∙ one
