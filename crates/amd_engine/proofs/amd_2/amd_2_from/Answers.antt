@@ -1,11 +1,77 @@
 use Rattle.std.proofs.Common.{arith, ℕ, ℤ, List, map, length, take, drop, refl, ap, sym, subst, ◌≡◌, ◌++◌, ◌∙◌}
 use Rattle.std.proofs.lemmas.Int.{ints}
-use Rattle.std.proofs.lemmas.List.{take_at}
+use Rattle.std.proofs.lemmas.List.{take_at, length-replicate, get_or-replicate}
 use Rattle.std.specs.Option.{option_copied}
 use Rattle.amd_types.specs.Permutations.{AreInverse}
 use Rattle.amd_types.proofs.Fitting.{fits_below}
+use Rattle.amd_engine.specs.InPlace.{AreEmpty, AreFresh}
 use Rattle.amd_engine.proofs.EndingLaw.{answers, ends_same}
 use Rattle.amd_engine.proofs.amd_2.amd_2_from.Goals as goal
+
+-- lists as they are when they are made name no row
+fresh_empty : (n : ℕ) (e_len nv : List ℤ) (degree w head next last hash : List ℕ) →
+    AreFresh n e_len nv degree w head next last hash → AreEmpty n e_len nv degree w head next last hash
+fresh_empty n e_len nv degree w head next last hash fresh = record {
+  words = fresh.words;
+  figures = fresh.figures;
+  links = (
+    ap length fresh.heads.0 ∙ length-replicate n n,
+    fresh.links.0,
+    fresh.links.1,
+    ap length fresh.heads.1 ∙ length-replicate n n,
+  );
+  heads = λ b small. let is = get_or-replicate n b n 0 small in rw (fresh.heads.0, fresh.heads.1) (omega (arith, is), omega (arith, is));
+}
+
+pub run-told-requires-clause-empty : goal.run-told-requires-clause-empty
+run-told-requires-clause-empty g c =
+    rw (
+      c.deref_mut.ensures.value,
+      c.deref_mut-2.ensures.value,
+      c.deref_mut-3.ensures.value,
+      c.deref_mut-4.ensures.value,
+      c.deref_mut-5.ensures.value,
+      c.deref_mut-6.ensures.value,
+      c.deref_mut-7.ensures.value,
+    )
+    (fresh_empty _ _ _ _ _ _ _ _ _ c.in_ok-lists.ensures.fresh)
+
+pub run-told-requires-clause-narrow : goal.run-told-requires-clause-narrow
+run-told-requires-clause-narrow g c = c.requires.narrow
+
+pub list_rows-requires-clause-over : goal.list_rows-requires-clause-over
+list_rows-requires-clause-over g c =
+    let l = c.in_ok-lists.lists in let fresh = c.in_ok-lists.ensures.fresh in let new = c.run-told.new in
+    let over = c.run-told.ensures.over in let n : ℕ = length c.args.len.now in
+    let e_len_is = take_at new.e_len (drop (length new.e_len) l.e_len.items) l.e_len.len
+    (over.words.1 ∙ sym (l.e_len.ok.0 ∙ fresh.words.0)) in
+    let nv_is = take_at new.nv (drop (length new.nv) l.nv.items) l.nv.len (over.words.2 ∙ sym (l.nv.ok.0 ∙ fresh.words.1)) in
+    let degree_is = take_at new.degree (drop (length new.degree) l.degree.items) l.degree.len
+    (over.words.3 ∙ sym (l.degree.ok.0 ∙ fresh.figures.0)) in
+    let w_is = take_at new.w (drop (length new.w) l.w.items) l.w.len (over.counters ∙ sym (l.w.ok.0 ∙ fresh.figures.1)) in
+    let head_is = take_at new.head (drop (length new.head) l.head.items) l.head.len
+    (over.links.0 ∙ sym (l.head.ok.0 ∙ ap length fresh.heads.0 ∙ length-replicate n n)) in
+    let hash_is = take_at new.hash (drop (length new.hash) l.hash.items) l.hash.len
+    (over.links.1 ∙ sym (l.hash.ok.0 ∙ ap length fresh.heads.1 ∙ length-replicate n n)) in
+    rw (
+      c.deref_mut-8.ensures.value ∙ e_len_is,
+      c.deref_mut-9.ensures.value ∙ nv_is,
+      c.deref_mut-10.ensures.value ∙ degree_is,
+      c.deref_mut-11.ensures.value ∙ w_is,
+      c.deref_mut-12.ensures.value ∙ head_is,
+      c.deref_mut-13.ensures.value ∙ hash_is,
+      over.words.0,
+    ) over
+
+pub list_rows-requires-clause-room : goal.list_rows-requires-clause-room
+list_rows-requires-clause-room g c =
+    let rows = c.run-told.ensures.over.words.0 in (
+      ap length c.deref_mut-14.ensures.value ∙ c.in_ok-lists.ensures.rows.0 ∙ sym rows,
+      ap length c.deref_mut-15.ensures.value ∙ c.in_ok-lists.ensures.rows.1 ∙ sym rows,
+    )
+
+pub list_rows-requires-clause-narrow : goal.list_rows-requires-clause-narrow
+list_rows-requires-clause-narrow g c = rw c.run-told.ensures.over.words.0 (c.requires.narrow.2, c.requires.narrow.3)
 
 pub list_rows-requires-clause-fits : goal.list_rows-requires-clause-fits
 list_rows-requires-clause-fits g c = λ k l. fits_below g.I.Index.fits g.met.I.Index.zero_fits g.met.I.Index.between k
@@ -48,3 +114,6 @@ returns-clause-orders g c = λ graph lists lays.
     (listed.long.2 ∙ rows) graph lists lays listed.rows listed.lists c.args.control.now.dense c.requires.some
     c.dense_threshold-threshold.ensures p q listed.listed inverse told.result.n_cmp_a
     c.args.info.now c.tell.new.info c.tell.ensures new.pe listed.shortens)
+
+pub returns-clause-compactions : goal.returns-clause-compactions
+returns-clause-compactions g c = rw c.tell.ensures c.run-told.ensures.packs

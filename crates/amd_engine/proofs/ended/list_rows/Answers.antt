@@ -1,9 +1,35 @@
-use Rattle.std.proofs.Common.{ℕ, ℤ, List, map, pos, length, subst, ◌≡◌, ◌∙◌}
+use Rattle.std.proofs.Common.{ℕ, ℤ, List, map, pos, length, subst, sym, arith, ◌≡◌, ◌∙◌}
 use Rattle.amd_words.specs.Words.{num}
 use Rattle.amd_types.specs.Permutations.{AreInverse}
 use Rattle.amd_workspace.specs.Ending.{EndsRows}
 use Rattle.amd_engine.proofs.EndingLaw.{inverse_same, names_row, turned}
 use Rattle.amd_engine.proofs.ended.list_rows.Goals as goal
+
+pub end_rows-requires-clause-lengths : goal.end_rows-requires-clause-lengths
+end_rows-requires-clause-lengths g c =
+    let words = c.requires.over.words in (sym words.3, words.1 ∙ sym words.3, words.2 ∙ sym words.3)
+
+pub end_rows-requires-clause-narrow : goal.end_rows-requires-clause-narrow
+end_rows-requires-clause-narrow g c = let most = c.requires.narrow.0 in omega (arith, most)
+
+pub listing-requires : goal.listing-requires
+listing-requires g c =
+    let over = c.requires.over in let d : length c.args.degree.now ≡ length c.args.pe.now = over.words.3 in
+    let new = c.end_rows.new in let ended = c.end_rows.ensures.lengths in
+    let rows : length new.nv ≡ length c.args.pe.now = ended.2 ∙ d in
+    record {
+      ended = over.ends new.pe new.e_len new.nv
+          (subst (λ k. EndsRows k c.args.pe.now c.args.e_len.now c.args.degree.now new.pe new.e_len new.nv) d c.end_rows.ensures.ends)
+          (ended.0 ∙ d) (ended.1 ∙ d) rows;
+      lengths = (over.links.0 ∙ sym rows, over.links.1 ∙ sym rows, d ∙ sym rows, over.counters ∙ sym rows);
+      narrow = rw rows c.requires.narrow;
+    }
+
+pub write_numbers-requires-clause-room : goal.write_numbers-requires-clause-room
+write_numbers-requires-clause-room g c = c.requires.room.0 ∙ sym (c.listing.auto.p ∙ c.requires.over.words.3)
+
+pub write_numbers-requires-2-clause-room : goal.write_numbers-requires-2-clause-room
+write_numbers-requires-2-clause-room g c = c.requires.room.1 ∙ sym (c.listing.auto.p_inv ∙ c.requires.over.counters)
 
 pub write_numbers-requires-clause-fits : goal.write_numbers-requires-clause-fits
 write_numbers-requires-clause-fits g c = λ k l.

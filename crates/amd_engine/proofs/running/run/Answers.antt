@@ -1,4 +1,4 @@
-use Rattle.std.proofs.Common.{ℕ, ℤ, Bool, List, ◌≡◌, ◌<◌, ◌≤◌, ◌+◌, length, refl, reverse, sym, subst, ◌∙◌}
+use Rattle.std.proofs.Common.{ℕ, ℤ, Bool, List, ◌≡◌, ◌<◌, ◌≤◌, ◌+◌, arith, length, refl, reverse, sym, subst, ◌∙◌}
 use Rattle.std.specs.Option.{option_copied}
 use Rattle.amd_words.specs.Sides.{nexts, lasts}
 use Rattle.amd_words.specs.Words.{num}
@@ -47,6 +47,23 @@ fresh_at_start v sized linked empty live dense sums least most packs two room = 
   two = two;
   room = room;
 }
+
+pub begin-live-requires-clause-words : goal.begin-live-requires-clause-words
+begin-live-requires-clause-words g c =
+    (c.requires.laid.starts_long, c.requires.empty.words.0, c.requires.empty.words.1)
+
+pub begin-live-requires-clause-cells : goal.begin-live-requires-clause-cells
+begin-live-requires-clause-cells g c = c.requires.empty.figures
+
+pub begin-live-requires-clause-links : goal.begin-live-requires-clause-links
+begin-live-requires-clause-links g c = let links = c.requires.empty.links in (links.0, links.1, links.2)
+
+pub begin-live-requires-clause-narrow : goal.begin-live-requires-clause-narrow
+begin-live-requires-clause-narrow g c =
+    let narrow = c.requires.narrow in let most = narrow.3 in (narrow.2, omega (arith, most))
+
+pub begin-live-requires-clause-heads : goal.begin-live-requires-clause-heads
+begin-live-requires-clause-heads g c = λ b l. (c.requires.empty.heads b l).0
 
 pub begin-live-requires-clause-degrees : goal.begin-live-requires-clause-degrees
 begin-live-requires-clause-degrees g c = let w = c.requires.graph in degrees_small w.0 w.1 c.args.iw.now c.args.pe.now c.args.len.now w.2

@@ -1,18 +1,33 @@
 use Rattle.std.proofs.Common.{ℕ, ℤ, List, None, pos, map, length, take, drop, ap, sym, subst, arith, ◌≡◌, ◌++◌, ◌∙◌}
-use Rattle.std.specs.Prelude.{◌≤ℤ◌}
 use Rattle.std.proofs.lemmas.Int.{ints}
 use Rattle.std.proofs.lemmas.List.{take_at, length-map, length-replicate}
 use Rattle.amd_views.specs.Views.{raised}
 use Rattle.amd_words.specs.Words.{word, is_place}
 use Rattle.amd_engine.proofs.EndingLaw.{laid_same}
 use Rattle.amd_engine.proofs.RaisedLists.{laid_raised, lays_over, count_told, count_placed, answers_same}
-use Rattle.amd_engine.proofs.amd_2.amd_2.Goals as goal
+use Rattle.amd_engine.proofs.amd_2.eliminate_numbers.Goals as goal
 
 pub copy_raised-requires : goal.copy_raised-requires
 copy_raised-requires g c = record {
   room = ap length c.deref_mut.ensures.value ∙ ap length c.in_ok-links.ensures ∙ length-replicate {A = ℤ} (length c.args.len.now) (pos 0)
       ∙ sym c.requires.laid.starts_long;
 }
+
+pub amd_2_from-requires-clause-fits : goal.amd_2_from-requires-clause-fits
+amd_2_from-requires-clause-fits g c = c.requires.fits
+
+pub amd_2_from-requires-clause-size : goal.amd_2_from-requires-clause-size
+amd_2_from-requires-clause-size g c = c.requires.size ∙ ap pos (sym (ap length c.lend_cells.ensures.value))
+
+pub amd_2_from-requires-clause-some : goal.amd_2_from-requires-clause-some
+amd_2_from-requires-clause-some g c =
+    let size = ap length c.lend_cells.ensures.value in let some = c.requires.some in omega (arith, size, some)
+
+pub amd_2_from-requires-clause-room : goal.amd_2_from-requires-clause-room
+amd_2_from-requires-clause-room g c =
+    let size = ap length c.lend_cells.ensures.value in let room = c.requires.room in
+    let words = ap length (c.lend_words.ensures.value ∙ c.raise.ensures.raised) ∙ length-map c.args.iw.now raised in
+    omega (arith, size, room, words)
 
 pub amd_2_from-requires-clause-laid : goal.amd_2_from-requires-clause-laid
 amd_2_from-requires-clause-laid g c =
@@ -79,11 +94,9 @@ write_counts-requires-clause-fits g c = λ k small.
     let is = c.deref.ensures.value in let all = told.elements.long.0 in let here = ap length is in
     let m = count_told w.0 _ _ _ told.elements k (omega (arith, small, here, all)) in
     let size = c.requires.size in let rows = w.2.neighbours.size in let few = m.2 in
-    let low : pos 0 ≤ℤ pos m.0 = omega (arith, ints) in
-    let most : pos m.0 ≤ℤ g.I.Number.value c.args.n = omega (arith, ints, few, size, rows) in
-    let exact = g.met.I.Integral.exact_law in
-    subst g.I.Number.fits (sym (ap (λ xs. word xs k) is ∙ m.1))
-    (g.I.Number.between_law (pos 0) (pos m.0) (g.I.Number.value c.args.n) exact (g.met.I.Zero.zero_fits_law exact) c.requires.fits low most)
+    subst g.I.Index.fits (sym (ap (λ xs. word xs k) is ∙ m.1))
+    (g.met.I.Index.between (pos 0) (pos m.0) (g.I.Index.value c.args.n) g.met.I.Index.zero_fits c.requires.fits (omega (arith, ints))
+    (omega (arith, ints, few, size, rows)))
 
 pub write_words-requires : goal.write_words-requires
 write_words-requires g c =
@@ -134,7 +147,7 @@ returns-clause-orders g c = λ graph lists lays.
     let f = l.ok.0 in let h = ap length c.in_ok-links.ensures in let k = length-replicate {A = ℤ} (length len) (pos 0) in
     omega (arith, a, b, d, e, f, h, k)) in
     let links_is = take_at new_pe (drop (length new_pe) were) l.len long in
-    let value = g.I.Number.value in
+    let value = g.I.Index.value in
     let counts = c.write_counts.new.numbers in let words = c.write_words.new.numbers in
     let nv = c.in_ok-nv.nv in let e_len = c.in_ok-e_len.e_len in
     let answer = c.in_ok-blocks.ensures.orders graph lists (lays_over graph lists iw pe c.lend_words.result.now c.deref_mut-2.result.now len
@@ -149,3 +162,7 @@ returns-clause-orders g c = λ graph lists lays.
     (take e_len.len (words ++ drop (length words) e_len.items)) new_pe c.write_words-2.new.numbers c.args.info.now c.amd_2_from.new.info
     answer (ap length c.lend_cells.ensures.value) (sym (ap (map value) nv_is ∙ c.write_counts.ensures ∙ c.deref.ensures.value))
     (sym (e_len_is ∙ c.write_words.ensures ∙ c.deref-2.ensures.value)) (sym (c.write_words-2.ensures ∙ c.deref-3.ensures.value ∙ links_is))
+
+pub returns-clause-compactions : goal.returns-clause-compactions
+returns-clause-compactions g c =
+    let size = ap length c.lend_cells.ensures.value in let few = c.in_ok-blocks.ensures.compactions in omega (arith, size, few)
