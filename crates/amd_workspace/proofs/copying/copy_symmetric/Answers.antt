@@ -107,14 +107,16 @@ pub returns-clause-long : goal.returns-clause-long
 returns-clause-long g c =
     let v = c.columns.invariant.copied in let long = v.long in
     let end : c.columns.i ≡ c.args.size = (let a = c.columns-test.false in let b = c.columns.auto.i-end in omega (arith, a, b)) in
-    let place = v.place ∙ ap (start_of (graph_of c.args.size (map g.I.Index.value c.args.a_p.now) (map g.I.Index.value c.args.a_i.now))) end in
+    let az = map g.I.Index.value c.args.a_p.now in let bz = map g.I.Index.value c.args.a_i.now in
+    let place = v.place ∙ ap (start_of (graph_of c.args.size az bz)) end in
     omega (arith, long, place)
 
 pub returns-clause-all : goal.returns-clause-all
 returns-clause-all g c = λ e.
     let v = c.columns.invariant.copied in let long = v.long in
     let end : c.columns.i ≡ c.args.size = (let a = c.columns-test.false in let b = c.columns.auto.i-end in omega (arith, a, b)) in
-    let place = v.place ∙ ap (start_of (graph_of c.args.size (map g.I.Index.value c.args.a_p.now) (map g.I.Index.value c.args.a_i.now))) end in
+    let az = map g.I.Index.value c.args.a_p.now in let bz = map g.I.Index.value c.args.a_i.now in
+    let place = v.place ∙ ap (start_of (graph_of c.args.size az bz)) end in
     omega (arith, long, place)
 
 pub returns-clause-words : goal.returns-clause-words
