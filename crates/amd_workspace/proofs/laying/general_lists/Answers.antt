@@ -14,8 +14,8 @@ use Rattle.amd_workspace.proofs.laying.general_lists.Goals as goal
 
 pub returns-then-copied-clause-long : goal.returns-then-copied-clause-long
 returns-then-copied-clause-long g c =
-    let r = c.requires in let xs = c.copy_symmetric-copied.new.iw.items in let ys = c.push_rows.new.iw.items in
-    let e = c.copy_symmetric-copied.ensures in let most = e.long in let room = r.room in let some = r.some in
+    let xs = c.copy_symmetric-copied.new.iw.items in let ys = c.push_rows.new.iw.items in
+    let e = c.copy_symmetric-copied.ensures in let most = e.long in let room = c.requires.room in let some = c.requires.some in
     let few : length xs ≤ c.args.room = omega (arith, most, room) in
     let left : c.args.room - c.len.result ≡ c.args.room - length xs = (let len = c.copy_symmetric-copied.new.iw.ok.0 in
     let is = c.len.ensures in omega (arith, len, is)) in
@@ -27,8 +27,8 @@ returns-then-copied-clause-long g c =
 
 pub returns-then-copied-clause-words : goal.returns-then-copied-clause-words
 returns-then-copied-clause-words g c =
-    let r = c.requires in let xs = c.copy_symmetric-copied.new.iw.items in let ys = c.push_rows.new.iw.items in
-    let e = c.copy_symmetric-copied.ensures in let most = e.long in let room = r.room in let some = r.some in
+    let xs = c.copy_symmetric-copied.new.iw.items in let ys = c.push_rows.new.iw.items in
+    let e = c.copy_symmetric-copied.ensures in let most = e.long in let room = c.requires.room in let some = c.requires.some in
     let few : length xs ≤ c.args.room = omega (arith, most, room) in
     let left : c.args.room - c.len.result ≡ c.args.room - length xs = (let len = c.copy_symmetric-copied.new.iw.ok.0 in
     let is = c.len.ensures in omega (arith, len, is)) in
@@ -42,8 +42,8 @@ pub returns-then-copied-clause-lists : goal.returns-then-copied-clause-lists
 unfolding graph_of
 returns-then-copied-clause-lists g c = λ i l.
     let ap' = map g.I.Index.value c.args.a_p.now in let ai = map g.I.Index.value c.args.a_i.now in let n = c.args.size in
-    let r = c.requires in let xs = c.copy_symmetric-copied.new.iw.items in let ys = c.push_rows.new.iw.items in
-    let e = c.copy_symmetric-copied.ensures in let most = e.long in let room = r.room in let some = r.some in
+    let xs = c.copy_symmetric-copied.new.iw.items in let ys = c.push_rows.new.iw.items in
+    let e = c.copy_symmetric-copied.ensures in let most = e.long in let room = c.requires.room in let some = c.requires.some in
     let few : length xs ≤ c.args.room = omega (arith, most, room) in
     let left : c.args.room - c.len.result ≡ c.args.room - length xs = (let len = c.copy_symmetric-copied.new.iw.ok.0 in
     let is = c.len.ensures in omega (arith, len, is)) in
@@ -51,7 +51,7 @@ returns-then-copied-clause-lists g c = λ i l.
     = c.push_rows.ensures.items ∙ ap (λ k. xs ++ replicate k (pos (c.args.size - 1))) left in
     let last : c.args.size - 1 < c.args.size = omega (arith, some) in
     let all_rows = e.words (rows_empty c.args.size c.in_ok-iw.iw.items some (ap length c.in_ok-iw.ensures.items)) in
-    let all = e.all c.if-copied.true in let later = start_later (graph_of n ap' ai) i n l in let own = r.degrees.each i l in
+    let all = e.all c.if-copied.true in let later = start_later (graph_of n ap' ai) i n l in let own = c.requires.degrees.each i l in
     filled_same n c.args.room (n - 1) xs ys last all_rows few filled (own_start n ap' ai i) (num c.args.degrees.now i)
     (omega (arith, all, later, own))
     ∙ e.lists c.if-copied.true i l
@@ -60,8 +60,8 @@ pub walk-requires-clause-held : goal.walk-requires-clause-held
 unfolding graph_of
 walk-requires-clause-held g c =
     let ap' = map g.I.Index.value c.args.a_p.now in let ai = map g.I.Index.value c.args.a_i.now in
-    let r = c.requires in let xs = c.copy_symmetric-copied.new.iw.items in let ys = c.push_rows.new.iw.items in
-    let e = c.copy_symmetric-copied.ensures in let most = e.long in let room = r.room in let some = r.some in
+    let xs = c.copy_symmetric-copied.new.iw.items in let ys = c.push_rows.new.iw.items in
+    let e = c.copy_symmetric-copied.ensures in let most = e.long in let room = c.requires.room in let some = c.requires.some in
     let few : length xs ≤ c.args.room = omega (arith, most, room) in
     let left : c.args.room - c.len.result ≡ c.args.room - length xs = (let len = c.copy_symmetric-copied.new.iw.ok.0 in
     let is = c.len.ensures in omega (arith, len, is)) in
@@ -71,14 +71,14 @@ walk-requires-clause-held g c =
     let all_rows = e.words (rows_empty c.args.size c.in_ok-iw.iw.items some (ap length c.in_ok-iw.ensures.items)) in
     let long = filled_long c.args.size c.args.room (c.args.size - 1) xs ys last all_rows few filled in
     let names = filled_words c.args.size c.args.room (c.args.size - 1) xs ys last all_rows few filled in
-    let fits = r.fits.1 in
-    lays_none (graph_of c.args.size ap' ai) c.args.next.items r.long r.starts g.S.Signed.MOST g.U.Unsigned.MOST ys names
-    (omega (arith, room, long)) r.fits.0 (omega (arith, fits, long))
+    let fits = c.requires.fits.1 in
+    lays_none (graph_of c.args.size ap' ai) c.args.next.items c.requires.long c.requires.starts g.S.Signed.MOST g.U.Unsigned.MOST ys names
+    (omega (arith, room, long)) c.requires.fits.0 (omega (arith, fits, long))
 
 pub returns-clause-long : goal.returns-clause-long
 returns-clause-long g c =
-    let r = c.requires in let xs = c.copy_symmetric-copied.new.iw.items in let ys = c.push_rows.new.iw.items in
-    let e = c.copy_symmetric-copied.ensures in let most = e.long in let room = r.room in let some = r.some in
+    let xs = c.copy_symmetric-copied.new.iw.items in let ys = c.push_rows.new.iw.items in
+    let e = c.copy_symmetric-copied.ensures in let most = e.long in let room = c.requires.room in let some = c.requires.some in
     let few : length xs ≤ c.args.room = omega (arith, most, room) in
     let left : c.args.room - c.len.result ≡ c.args.room - length xs = (let len = c.copy_symmetric-copied.new.iw.ok.0 in
     let is = c.len.ensures in omega (arith, len, is)) in

@@ -5,10 +5,20 @@ use Rattle.amd_edges.proofs.Forms.{pointer_fits, row_fits, place_in}
 use Rattle.amd_workspace.proofs.LowerColumns.{first_before, slice_none, slice_on, slice_below}
 use Rattle.amd_workspace.proofs.lower.own_first.Goals as goal
 
+pub count_at-first-requires-clause-within : goal.count_at-first-requires-clause-within
+count_at-first-requires-clause-within g c =
+    let enough = c.requires.form.enough in let long = length-map c.args.a_p.now g.I.Index.value in let row = c.requires.row in
+    omega (arith, enough, long, row)
+
 pub count_at-first-requires-clause-fits : goal.count_at-first-requires-clause-fits
 count_at-first-requires-clause-fits g c = pointer_fits c.args.size (map g.I.Index.value c.args.a_p.now)
     (map g.I.Index.value c.args.a_i.now) c.requires.form c.args.j (let l = c.requires.row in omega (arith, l))
     (subst (λ x. x < 2 ^ 64) (sym (length-map c.args.a_i.now g.I.Index.value)) (omega (arith, c.well_formed)))
+
+pub count_at-requires-clause-within : goal.count_at-requires-clause-within
+count_at-requires-clause-within g c =
+    let enough = c.requires.form.enough in let long = length-map c.args.a_p.now g.I.Index.value in let row = c.requires.row in
+    omega (arith, enough, long, row)
 
 pub count_at-requires-clause-fits : goal.count_at-requires-clause-fits
 count_at-requires-clause-fits g c = pointer_fits c.args.size (map g.I.Index.value c.args.a_p.now)

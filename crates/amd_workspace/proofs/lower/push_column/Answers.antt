@@ -8,6 +8,11 @@ use Rattle.amd_edges.proofs.Forms.{pointer_fits, row_fits, place_in, sorted_form
 use Rattle.amd_workspace.proofs.LowerColumns.{column_row, stretch_push}
 use Rattle.amd_workspace.proofs.lower.push_column.Goals as goal
 
+pub count_at-stop-requires-clause-within : goal.count_at-stop-requires-clause-within
+count_at-stop-requires-clause-within g c =
+    let enough = c.requires.form.enough in let long = length-map c.args.a_p.now g.I.Index.value in let row = c.requires.row in
+    omega (arith, enough, long, row)
+
 pub count_at-stop-requires-clause-fits : goal.count_at-stop-requires-clause-fits
 count_at-stop-requires-clause-fits g c = pointer_fits c.args.size (map g.I.Index.value c.args.a_p.now)
     (map g.I.Index.value c.args.a_i.now) c.requires.form (c.args.j + 1) (let l = c.requires.row in omega (arith, l))

@@ -7,6 +7,11 @@ use Rattle.amd_workspace.specs.Lower.{own_of}
 use Rattle.amd_workspace.proofs.LowerColumns.{slice_long}
 use Rattle.amd_workspace.proofs.lower.push_list.Goals as goal
 
+pub count_at-requires-clause-within : goal.count_at-requires-clause-within
+count_at-requires-clause-within g c =
+    let enough = c.requires.form.enough in let long = length-map c.args.a_p.now g.I.Index.value in let row = c.requires.row in
+    omega (arith, enough, long, row)
+
 pub count_at-requires-clause-fits : goal.count_at-requires-clause-fits
 count_at-requires-clause-fits g c = pointer_fits c.args.size (map g.I.Index.value c.args.a_p.now)
     (map g.I.Index.value c.args.a_i.now) c.requires.form (c.args.j + 1) (let l = c.requires.row in omega (arith, l))
