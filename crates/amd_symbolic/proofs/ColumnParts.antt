@@ -13,9 +13,6 @@ use Rattle.amd_symbolic.specs.Neighbours.{HasEarlier}
 use Rattle.amd_symbolic.specs.Orders.{Order, Permutes}
 use Rattle.amd_symbolic.specs.Neighbours.{HasLater}
 use Rattle.amd_types.specs.Counts.{counts}
-use Rattle.amd_types.specs.Statuses.{IsStatusOf}
-use Rattle.amd_types.specs.declared.amd.Status.{Status}
-use Rattle.amd_types.specs.declared.amd.Status.TheVariants.{OK, Invalid, OkButJumbled, OutOfMemory}
 use Rattle.amd_symbolic.specs.Factors.{IsFactorOf, IsFault}
 use Rattle.amd_symbolic.specs.declared.factor.Fault.TheVariants.{RoomTooSmall}
 
@@ -74,13 +71,6 @@ no_rows ap' ai p ptr entries parent none pointers no_entries no_parents = record
 -- an order of no rows is empty
 pub empty_order : (p : List ℤ) (order : List ℕ) → Permutes 0 p order → length p ≡ 0
 empty_order p order h = ap length h.listed ∙ length-map order pos ∙ h.each.places
-
--- a status of an input tells its form, unless it is invalid
-pub form_by : (z : ℤ) (ap' ai : List ℤ) (status : Status) → IsStatusOf z z ap' ai status → status ≢ Invalid → IsInput z z ap' ai
-form_by z ap' ai OK h ok = h.0
-form_by z ap' ai Invalid h ok = absurd (ok refl)
-form_by z ap' ai OkButJumbled h ok = h.0
-form_by z ap' ai OutOfMemory h ok = absurd h
 
 -- a number that is no count is not 0, and has no column form
 pub no_count : (z : ℤ) (ap' ai : List ℤ) → (FitsUnsignedBits 64 z → ⊥) → length ap' < 2 ^ 64 → (z ≢ pos 0) × (IsInput z z ap' ai → ⊥)

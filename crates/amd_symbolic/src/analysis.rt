@@ -5,13 +5,14 @@ ghost use Rattle.std.specs.Prelude.{◌≡◌, ◌≢◌, ℤ, Bool, Option, Lis
 ghost use Rattle.amd.specs.Answers.{IsOrdering, IsOrderingHolding};
 ghost use Rattle.amd_symbolic.specs.Factors.{IsAnalysisFault, IsFactorOf, IsFaultHolding};
 
-use crate::factor::{Factor, Fault, columns};
+use crate::factor::{Factor, Fault, matrix_columns};
 use amd::{Control, Info, Status, order, order_holding};
+use amd_types::index::Index;
 use num_traits::PrimInt;
 use std::alloc::Allocator;
 
 /// The factor under the order that an ordering gave, with room for as many entries as its record tells.
-fn reserved_columns<I: PrimInt, A: Allocator + Copy>(
+fn reserved_columns<I: Index, A: Allocator + Copy>(
     alloc: A,
     n: I,
     a_p: &[I],
@@ -19,7 +20,6 @@ fn reserved_columns<I: PrimInt, A: Allocator + Copy>(
     p: &[I],
     info: &Info,
 ) -> Result<Factor<A>, Fault>
-    requires fits { I.fits (I.value n) }
     requires ordering { (hold : Option (List Bool)) × (t : ℤ) × (aggressive : Bool) × (q : List ℤ) ×
         IsOrderingHolding hold (I.value n) t aggressive (map I.value a_p.now) (map I.value a_i.now) (map I.value p.now)
         q info.now }
@@ -30,7 +30,7 @@ fn reserved_columns<I: PrimInt, A: Allocator + Copy>(
     if info.lnz == usize::MAX {
         return Err(Fault::OutOfMemory);
     }
-    match columns(alloc, n, a_p, a_i, p, info.lnz) {
+    match matrix_columns(alloc, n, a_p, a_i, p, info.lnz) {
         Ok(factor) => Ok(factor),
         Err(Fault::OutOfMemory) => Err(Fault::OutOfMemory),
         Err(Fault::NotColumnForm) => unreachable!(),

@@ -15,10 +15,10 @@ ghost use Rattle.amd_symbolic.specs.Factors.{IsAnalysisFault, IsFaultHolding};
 use crate::analysis::fault_of;
 use crate::counted::{Counts, empty_counts, written_counts};
 use crate::factor::Fault;
+use crate::forms::is_form;
 use crate::ordering::ordered_lists;
 use amd::internal::to_count;
-use amd::valid::valid;
-use amd::{Control, Info, Status, order, order_holding};
+use amd::{Control, Info, order, order_holding};
 use amd_types::index::Index;
 use num_traits::PrimInt;
 use std::alloc::Allocator;
@@ -42,6 +42,35 @@ fn form_counts<I: Index, A: Allocator + Copy>(
 {
     let lists = ordered_lists(alloc, size, a_p, a_i, p)?;
     Ok(written_counts(alloc, &lists.starts, &lists.neighbours)?)
+}
+
+/// The counts of a matrix with `n` rows, as [`counts`].
+pub(crate) fn matrix_counts<I: Index, A: Allocator + Copy>(
+    alloc: A,
+    n: I,
+    a_p: &[I],
+    a_i: &[I],
+    p: &[I],
+) -> Result<Counts<A>, Fault>
+    ensures counts { IfOk result (λ c. IsCountsOf (I.value n) (map I.value a_p.now) (map I.value a_i.now)
+        (map I.value p.now) c.sizes.items c.parent.items c.need) }
+    ensures fault { IfErr result (λ e. IsCountsFault (I.value n) (map I.value a_p.now) (map I.value a_i.now)
+        (map I.value p.now) e) }
+{
+    let Some(size) = to_count(n) else {
+        return Err(Fault::NotColumnForm);
+    };
+    if size == 0 {
+        return if p.is_empty() {
+            Ok(empty_counts(alloc))
+        } else {
+            Err(Fault::NotPermutation)
+        };
+    }
+    if !is_form(n, size, a_p, a_i) {
+        return Err(Fault::NotColumnForm);
+    }
+    form_counts(alloc, size, a_p, a_i, p)
 }
 
 /// How many entries each column of the factor of a square matrix has under an order of its rows, by the pattern of
@@ -79,24 +108,11 @@ pub fn counts<I: PrimInt, A: Allocator + Copy>(
     ensures fault { IfErr result (λ e. IsCountsFault (I.value n) (map I.value a_p.now) (map I.value a_i.now)
         (map I.value p.now) e) }
 {
-    let Some(size) = to_count(n) else {
-        return Err(Fault::NotColumnForm);
-    };
-    if size == 0 {
-        return if p.is_empty() {
-            Ok(empty_counts(alloc))
-        } else {
-            Err(Fault::NotPermutation)
-        };
-    }
-    if valid(n, n, a_p, a_i) == Status::Invalid {
-        return Err(Fault::NotColumnForm);
-    }
-    form_counts(alloc, size, a_p, a_i, p)
+    matrix_counts(alloc, n, a_p, a_i, p)
 }
 
 /// The counts under the order that an ordering gave.
-fn ordered_counts<I: PrimInt, A: Allocator + Copy>(
+fn ordered_counts<I: Index, A: Allocator + Copy>(
     alloc: A,
     n: I,
     a_p: &[I],
@@ -104,7 +120,6 @@ fn ordered_counts<I: PrimInt, A: Allocator + Copy>(
     p: &[I],
     info: &Info,
 ) -> Result<Counts<A>, Fault>
-    requires fits { I.fits (I.value n) }
     requires ordering { (hold : Option (List Bool)) × (t : ℤ) × (aggressive : Bool) × (q : List ℤ) ×
         IsOrderingHolding hold (I.value n) t aggressive (map I.value a_p.now) (map I.value a_i.now) (map I.value p.now)
         q info.now }
@@ -112,7 +127,7 @@ fn ordered_counts<I: PrimInt, A: Allocator + Copy>(
         (map I.value p.now) c.sizes.items c.parent.items c.need) }
     ensures fault { IfErr result (λ e. e ≡ Fault.OutOfMemory) }
 {
-    match counts(alloc, n, a_p, a_i, p) {
+    match matrix_counts(alloc, n, a_p, a_i, p) {
         Ok(counted) => Ok(counted),
         Err(Fault::OutOfMemory) => Err(Fault::OutOfMemory),
         Err(Fault::NotColumnForm) => unreachable!(),

@@ -156,6 +156,37 @@ fn form_columns<I: Index, A: Allocator + Copy>(
     }
 }
 
+/// The factor of a matrix with `n` rows, as [`columns`].
+pub(crate) fn matrix_columns<I: Index, A: Allocator + Copy>(
+    alloc: A,
+    n: I,
+    a_p: &[I],
+    a_i: &[I],
+    p: &[I],
+    room: usize,
+) -> Result<Factor<A>, Fault>
+    ensures factor { IfOk result (λ f. IsFactorOf (I.value n) (map I.value a_p.now) (map I.value a_i.now)
+        (map I.value p.now) f.ptr.items f.rows.items f.parent.items) }
+    ensures room { IfOk result (λ f. length f.rows.items ≤ room) }
+    ensures fault { IfErr result (λ e. IsFault (I.value n) (map I.value a_p.now) (map I.value a_i.now)
+        (map I.value p.now) room e) }
+{
+    let Some(size) = to_count(n) else {
+        return Err(Fault::NotColumnForm);
+    };
+    if size == 0 {
+        return if p.is_empty() {
+            empty_factor(alloc)
+        } else {
+            Err(Fault::NotPermutation)
+        };
+    }
+    if !is_form(n, size, a_p, a_i) {
+        return Err(Fault::NotColumnForm);
+    }
+    form_columns(alloc, size, a_p, a_i, p, room)
+}
+
 /// The columns of the factor of a square matrix under an order of its rows, by the pattern of `A + A'`.
 ///
 /// The matrix has `n` columns, and column `j` holds the rows `a_i[a_p[j]..a_p[j + 1]]`. The order is `p`: row `p[k]` is
@@ -199,18 +230,5 @@ pub fn columns<I: PrimInt, A: Allocator + Copy>(
     ensures fault { IfErr result (λ e. IsFault (I.value n) (map I.value a_p.now) (map I.value a_i.now)
         (map I.value p.now) room e) }
 {
-    let Some(size) = to_count(n) else {
-        return Err(Fault::NotColumnForm);
-    };
-    if size == 0 {
-        return if p.is_empty() {
-            empty_factor(alloc)
-        } else {
-            Err(Fault::NotPermutation)
-        };
-    }
-    if !is_form(n, size, a_p, a_i) {
-        return Err(Fault::NotColumnForm);
-    }
-    form_columns(alloc, size, a_p, a_i, p, room)
+    matrix_columns(alloc, n, a_p, a_i, p, room)
 }

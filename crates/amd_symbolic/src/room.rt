@@ -10,9 +10,10 @@ ghost use Rattle.amd_symbolic.specs.Orders.{Order};
 ghost use Rattle.amd_symbolic.specs.Sizes.{HoldSizes};
 ghost use Rattle.amd_symbolic.specs.SupernodeLaws.{AreSizesOf, TellSizesOf};
 
-use crate::counting::counts;
+use crate::counting::matrix_counts;
 use crate::factor::Fault;
 use crate::partition::{number_places, sum_ends};
+use amd_types::index::Index;
 use num_traits::PrimInt;
 use std::alloc::Allocator;
 
@@ -46,7 +47,7 @@ fn cut_sizes(
 }
 
 /// The sizes of the supernodes of a matrix with `n` rows.
-fn matrix_sizes<I: PrimInt, A: Allocator + Copy>(
+fn matrix_sizes<I: Index, A: Allocator + Copy>(
     alloc: A,
     n: I,
     a_p: &[I],
@@ -54,7 +55,6 @@ fn matrix_sizes<I: PrimInt, A: Allocator + Copy>(
     p: &[I],
 ) -> Result<SupernodeSizes, Fault>
     ghost o: { Order }
-    requires fits { I.fits (I.value n) }
     requires graph { o.graph ≡ graph_of (unsigned_abs (I.value n)) (map I.value a_p.now) (map I.value a_i.now) }
     requires rows { o.rows ≡ counts_of (map I.value p.now) }
     ensures sizes { IfOk result (λ s. AreSizesOf (I.value n) (map I.value a_p.now) (map I.value a_i.now)
@@ -62,7 +62,7 @@ fn matrix_sizes<I: PrimInt, A: Allocator + Copy>(
     ensures fault { IfErr result (λ e. IsCountsFault (I.value n) (map I.value a_p.now) (map I.value a_i.now)
         (map I.value p.now) e) }
 {
-    let counted = counts(alloc, n, a_p, a_i, p)?;
+    let counted = matrix_counts(alloc, n, a_p, a_i, p)?;
     let mut owner = vec![in alloc; 0; counted.sizes.len()]?;
     match cut_sizes(&counted.sizes, &counted.parent, &mut owner) {
         Some(sizes) => Ok(sizes),

@@ -13,12 +13,11 @@ ghost use Rattle.amd_symbolic.specs.Supernodes.{IsSupernodesOf};
 use crate::blocks::{Partitioned, Supernodes, write_rows};
 use crate::counted::written_sizes;
 use crate::factor::Fault;
+use crate::forms::is_form;
 use crate::neighbours::NeighbourLists;
 use crate::ordering::ordered_lists;
 use crate::partition::{Cut, cut_places};
-use amd::Status;
 use amd::internal::to_count;
-use amd::valid::valid;
 use amd_types::index::Index;
 use num_traits::PrimInt;
 use std::alloc::{AllocError, Allocator};
@@ -100,14 +99,13 @@ fn no_partition<A: Allocator + Copy>(alloc: A) -> Result<Partitioned<A>, AllocEr
 /// Those of [`supernodes`], in its order.
 ///
 /// Source: Rose, Tarjan and Lueker 1976; Liu 1986; Liu, Ng and Peyton 1993.
-pub fn supernode_partition<I: PrimInt, A: Allocator + Copy>(
+pub fn supernode_partition<I: Index, A: Allocator + Copy>(
     alloc: A,
     n: I,
     a_p: &[I],
     a_i: &[I],
     p: &[I],
 ) -> Result<Partitioned<A>, Fault>
-    // A number of a primitive type is always in range.
     requires fits { I.fits (I.value n) }
     ensures partition { IfOk result (λ b. IsPartitionOf (matrix (I.value n) (map I.value a_p.now) (map I.value a_i.now)
         (map I.value p.now)) b.cut.first.items b.cut.owner.items b.cut.ptr.items b.cut.parent.items
@@ -127,14 +125,14 @@ pub fn supernode_partition<I: PrimInt, A: Allocator + Copy>(
             Err(Fault::NotPermutation)
         };
     }
-    if valid(n, n, a_p, a_i) == Status::Invalid {
+    if !is_form(n, size, a_p, a_i) {
         return Err(Fault::NotColumnForm);
     }
     form_partition(alloc, size, a_p, a_i, p)
 }
 
 /// The supernodes of the matrix `m`, which has `n` rows.
-fn matrix_supernodes<I: PrimInt, A: Allocator + Copy>(
+fn matrix_supernodes<I: Index, A: Allocator + Copy>(
     alloc: A,
     n: I,
     a_p: &[I],

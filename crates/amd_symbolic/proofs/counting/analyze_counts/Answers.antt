@@ -14,15 +14,15 @@ returns-in-Err-clause-fault g c =
     let a_i : List ℤ = map g.I.Number.value c.args.a_i.now in
     fault_for None z a_p a_i c.in-Err.refusal c.fault_of.result c.in-Err.ensures.refusal c.fault_of.ensures.form c.fault_of.ensures.memory
 
-pub ordered_counts-requires-clause-ordering : goal.ordered_counts-requires-clause-ordering
-ordered_counts-requires-clause-ordering g c =
+pub ordered_counts-requires : goal.ordered_counts-requires
+ordered_counts-requires g c =
     let z : ℤ = g.I.Number.value c.args.n in
     let a_p : List ℤ = map g.I.Number.value c.args.a_p.now in
     let a_i : List ℤ = map g.I.Number.value c.args.a_i.now in
     let o : IsOrderingHolding None z c.args.control.now.dense c.args.control.now.aggressive a_p a_i
     (map g.I.Number.value c.deref.result.now) (map g.I.Number.value c.in-Ok.answer.1.items) c.in-Ok.answer.2 =
     rw c.deref.ensures.value c.in-Ok.ensures.ordering in
-    (None, c.args.control.now.dense, c.args.control.now.aggressive, map g.I.Number.value c.in-Ok.answer.1.items, o)
+    record { ordering = (None, c.args.control.now.dense, c.args.control.now.aggressive, map g.I.Number.value c.in-Ok.answer.1.items, o) }
 
 pub returns-in_err-counted-clause-fault : goal.returns-in_err-counted-clause-fault
 returns-in_err-counted-clause-fault g c =

@@ -11,7 +11,7 @@ pub write_rows-cut-requires : goal.write_rows-cut-requires
 write_rows-cut-requires g c κs within =
     let cut = c.in_ok-found.found.cut in
     let p = subst (λ x. IsPartitionOf x cut.first.items cut.owner.items cut.ptr.items cut.parent.items
-    c.in_ok-found.found.lists.starts.items c.in_ok-found.found.lists.neighbours.items) (sym c.requires.1.1.1.1)
+    c.in_ok-found.found.lists.starts.items c.in_ok-found.found.lists.neighbours.items) (sym c.requires.1.1.1)
     c.in_ok-found.ensures.partition in
     let pointers = p.cut.partition.pointers in let parents = p.cut.partition.parents in
     let many : c.len.result ≡ length cut.parent.items = omega arith in

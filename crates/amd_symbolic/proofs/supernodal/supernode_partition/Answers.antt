@@ -1,67 +1,62 @@
-use Rattle.std.proofs.Common.{ℤ, List, pos, ◌≡◌, ◌≢◌, [], map, length, refl, sym, ap, subst, ◌∙◌, arith, rules}
+use Rattle.std.proofs.Common.{ℤ, List, pos, ◌≡◌, ◌≢◌, [], map, length, refl, sym, ap, subst, ◌∙◌, arith}
 use Rattle.std.specs.Prelude.{IfOk, IfErr, ◌==◌, unsigned_abs}
 use Rattle.std.proofs.lemmas.List.{length-map}
 use Rattle.amd_model.specs.Input.Columns.{IsInput}
 use Rattle.amd_symbolic.specs.Orders.{Permutes}
-use Rattle.amd_types.specs.Statuses.{IsStatusOf}
-use Rattle.amd_types.specs.declared.amd.Status.TheVariants.{Invalid}
 use Rattle.amd_symbolic.specs.Counted.{IsCountsFault}
 use Rattle.amd_symbolic.specs.Partitions.{IsPartitionOf, matrix}
-use Rattle.amd_symbolic.proofs.ColumnParts.{no_items, some_items, empty_order, form_by, no_count}
+use Rattle.amd_symbolic.proofs.ColumnParts.{no_items, some_items, empty_order, no_count}
 use Rattle.amd_symbolic.proofs.NoSupernodes.{no-partition}
 use Rattle.amd_symbolic.proofs.supernodal.supernode_partition.Goals as goal
 
 pub returns-in_default-clause-fault : goal.returns-in_default-clause-fault
-returns-in_default-clause-fault g c = no_count (g.I.Number.value c.args.n) _ _ c.in_default.ensures (simp length-map (omega arith))
+returns-in_default-clause-fault g c = no_count (g.I.Index.value c.args.n) _ _ c.in_default.ensures (simp length-map (omega arith))
 
 pub returns-else-is_empty-clause-fault : goal.returns-else-is_empty-clause-fault
 returns-else-is_empty-clause-fault g c =
-    let p : List ℤ = map g.I.Number.value c.args.p.now in
-    let zero : g.I.Number.value c.args.n ≡ pos 0 = sym c.in-Some.ensures.1 ∙ ap pos c.if-size-eq0.true in
-    let some : length p ≢ 0 = some_items p (c.if-is_empty.ensures ∙ ap (λ l. l == 0) (sym (length-map c.args.p.now g.I.Number.value))) in
+    let p : List ℤ = map g.I.Index.value c.args.p.now in
+    let zero : g.I.Index.value c.args.n ≡ pos 0 = sym c.in-Some.ensures.1 ∙ ap pos c.if-size-eq0.true in
+    let some : length p ≢ 0 = some_items p (c.if-is_empty.ensures ∙ ap (λ l. l == 0) (sym (length-map c.args.p.now g.I.Index.value))) in
     ((λ not. absurd (not zero)), (λ order h. some (empty_order p order (subst (λ z. Permutes (unsigned_abs z) p order) zero h))))
 
-pub returns-then-eq-clause-fault : goal.returns-then-eq-clause-fault
-returns-then-eq-clause-fault g c =
-    let z : ℤ = g.I.Number.value c.args.n in
-    let a_p : List ℤ = map g.I.Number.value c.args.a_p.now in
-    let a_i : List ℤ = map g.I.Number.value c.args.a_i.now in
-    let invalid : c.valid.result ≡ Invalid = search rules in (
+pub returns-then-not-is_form-clause-fault : goal.returns-then-not-is_form-clause-fault
+returns-then-not-is_form-clause-fault g c =
+    let a_p : List ℤ = map g.I.Index.value c.args.a_p.now in
+    let a_i : List ℤ = map g.I.Index.value c.args.a_i.now in (
       (λ zero. c.if-size-eq0.false (let same : pos c.in-Some.size ≡ pos 0 = c.in-Some.ensures.1 ∙ zero in cc)),
-      subst (IsStatusOf z z a_p a_i) invalid c.valid.ensures,
+      subst (λ z. ¬ (IsInput z z a_p a_i)) c.in-Some.ensures.1 (c.is_form.ensures.none c.if-not-is_form.true),
     )
 
 pub form_partition-requires : goal.form_partition-requires
 form_partition-requires g c κs within =
-    let z : ℤ = g.I.Number.value c.args.n in
-    let a_p : List ℤ = map g.I.Number.value c.args.a_p.now in
-    let a_i : List ℤ = map g.I.Number.value c.args.a_i.now in
-    let sound : c.valid.result ≢ Invalid = search rules in
-    let form = subst (λ x. IsInput x x a_p a_i) (sym c.in-Some.ensures.1) (form_by z a_p a_i c.valid.result c.valid.ensures sound) in
+    let z : ℤ = g.I.Index.value c.args.n in
+    let a_p : List ℤ = map g.I.Index.value c.args.a_p.now in
+    let a_i : List ℤ = map g.I.Index.value c.args.a_i.now in
+    let form = c.is_form.ensures.form c.if-not-is_form.false in
     (within.0, (within.1, (form, (refl, refl))))
 
 pub returns-clause-partition : goal.returns-clause-partition
 returns-clause-partition g c =
-    let a_p : List ℤ = map g.I.Number.value c.args.a_p.now in
-    let a_i : List ℤ = map g.I.Number.value c.args.a_i.now in
-    let p : List ℤ = map g.I.Number.value c.args.p.now in
+    let a_p : List ℤ = map g.I.Index.value c.args.a_p.now in
+    let a_i : List ℤ = map g.I.Index.value c.args.a_i.now in
+    let p : List ℤ = map g.I.Index.value c.args.p.now in
     subst (λ z. IfOk c.form_partition.result (λ b. IsPartitionOf (matrix z a_p a_i p) b.cut.first.items b.cut.owner.items b.cut.ptr.items
     b.cut.parent.items b.lists.starts.items b.lists.neighbours.items)) c.in-Some.ensures.1 c.form_partition.ensures.partition
 
 pub returns-clause-fault : goal.returns-clause-fault
 returns-clause-fault g c =
-    let a_p : List ℤ = map g.I.Number.value c.args.a_p.now in
-    let a_i : List ℤ = map g.I.Number.value c.args.a_i.now in
-    let p : List ℤ = map g.I.Number.value c.args.p.now in
+    let a_p : List ℤ = map g.I.Index.value c.args.a_p.now in
+    let a_i : List ℤ = map g.I.Index.value c.args.a_i.now in
+    let p : List ℤ = map g.I.Index.value c.args.p.now in
     subst (λ z. IfErr c.form_partition.result (IsCountsFault z a_p a_i p)) c.in-Some.ensures.1 c.form_partition.ensures.fault
 
 pub returns-in_ok-no_partition-clause-partition : goal.returns-in_ok-no_partition-clause-partition
 returns-in_ok-no_partition-clause-partition g c =
-    let a_p : List ℤ = map g.I.Number.value c.args.a_p.now in
-    let a_i : List ℤ = map g.I.Number.value c.args.a_i.now in
-    let p : List ℤ = map g.I.Number.value c.args.p.now in
-    let zero : pos 0 ≡ g.I.Number.value c.args.n = sym (ap pos c.if-size-eq0.true) ∙ c.in-Some.ensures.1 in
-    let empty : p ≡ [] = no_items p (c.if-is_empty.ensures ∙ ap (λ l. l == 0) (sym (length-map c.args.p.now g.I.Number.value))) in
+    let a_p : List ℤ = map g.I.Index.value c.args.a_p.now in
+    let a_i : List ℤ = map g.I.Index.value c.args.a_i.now in
+    let p : List ℤ = map g.I.Index.value c.args.p.now in
+    let zero : pos 0 ≡ g.I.Index.value c.args.n = sym (ap pos c.if-size-eq0.true) ∙ c.in-Some.ensures.1 in
+    let empty : p ≡ [] = no_items p (c.if-is_empty.ensures ∙ ap (λ l. l == 0) (sym (length-map c.args.p.now g.I.Index.value))) in
     let b = c.in_ok-no_partition.field-0 in subst
     (λ z. IsPartitionOf (matrix z a_p a_i p) b.cut.first.items b.cut.owner.items b.cut.ptr.items b.cut.parent.items
     b.lists.starts.items b.lists.neighbours.items) zero

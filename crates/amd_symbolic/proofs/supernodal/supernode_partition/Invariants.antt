@@ -5,6 +5,6 @@ use Rattle.amd_symbolic.proofs.supernodal.supernode_partition.Given as goal
 
 abbrev pub ghost-form_partition : goal.ghost-form_partition
 ghost-form_partition g a = record {
-  graph = graph_of a.size (map g.I.Number.value a.a_p.now) (map g.I.Number.value a.a_i.now);
-  rows = counts (map g.I.Number.value a.p.now);
+  graph = graph_of a.size (map g.I.Index.value a.a_p.now) (map g.I.Index.value a.a_i.now);
+  rows = counts (map g.I.Index.value a.p.now);
 }

@@ -6,18 +6,18 @@ use Rattle.amd_symbolic.specs.Orders.{Permutes}
 use Rattle.amd_symbolic.specs.Factors.{IsFactorOf, IsFault}
 use Rattle.amd_symbolic.proofs.Faults.{memory_of, all_of, answer_of}
 use Rattle.amd_symbolic.proofs.ColumnParts.{no_rows, no_items, some_items, empty_order, no_count}
-use Rattle.amd_symbolic.proofs.factor.columns.Goals as goal
+use Rattle.amd_symbolic.proofs.factor.matrix_columns.Goals as goal
 
 pub returns-in_default-clause-fault : goal.returns-in_default-clause-fault
-returns-in_default-clause-fault g c = no_count (g.I.Number.value c.args.n) _ _ c.in_default.ensures (simp length-map (omega arith))
+returns-in_default-clause-fault g c = no_count (g.I.Index.value c.args.n) _ _ c.in_default.ensures (simp length-map (omega arith))
 
 pub returns-then-is_empty-clause-factor : goal.returns-then-is_empty-clause-factor
 returns-then-is_empty-clause-factor g c =
-    let a_p : List ℤ = map g.I.Number.value c.args.a_p.now in
-    let a_i : List ℤ = map g.I.Number.value c.args.a_i.now in
-    let p : List ℤ = map g.I.Number.value c.args.p.now in
-    let zero : pos 0 ≡ g.I.Number.value c.args.n = sym (ap pos c.if-size-eq0.true) ∙ c.in-Some.ensures.1 in
-    let empty : p ≡ [] = no_items p (c.if-is_empty.ensures ∙ ap (λ l. l == 0) (sym (length-map c.args.p.now g.I.Number.value))) in
+    let a_p : List ℤ = map g.I.Index.value c.args.a_p.now in
+    let a_i : List ℤ = map g.I.Index.value c.args.a_i.now in
+    let p : List ℤ = map g.I.Index.value c.args.p.now in
+    let zero : pos 0 ≡ g.I.Index.value c.args.n = sym (ap pos c.if-size-eq0.true) ∙ c.in-Some.ensures.1 in
+    let empty : p ≡ [] = no_items p (c.if-is_empty.ensures ∙ ap (λ l. l == 0) (sym (length-map c.args.p.now g.I.Index.value))) in
     subst (λ z. IfOk c.empty_factor.result (λ f. IsFactorOf z a_p a_i p f.ptr.items f.rows.items f.parent.items)) zero
     (all_of c.empty_factor.result (λ f. f.ptr.items ≡ 0 ∷ []) (λ f. f.rows.items ≡ []) (λ f. f.parent.items ≡ [])
     (λ f. IsFactorOf (pos 0) a_p a_i p f.ptr.items f.rows.items f.parent.items) c.empty_factor.ensures.pointers c.empty_factor.ensures.rows
@@ -31,39 +31,39 @@ returns-then-is_empty-clause-room g c =
 
 pub returns-then-is_empty-clause-fault : goal.returns-then-is_empty-clause-fault
 returns-then-is_empty-clause-fault g c =
-    let zero : g.I.Number.value c.args.n ≡ pos 0 = sym c.in-Some.ensures.1 ∙ ap pos c.if-size-eq0.true in
-    memory_of c.empty_factor.result (IsFault (g.I.Number.value c.args.n) (map g.I.Number.value c.args.a_p.now)
-    (map g.I.Number.value c.args.a_i.now) (map g.I.Number.value c.args.p.now) c.args.room)
+    let zero : g.I.Index.value c.args.n ≡ pos 0 = sym c.in-Some.ensures.1 ∙ ap pos c.if-size-eq0.true in
+    memory_of c.empty_factor.result (IsFault (g.I.Index.value c.args.n) (map g.I.Index.value c.args.a_p.now)
+    (map g.I.Index.value c.args.a_i.now) (map g.I.Index.value c.args.p.now) c.args.room)
     c.empty_factor.ensures.fault (λ some. absurd (some zero))
 
 pub returns-else-is_empty-clause-fault : goal.returns-else-is_empty-clause-fault
 returns-else-is_empty-clause-fault g c =
-    let p : List ℤ = map g.I.Number.value c.args.p.now in
-    let zero : g.I.Number.value c.args.n ≡ pos 0 = sym c.in-Some.ensures.1 ∙ ap pos c.if-size-eq0.true in
-    let some : length p ≢ 0 = some_items p (c.if-is_empty.ensures ∙ ap (λ l. l == 0) (sym (length-map c.args.p.now g.I.Number.value))) in
+    let p : List ℤ = map g.I.Index.value c.args.p.now in
+    let zero : g.I.Index.value c.args.n ≡ pos 0 = sym c.in-Some.ensures.1 ∙ ap pos c.if-size-eq0.true in
+    let some : length p ≢ 0 = some_items p (c.if-is_empty.ensures ∙ ap (λ l. l == 0) (sym (length-map c.args.p.now g.I.Index.value))) in
     ((λ not. absurd (not zero)), (λ order h. some (empty_order p order (subst (λ z. Permutes (unsigned_abs z) p order) zero h))))
 
 pub returns-then-not-is_form-clause-fault : goal.returns-then-not-is_form-clause-fault
 returns-then-not-is_form-clause-fault g c =
-    let a_p : List ℤ = map g.I.Number.value c.args.a_p.now in
-    let a_i : List ℤ = map g.I.Number.value c.args.a_i.now in (
+    let a_p : List ℤ = map g.I.Index.value c.args.a_p.now in
+    let a_i : List ℤ = map g.I.Index.value c.args.a_i.now in (
       (λ zero. c.if-size-eq0.false (let same : pos c.in-Some.size ≡ pos 0 = c.in-Some.ensures.1 ∙ zero in cc)),
       subst (λ z. ¬ (IsInput z z a_p a_i)) c.in-Some.ensures.1 (c.is_form.ensures.none c.if-not-is_form.true),
     )
 
 pub form_columns-requires : goal.form_columns-requires
 form_columns-requires g c κs within =
-    let z : ℤ = g.I.Number.value c.args.n in
-    let a_p : List ℤ = map g.I.Number.value c.args.a_p.now in
-    let a_i : List ℤ = map g.I.Number.value c.args.a_i.now in
+    let z : ℤ = g.I.Index.value c.args.n in
+    let a_p : List ℤ = map g.I.Index.value c.args.a_p.now in
+    let a_i : List ℤ = map g.I.Index.value c.args.a_i.now in
     let form = c.is_form.ensures.form c.if-not-is_form.false in
     (within.0, (within.1, (form, (refl, refl))))
 
 pub returns-clause-factor : goal.returns-clause-factor
 returns-clause-factor g c =
-    let a_p : List ℤ = map g.I.Number.value c.args.a_p.now in
-    let a_i : List ℤ = map g.I.Number.value c.args.a_i.now in
-    let p : List ℤ = map g.I.Number.value c.args.p.now in
+    let a_p : List ℤ = map g.I.Index.value c.args.a_p.now in
+    let a_i : List ℤ = map g.I.Index.value c.args.a_i.now in
+    let p : List ℤ = map g.I.Index.value c.args.p.now in
     subst (λ z. IfOk c.form_columns.result (λ f. IsFactorOf z a_p a_i p f.ptr.items f.rows.items f.parent.items)) c.in-Some.ensures.1
     c.form_columns.ensures.factor
 
@@ -72,7 +72,7 @@ returns-clause-room g c = c.form_columns.ensures.room
 
 pub returns-clause-fault : goal.returns-clause-fault
 returns-clause-fault g c =
-    let a_p : List ℤ = map g.I.Number.value c.args.a_p.now in
-    let a_i : List ℤ = map g.I.Number.value c.args.a_i.now in
-    let p : List ℤ = map g.I.Number.value c.args.p.now in
+    let a_p : List ℤ = map g.I.Index.value c.args.a_p.now in
+    let a_i : List ℤ = map g.I.Index.value c.args.a_i.now in
+    let p : List ℤ = map g.I.Index.value c.args.p.now in
     subst (λ z. IfErr c.form_columns.result (IsFault z a_p a_i p c.args.room)) c.in-Some.ensures.1 c.form_columns.ensures.fault
