@@ -67,8 +67,8 @@ fn climb<I: Index>(
     ghost b: { Partition }
     requires laws { IsGraph b.order.graph }
     requires place { j < length b.owner }
-    requires number { I.value number ≡ pos j }
     requires parents { parent.now ≡ b.parent }
+    requires number { I.value number ≡ pos j }
     requires climbs { Climbs b j from next.old mark.old (counts (map I.value rows.old)) }
     requires told { AreCounts (map I.value rows.old) }
     ensures told { AreCounts (map I.value rows.new) }

@@ -7,6 +7,7 @@ ghost use Rattle.std.specs.Prelude.{List, take};
 ghost use Rattle.std.specs.Vec.{vec_capacity};
 ghost use Rattle.amd_model.specs.Graph.{IsGraph};
 ghost use Rattle.amd_symbolic.specs.Columns.{FactorSizes, HoldFactor, PassesRoom};
+ghost use Rattle.amd_symbolic.specs.Gathering.{LinkChildren, MarksTell};
 ghost use Rattle.amd_symbolic.specs.Orders.{Order};
 ghost use Rattle.amd_symbolic.specs.Neighbours.{AreLater, HasLater};
 ghost use Rattle.amd_symbolic.specs.Numbers.{FillsFront};
@@ -21,13 +22,13 @@ fn add_column<N: Index, A: Allocator>(
     k: usize,
     neighbours: &[usize],
     marked: Marked,
-    room: usize,
     ptr: &mut [usize],
     rows: &mut Vec<N, A>,
     parent: &mut [Option<usize>],
     mark: &mut [usize],
     link: &mut [Option<usize>],
     fresh: &mut [usize],
+    room: usize,
 ) -> Option<Marked>
     ghost o: { Order }
     requires laws { IsGraph o.graph }
@@ -69,6 +70,25 @@ fn add_column<N: Index, A: Allocator>(
     Some(plan.marked)
 }
 
+/// Sets the lists as they are before the first column, and returns what the marks then tell: no column.
+fn begin(ptr: &mut [usize], mark: &mut [usize], link: &mut [Option<usize>]) -> Marked
+    ghost o: { Order }
+    requires pointers { length ptr.old ≡ length o.rows + 1 }
+    requires marks { length mark.old ≡ length o.rows }
+    requires links { length link.old ≡ length o.rows }
+    ensures first { slice_index ptr.new 0 ≡ 0 }
+    ensures links { LinkChildren o 0 link.new }
+    ensures marks { MarksTell o 0 result.column result.stamp mark.new }
+{
+    mark.fill(0);
+    link.fill(None);
+    ptr[0] = 0;
+    Marked {
+        column: None,
+        stamp: 0,
+    }
+}
+
 /// Writes the columns of the factor of a graph under an order of its rows, and returns the number of their entries;
 /// none, exactly where there are more entries than `room`, for which `rows` has the capacity.
 ///
@@ -103,17 +123,11 @@ pub fn fill<N: Index, A: Allocator>(
         (map N.value rows.new.items ≡ map pos entries) × HoldFactor o.graph o.rows ptr.new entries parent.new) }
     ensures within { length rows.new.items ≤ room }
 {
-    mark.fill(0);
-    link.fill(None);
-    ptr[0] = 0;
-    let mut marked = Marked {
-        column: None,
-        stamp: 0,
-    };
+    let mut marked = begin(ptr, mark, link);
     'columns: for k in 0..parent.len() {
         let neighbours = &later[starts[k]..starts[k + 1]];
         let Some(now) = add_column(
-            k, neighbours, marked, room, ptr, rows, parent, mark, link, fresh,
+            k, neighbours, marked, ptr, rows, parent, mark, link, fresh, room,
         ) else {
             return None;
         };
@@ -196,13 +210,7 @@ pub fn fill_into<N: Index>(
         (map N.value rows.new ≡ map pos entries ++ drop total (map N.value rows.old)) ×
         HoldFactor o.graph o.rows ptr.new entries parent.new) }
 {
-    mark.fill(0);
-    link.fill(None);
-    ptr[0] = 0;
-    let mut marked = Marked {
-        column: None,
-        stamp: 0,
-    };
+    let mut marked = begin(ptr, mark, link);
     'columns: for k in 0..parent.len() {
         let neighbours = &later[starts[k]..starts[k + 1]];
         let Some(now) = add_column_into(k, neighbours, marked, ptr, rows, parent, mark, link, fresh)

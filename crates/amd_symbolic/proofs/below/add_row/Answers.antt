@@ -41,9 +41,9 @@ climb-requires g c κs within =
         (
           c.requires.1.1.0,
           (
-            c.requires.1.1.1.0,
+            c.requires.1.1.1.1.1.0,
             (
-              c.requires.1.1.1.1.1.0,
+              c.requires.1.1.1.0,
               (
                 subst (λ xs. Climbs g.b c.args.j (slice_index xs place) c.earlier.next c.earlier.mark rows) (sym c.requires.1.1.1.1.0)
                     (climbs-from g.b c.args.j (slice_index g.b.owner place) c.earlier.next c.earlier.mark rows i

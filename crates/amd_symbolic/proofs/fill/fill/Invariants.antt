@@ -4,6 +4,9 @@ use Rattle.std.specs.Vec.{vec_capacity}
 use Rattle.amd_symbolic.specs.Numbers.{FillsFront}
 use Rattle.amd_symbolic.proofs.fill.fill.Given as goal
 
+abbrev pub ghost-begin : goal.ghost-begin
+ghost-begin g a = g.o
+
 abbrev pub ghost-add_column : goal.ghost-add_column
 ghost-add_column g a = g.o
 

@@ -3,6 +3,9 @@ use Rattle.std.specs.Prelude.{slice_index}
 use Rattle.amd_symbolic.specs.Numbers.{FillsFront}
 use Rattle.amd_symbolic.proofs.fill.fill_into.Given as goal
 
+abbrev pub ghost-begin : goal.ghost-begin
+ghost-begin g a = g.o
+
 abbrev pub ghost-add_column_into : goal.ghost-add_column_into
 ghost-add_column_into g a = g.o
 
