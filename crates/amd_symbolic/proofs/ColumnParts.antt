@@ -1,6 +1,6 @@
 -- What the parts of `columns` owe each other, said of the graph of a column form and the rows of an order.
-use Rattle.std.proofs.Common.{ℕ, ℤ, pos, negsuc, ◌≡◌, ◌≢◌, ◌<◌, ◌^◌, List, [], ◌∷◌, Option, length, refl, sym, ap, subst, ◌∙◌, arith}
-use Rattle.std.specs.Prelude.{true, false, ◌==◌}
+use Rattle.std.proofs.Common.{ℕ, ℤ, pos, negsuc, ◌≡◌, ◌≢◌, ◌<◌, ◌^◌, List, [], ◌∷◌, Option, length, map, refl, sym, ap, subst, ◌∙◌, arith}
+use Rattle.std.specs.Prelude.{true, false, ◌==◌, unsigned_abs}
 use Rattle.std.specs.Int.{FitsUnsignedBits}
 use Rattle.std.proofs.lemmas.Bool.{ne_eqb}
 use Rattle.std.proofs.lemmas.List.{length-map}
@@ -89,3 +89,17 @@ no_items (x ∷ xs) e = let some : length (x ∷ xs) ≢ 0 = (λ none. omega (ar
 pub some_items : (xs : List ℤ) → false ≡ (length xs == 0) → length xs ≢ 0
 some_items [] e = absurd (cc)
 some_items (x ∷ xs) e = λ none. absurd (omega (arith, none))
+
+-- where there are no rows, a list of some is no order of them, whatever the input is
+pub no_order : {X : Type 0} (value : X → ℤ) (z : ℤ) (size : ℕ) (p : List X) (ap' ai : List ℤ) → pos size ≡ z → size ≡ 0 →
+    false ≡ (length p == 0) → (z ≢ pos 0 → IsInput z z ap' ai) × ((order : List ℕ) → ¬ (Permutes (unsigned_abs z) (map value p) order))
+no_order value z size p ap' ai is none e =
+    let zero : z ≡ pos 0 = sym is ∙ ap pos none in
+    let some : length (map value p) ≢ 0 = some_items (map value p) (e ∙ ap (λ l. l == 0) (sym (length-map p value))) in
+    ((λ not. absurd (not zero)), (λ order h. some (empty_order (map value p) order (subst (λ z. Permutes (unsigned_abs z) (map value p) order) zero h))))
+
+-- an input with rows that is no column form is none under the number of its rows
+pub no_form : (z : ℤ) (size : ℕ) (ap' ai : List ℤ) → pos size ≡ z → ¬ (size ≡ 0) → ¬ (IsColumnForm (pos size) size ap' ai) →
+    (z ≢ pos 0) × (¬ (IsInput z z ap' ai))
+no_form z size ap' ai is some none =
+    ((λ zero. some (let same : pos size ≡ pos 0 = is ∙ zero in cc)), subst (λ z. ¬ (IsInput z z ap' ai)) is none)

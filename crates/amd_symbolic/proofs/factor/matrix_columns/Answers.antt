@@ -1,11 +1,9 @@
-use Rattle.std.proofs.Common.{ℤ, List, pos, ◌≡◌, ◌≢◌, ◌≤◌, [], ◌∷◌, map, length, refl, sym, ap, subst, ◌∙◌, arith}
-use Rattle.std.specs.Prelude.{IfOk, IfErr, ◌==◌, unsigned_abs}
+use Rattle.std.proofs.Common.{ℤ, List, pos, ◌≡◌, ◌≤◌, [], ◌∷◌, map, length, refl, sym, ap, subst, ◌∙◌, arith}
+use Rattle.std.specs.Prelude.{IfOk, IfErr, ◌==◌}
 use Rattle.std.proofs.lemmas.List.{length-map}
-use Rattle.amd_model.specs.Input.Columns.{IsInput}
-use Rattle.amd_symbolic.specs.Orders.{Permutes}
 use Rattle.amd_symbolic.specs.Factors.{IsFactorOf, IsFault}
 use Rattle.amd_symbolic.proofs.Faults.{memory_of, all_of, answer_of}
-use Rattle.amd_symbolic.proofs.ColumnParts.{no_rows, no_items, some_items, empty_order, no_count}
+use Rattle.amd_symbolic.proofs.ColumnParts.{no_rows, no_items, no_count, no_form, no_order}
 use Rattle.amd_symbolic.proofs.factor.matrix_columns.Goals as goal
 
 pub returns-in_default-clause-fault : goal.returns-in_default-clause-fault
@@ -37,19 +35,12 @@ returns-then-is_empty-clause-fault g c =
     c.empty_factor.ensures.fault (λ some. absurd (some zero))
 
 pub returns-else-is_empty-clause-fault : goal.returns-else-is_empty-clause-fault
-returns-else-is_empty-clause-fault g c =
-    let p : List ℤ = map g.I.Index.value c.args.p.now in
-    let zero : g.I.Index.value c.args.n ≡ pos 0 = sym c.in-Some.ensures.1 ∙ ap pos c.if-size-eq0.true in
-    let some : length p ≢ 0 = some_items p (c.if-is_empty.ensures ∙ ap (λ l. l == 0) (sym (length-map c.args.p.now g.I.Index.value))) in
-    ((λ not. absurd (not zero)), (λ order h. some (empty_order p order (subst (λ z. Permutes (unsigned_abs z) p order) zero h))))
+returns-else-is_empty-clause-fault g c = no_order g.I.Index.value (g.I.Index.value c.args.n) c.in-Some.size c.args.p.now (map g.I.Index.value c.args.a_p.now)
+    (map g.I.Index.value c.args.a_i.now) c.in-Some.ensures.1 c.if-size-eq0.true c.if-is_empty.ensures
 
 pub returns-then-not-is_form-clause-fault : goal.returns-then-not-is_form-clause-fault
-returns-then-not-is_form-clause-fault g c =
-    let a_p : List ℤ = map g.I.Index.value c.args.a_p.now in
-    let a_i : List ℤ = map g.I.Index.value c.args.a_i.now in (
-      (λ zero. c.if-size-eq0.false (let same : pos c.in-Some.size ≡ pos 0 = c.in-Some.ensures.1 ∙ zero in cc)),
-      subst (λ z. ¬ (IsInput z z a_p a_i)) c.in-Some.ensures.1 (c.is_form.ensures.none c.if-not-is_form.true),
-    )
+returns-then-not-is_form-clause-fault g c = no_form (g.I.Index.value c.args.n) c.in-Some.size (map g.I.Index.value c.args.a_p.now)
+    (map g.I.Index.value c.args.a_i.now) c.in-Some.ensures.1 c.if-size-eq0.false (c.is_form.ensures.none c.if-not-is_form.true)
 
 pub form_columns-requires : goal.form_columns-requires
 form_columns-requires g c κs within =
