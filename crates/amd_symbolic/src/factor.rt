@@ -3,11 +3,11 @@
 // factorization (Rose, Tarjan and Lueker 1976); Liu 1990. Called by `analysis`, by users, by the demos and by the crate
 // `amd_c`.
 
-ghost use Rattle.std.specs.Prelude.{◌≡◌, ◌≤◌, ◌∷◌, [], pos, length, map, IfOk, IfErr, MatchOption};
+ghost use Rattle.std.specs.Prelude.{◌≡◌, ◌≤◌, ◌+◌, ◌∷◌, [], pos, length, map, IfOk, IfErr, MatchOption};
 ghost use Rattle.amd_model.specs.Graph.{IsGraph};
 ghost use Rattle.amd_model.specs.Input.Columns.{IsColumnForm};
 ghost use Rattle.amd_model.specs.Input.Pattern.{graph_of};
-ghost use Rattle.amd_symbolic.specs.Columns.{HoldFactor, PassesRoom};
+ghost use Rattle.amd_symbolic.specs.Columns.{FactorSizes, HoldFactor, PassesRoom};
 ghost use Rattle.amd_symbolic.specs.Orders.{Order};
 ghost use Rattle.amd_symbolic.specs.Neighbours.{HasLater};
 ghost use Rattle.amd_types.specs.Counts.{counts};
@@ -85,6 +85,46 @@ fn empty_factor<A: Allocator + Copy>(alloc: A) -> Result<Factor<A>, Fault>
     })
 }
 
+/// The lists in which a factor is made, but for its entries.
+#[derive(Drop)]
+pub struct FactorLists<A: Allocator> {
+    /// Where each column begins and the last one ends, and the parent of each, as in [`Factor`].
+    pub ptr: Vec<usize, A>,
+    pub parent: Vec<Option<usize>, A>,
+    /// For the work alone: three lists with a place for each column.
+    pub mark: Vec<usize, A>,
+    pub link: Vec<Option<usize>, A>,
+    pub fresh: Vec<usize, A>,
+}
+
+/// Takes the memory for these lists, for as many columns as there are `ends`, but one.
+///
+/// # Errors
+///
+/// A refused request for memory.
+pub fn factor_lists<A: Allocator + Copy>(
+    alloc: A,
+    ends: usize,
+) -> Result<FactorLists<A>, AllocError>
+    ghost o: { Order }
+    requires { ends ≡ length o.rows + 1 }
+    ensures { IfOk result (λ l. FactorSizes o l.ptr.items l.parent.items l.mark.items l.link.items l.fresh.items) }
+{
+    let columns = ends - 1;
+    let ptr = vec![in alloc; 0; ends]?;
+    let parent = vec![in alloc; None; columns]?;
+    let mark = vec![in alloc; 0; columns]?;
+    let link = vec![in alloc; None; columns]?;
+    let fresh = vec![in alloc; 0; columns]?;
+    Ok(FactorLists {
+        ptr,
+        parent,
+        mark,
+        link,
+        fresh,
+    })
+}
+
 /// Takes all memory, for at most `room` entries, and writes the factor that the lists of later neighbours give; none,
 /// exactly where it has more entries.
 ///
@@ -104,27 +144,26 @@ fn written_factor<A: Allocator + Copy>(
         (λ f. HoldFactor o.graph o.rows f.ptr.items f.rows.items f.parent.items)) }
     ensures room { IfOk result (λ r. MatchOption r (Unit {0}) (λ f. length f.rows.items ≤ room)) }
 {
-    let columns = starts.len() - 1;
-    let mut ptr = vec![in alloc; 0; starts.len()]?;
+    let mut lists = factor_lists(alloc, starts.len())?;
     let mut rows = Vec::with_capacity(alloc, room)?;
-    let mut parent = vec![in alloc; None; columns]?;
-    let mut mark = vec![in alloc; 0; columns]?;
-    let mut link = vec![in alloc; None; columns]?;
-    let mut fresh = vec![in alloc; 0; columns]?;
     let Some(_) = fill(
         starts,
         later,
         room,
-        &mut ptr,
+        &mut lists.ptr,
         &mut rows,
-        &mut parent,
-        &mut mark,
-        &mut link,
-        &mut fresh,
+        &mut lists.parent,
+        &mut lists.mark,
+        &mut lists.link,
+        &mut lists.fresh,
     ) else {
         return Ok(None);
     };
-    Ok(Some(Factor { ptr, rows, parent }))
+    Ok(Some(Factor {
+        ptr: lists.ptr,
+        rows,
+        parent: lists.parent,
+    }))
 }
 
 /// The factor of a column form with `size` rows and columns.

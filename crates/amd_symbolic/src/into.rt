@@ -13,7 +13,7 @@ ghost use Rattle.amd_types.specs.Counts.{counts};
 ghost use Rattle.amd_symbolic.specs.Factors.{IsFault, WritesFactor};
 ghost use Rattle.amd_symbolic.specs.declared.factor.Fault.TheVariants.{OutOfMemory, RoomTooSmall};
 
-use crate::factor::Fault;
+use crate::factor::{Fault, factor_lists};
 use crate::fill::fill_into;
 use crate::forms::is_form;
 use crate::neighbours::later_lists;
@@ -67,25 +67,23 @@ fn written_into<I: Index, A: Allocator + Copy>(
         HoldFactor o.graph o.rows f.ptr.items entries f.parent.items)) }
     ensures kept { IfErr result (λ e. rows.new ≡ rows.old) }
 {
-    let columns = starts.len() - 1;
-    let mut ptr = vec![in alloc; 0; starts.len()]?;
-    let mut parent = vec![in alloc; None; columns]?;
-    let mut mark = vec![in alloc; 0; columns]?;
-    let mut link = vec![in alloc; None; columns]?;
-    let mut fresh = vec![in alloc; 0; columns]?;
+    let mut lists = factor_lists(alloc, starts.len())?;
     let Some(_) = fill_into(
         starts,
         later,
-        &mut ptr,
+        &mut lists.ptr,
         rows,
-        &mut parent,
-        &mut mark,
-        &mut link,
-        &mut fresh,
+        &mut lists.parent,
+        &mut lists.mark,
+        &mut lists.link,
+        &mut lists.fresh,
     ) else {
         return Ok(None);
     };
-    Ok(Some(Frame { ptr, parent }))
+    Ok(Some(Frame {
+        ptr: lists.ptr,
+        parent: lists.parent,
+    }))
 }
 
 /// The factor of a column form with `size` rows and columns.
