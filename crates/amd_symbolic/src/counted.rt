@@ -7,7 +7,7 @@ ghost use Rattle.amd_model.specs.Graph.{IsGraph};
 ghost use Rattle.amd_symbolic.specs.Neighbours.{HasEarlier};
 ghost use Rattle.amd_symbolic.specs.Orders.{Order};
 ghost use Rattle.amd_symbolic.specs.Counted.{IsCutNeed, TellCounts, wide_cut};
-ghost use Rattle.amd_symbolic.specs.Sizes.{HoldSizes};
+ghost use Rattle.amd_symbolic.specs.Sizes.{HoldSizes, WorkSizes};
 
 use crate::needs::Need;
 use crate::neighbours::turned_lists;
@@ -85,6 +85,51 @@ pub struct Sized<A: Allocator> {
     pub parent: Vec<Option<usize>, A>,
 }
 
+/// The lists for the work of a count, beside what it gives.
+#[derive(Drop)]
+struct Work<A: Allocator> {
+    order: Vec<usize, A>,
+    up: Vec<usize, A>,
+    last: Vec<usize, A>,
+    size: Vec<usize, A>,
+    link: Vec<usize, A>,
+    rank: Vec<usize, A>,
+    plus: Vec<usize, A>,
+    minus: Vec<usize, A>,
+}
+
+/// Takes the memory for these lists, for as many columns as there are `ends`, but one.
+///
+/// # Errors
+///
+/// A refused request for memory.
+fn work_lists<A: Allocator + Copy>(alloc: A, ends: usize) -> Result<Work<A>, AllocError>
+    ghost o: { Order }
+    requires { ends ≡ length o.rows + 1 }
+    ensures { IfOk result (λ w. WorkSizes o w.order.items w.up.items w.last.items w.size.items w.link.items w.rank.items
+        w.plus.items w.minus.items) }
+{
+    let columns = ends - 1;
+    let order = vec![in alloc; 0; columns]?;
+    let up = vec![in alloc; 0; columns]?;
+    let last = vec![in alloc; 0; columns]?;
+    let size = vec![in alloc; 0; ends]?;
+    let link = vec![in alloc; 0; ends]?;
+    let rank = vec![in alloc; 0; ends]?;
+    let plus = vec![in alloc; 0; ends]?;
+    let minus = vec![in alloc; 0; ends]?;
+    Ok(Work {
+        order,
+        up,
+        last,
+        size,
+        link,
+        rank,
+        plus,
+        minus,
+    })
+}
+
 /// Takes all memory, and counts by the lists of earlier neighbours.
 ///
 /// # Errors
@@ -104,14 +149,7 @@ pub fn written_sizes<A: Allocator + Copy>(
     let columns = starts.len() - 1;
     let mut sizes = vec![in alloc; 0; columns]?;
     let mut parent = vec![in alloc; None; columns]?;
-    let mut order = vec![in alloc; 0; columns]?;
-    let mut up = vec![in alloc; 0; columns]?;
-    let mut last = vec![in alloc; 0; columns]?;
-    let mut subtree = vec![in alloc; 0; starts.len()]?;
-    let mut link = vec![in alloc; 0; starts.len()]?;
-    let mut rank = vec![in alloc; 0; starts.len()]?;
-    let mut plus = vec![in alloc; 0; starts.len()]?;
-    let mut minus = vec![in alloc; 0; starts.len()]?;
+    let mut work = work_lists(alloc, starts.len())?;
     count_by_meetings(
         starts,
         earlier,
@@ -119,14 +157,14 @@ pub fn written_sizes<A: Allocator + Copy>(
         &later.neighbours,
         &mut parent,
         &mut sizes,
-        &mut order,
-        &mut up,
-        &mut last,
-        &mut subtree,
-        &mut link,
-        &mut rank,
-        &mut plus,
-        &mut minus,
+        &mut work.order,
+        &mut work.up,
+        &mut work.last,
+        &mut work.size,
+        &mut work.link,
+        &mut work.rank,
+        &mut work.plus,
+        &mut work.minus,
     );
     Ok(Sized { sizes, parent })
 }

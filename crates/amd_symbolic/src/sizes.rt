@@ -2,11 +2,11 @@
 // in postorder, and a sweep over all arcs. Source: Liu 1986; Gilbert, Ng and Peyton 1994. Called by whoever has the
 // lists of earlier and of later neighbours and the memory.
 
-ghost use Rattle.std.specs.Prelude.{◌≡◌, ◌+◌, length};
+ghost use Rattle.std.specs.Prelude.{◌≡◌, length};
 ghost use Rattle.amd_model.specs.Graph.{IsGraph};
 ghost use Rattle.amd_symbolic.specs.Neighbours.{HasEarlier, HasLater};
 ghost use Rattle.amd_symbolic.specs.Orders.{Order};
-ghost use Rattle.amd_symbolic.specs.Sizes.{HoldSizes};
+ghost use Rattle.amd_symbolic.specs.Sizes.{HoldSizes, WorkSizes};
 
 use crate::ranks::{go_up, measure, rank_places};
 use crate::sweep::sweep;
@@ -43,14 +43,7 @@ pub fn count_by_meetings(
     requires later { HasLater o later_starts.now later.now }
     requires parents { length parent.old ≡ length o.rows }
     requires counts { length counts.old ≡ length o.rows }
-    requires order { length order.old ≡ length o.rows }
-    requires up { length up.old ≡ length o.rows }
-    requires last { length last.old ≡ length o.rows }
-    requires size { length size.old ≡ length o.rows + 1 }
-    requires link { length link.old ≡ length o.rows + 1 }
-    requires rank { length rank.old ≡ length o.rows + 1 }
-    requires plus { length plus.old ≡ length o.rows + 1 }
-    requires minus { length minus.old ≡ length o.rows + 1 }
+    requires work { WorkSizes o order.old up.old last.old size.old link.old rank.old plus.old minus.old }
     ensures { HoldSizes o.graph o.rows counts.new parent.new }
 {
     elimination_tree(starts, earlier, parent, order);

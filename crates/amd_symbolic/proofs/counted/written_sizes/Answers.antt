@@ -13,47 +13,29 @@ count_by_meetings-requires g c =
     omega (arith, c.deref_mut.ensures, c.in_ok-parent.ensures) in
     let sizes : length c.deref_mut-2.result.now ≡ length c.args.starts.now - 1 =
     omega (arith, c.deref_mut-2.ensures, c.in_ok-sizes.ensures) in
-    let order : length c.deref_mut-3.result.now ≡ length c.args.starts.now - 1 =
-    omega (arith, c.deref_mut-3.ensures, c.in_ok-order.ensures) in
-    let up : length c.deref_mut-4.result.now ≡ length c.args.starts.now - 1 =
-    omega (arith, c.deref_mut-4.ensures, c.in_ok-up.ensures) in
-    let last : length c.deref_mut-5.result.now ≡ length c.args.starts.now - 1 =
-    omega (arith, c.deref_mut-5.ensures, c.in_ok-last.ensures) in
-    let subtree : length c.deref_mut-6.result.now ≡ length c.args.starts.now =
-    omega (arith, c.deref_mut-6.ensures, c.in_ok-subtree.ensures) in
-    let link : length c.deref_mut-7.result.now ≡ length c.args.starts.now =
-    omega (arith, c.deref_mut-7.ensures, c.in_ok-link.ensures) in
-    let rank : length c.deref_mut-8.result.now ≡ length c.args.starts.now =
-    omega (arith, c.deref_mut-8.ensures, c.in_ok-rank.ensures) in
-    let plus : length c.deref_mut-9.result.now ≡ length c.args.starts.now =
-    omega (arith, c.deref_mut-9.ensures, c.in_ok-plus.ensures) in
-    let minus : length c.deref_mut-10.result.now ≡ length c.args.starts.now =
-    omega (arith, c.deref_mut-10.ensures, c.in_ok-minus.ensures) in (
+    let order : c.deref_mut-3.result.now ≡ c.in_ok-work.work.order.items = search rules in
+    let up : c.deref_mut-4.result.now ≡ c.in_ok-work.work.up.items = search rules in
+    let last : c.deref_mut-5.result.now ≡ c.in_ok-work.work.last.items = search rules in
+    let size : c.deref_mut-6.result.now ≡ c.in_ok-work.work.size.items = search rules in
+    let link : c.deref_mut-7.result.now ≡ c.in_ok-work.work.link.items = search rules in
+    let rank : c.deref_mut-8.result.now ≡ c.in_ok-work.work.rank.items = search rules in
+    let plus : c.deref_mut-9.result.now ≡ c.in_ok-work.work.plus.items = search rules in
+    let minus : c.deref_mut-10.result.now ≡ c.in_ok-work.work.minus.items = search rules in (
       c.requires.1.0,
       (
         h,
         (
           rw (c.deref.ensures.value, c.deref-2.ensures.value) c.in_ok-later.ensures,
           (
-            (parent ∙ columns),
-            (
-              (sizes ∙ columns),
-              (
-                (order ∙ columns),
-                (
-                  (up ∙ columns),
-                  (
-                    (last ∙
-                        columns),
-                    ((subtree ∙ h.room), ((link ∙ h.room), ((rank ∙ h.room), ((plus ∙ h.room), (minus ∙ h.room))))),
-                  ),
-                ),
-              ),
-            ),
+            parent ∙ columns,
+            (sizes ∙ columns, (rw (order, up, last, size, link, rank, plus, minus) c.in_ok-work.ensures)),
           ),
         ),
       ),
     )
+
+pub work_lists-requires : goal.work_lists-requires
+work_lists-requires g c κs inside = (inside, let room = c.requires.1.1.room in omega (arith, room))
 
 pub returns : goal.returns
 returns g c =

@@ -8,9 +8,9 @@ sweep-requires g c =
     c.go_up.new.up in
     let size = c.measure.new.size in let rank = c.rank_places.new.rank in
     let all = places g.o c.requires.0 parent up tells goes in
-    let counts-room = c.requires.1.1.1.1.0 in let order-room = c.requires.1.1.1.1.1.0 in let last-room = c.requires.1.1.1.1.1.1.1.0 in
-    let link-room = c.requires.1.1.1.1.1.1.1.1.1.0 in
-    let plus-room = c.requires.1.1.1.1.1.1.1.1.1.1.1.0 in let minus-room = c.requires.1.1.1.1.1.1.1.1.1.1.1.1 in
+    let counts-room = c.requires.1.1.1.1.0 in let order-room = c.requires.1.1.1.1.1.orders in let last-room = c.requires.1.1.1.1.1.lasts in
+    let link-room = c.requires.1.1.1.1.1.links in
+    let plus-room = c.requires.1.1.1.1.1.more in let minus-room = c.requires.1.1.1.1.1.less in
     let order-same = c.elimination_tree.auto.ancestor in let link-same = c.rank_places.auto.next in (
       is-scene g.o c.requires.0 parent up tells goes size rank c.measure.ensures.measured c.measure.ensures.all c.rank_places.ensures,
       (
