@@ -7,7 +7,7 @@ use amd_symbolic::{Factor, Fault, analyze, columns};
 use anyhow::{Context, Result, bail};
 use num_traits::PrimInt;
 use std::alloc::Global;
-use std::rt::Runtime;
+use std::rt::Clock;
 use std::time::{Duration, Instant};
 
 /// What the calls returned, which is the same each time, and how long each took.
@@ -28,7 +28,7 @@ fn told(fault: Fault) -> &'static str {
 }
 
 /// Makes the columns of a matrix under an order, with this room, and says how long that took.
-fn time_columns<R: Runtime + Alloc<A = Global>, I: PrimInt>(
+fn time_columns<R: Clock + Alloc<A = Global>, I: PrimInt>(
     rt: &R,
     matrix: &BinaryMatrix<I, Global>,
     p: &[I],
@@ -46,7 +46,7 @@ fn time_columns<R: Runtime + Alloc<A = Global>, I: PrimInt>(
 }
 
 /// Orders a matrix by the default control and makes the columns under this order, and says how long that took.
-fn time_analysis<R: Runtime + Alloc<A = Global>, I: PrimInt>(
+fn time_analysis<R: Clock + Alloc<A = Global>, I: PrimInt>(
     rt: &R,
     matrix: &BinaryMatrix<I, Global>,
 ) -> Result<(Factor<Global>, Duration)>
@@ -64,7 +64,7 @@ fn time_analysis<R: Runtime + Alloc<A = Global>, I: PrimInt>(
 
 /// Makes the columns of a matrix some times, under the order by the default control, with its bound as room.
 #[inline(never)]
-pub fn columns_often<R: Runtime + Alloc<A = Global>, I: PrimInt>(
+pub fn columns_often<R: Clock + Alloc<A = Global>, I: PrimInt>(
     rt: &R,
     matrix: &BinaryMatrix<I, Global>,
     repeats: usize,
@@ -91,7 +91,7 @@ pub fn columns_often<R: Runtime + Alloc<A = Global>, I: PrimInt>(
 
 /// Orders a matrix by the default control and makes the columns under this order, some times.
 #[inline(never)]
-pub fn analyze_often<R: Runtime + Alloc<A = Global>, I: PrimInt>(
+pub fn analyze_often<R: Clock + Alloc<A = Global>, I: PrimInt>(
     rt: &R,
     matrix: &BinaryMatrix<I, Global>,
     repeats: usize,

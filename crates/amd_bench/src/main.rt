@@ -24,17 +24,18 @@ use crate::reading::read_file;
 use crate::stages::{Staged, stages_often};
 use amd::{Control, Info, Status, order};
 use amd_cases::matrix::BinaryMatrix;
+use amd_types::index::Index;
 use anyhow::{Context, Result, bail};
 use num_traits::PrimInt;
 use std::alloc::Global;
 use std::env;
 use std::process::ExitCode;
-use std::rt::Runtime;
+use std::rt::{Clock, Runtime};
 use std::time::{Duration, Instant};
 
 /// What the calls returned, which is the same each time, and how long each took.
 #[derive(Drop)]
-struct Outcome<I: PrimInt> {
+struct Outcome<I> {
     p: Vec<I>,
     info: Info,
     times: Vec<Duration>,
@@ -43,7 +44,7 @@ struct Outcome<I: PrimInt> {
 /// Orders a matrix by the default control some times. It is compiled apart from its caller, so that no other loop takes
 /// its registers.
 #[inline(never)]
-fn order_often<R: Runtime + Alloc<A = Global>, I: PrimInt>(
+fn order_often<R: Clock + Alloc<A = Global>, I: PrimInt>(
     rt: &R,
     matrix: &BinaryMatrix<I, Global>,
     repeats: usize,
@@ -69,17 +70,17 @@ fn order_often<R: Runtime + Alloc<A = Global>, I: PrimInt>(
 
 /// A hash of a list: from a fixed start, each number is mixed in by an exclusive or and a product. The factor is the
 /// FNV-1a prime, and the start any fixed number, the same in the programs that `docs/BENCHMARKS.md` compares.
-fn hash_of<I: PrimInt>(numbers: &[I]) -> Result<u64> {
+fn hash_of<I: Index>(numbers: &[I]) -> Result<u64> {
     let mut hash: u64 = 1469598103934665603;
     'numbers: for number in numbers {
-        let number = number.to_u64().context("a negative row")?;
-        hash = (hash ^ number).wrapping_mul(1099511628211);
+        let number = number.to_count().context("a negative row")?;
+        hash = (hash ^ number as u64).wrapping_mul(1099511628211);
     }
     Ok(hash)
 }
 
 /// Ends a line with the least and the median of times.
-fn print_times<R: Runtime>(rt: &R, mut times: Vec<Duration>) -> Result<()> {
+fn print_times<R: Print>(rt: &R, mut times: Vec<Duration>) -> Result<()> {
     times.sort_unstable();
     let least = times.first().context("no repeats")?.as_nanos();
     let middle = times.get(times.len() / 2);
@@ -89,7 +90,7 @@ fn print_times<R: Runtime>(rt: &R, mut times: Vec<Duration>) -> Result<()> {
 }
 
 /// Prints the figures of an ordering.
-fn print_figures<R: Runtime>(rt: &R, info: &Info) -> Result<()> {
+fn print_figures<R: Print>(rt: &R, info: &Info) -> Result<()> {
     print!(rt; " n={} nz={}", info.n, info.nz)?;
     print!(rt; " nzaat={} lnz={}", info.nz_a_plus_at, info.lnz)?;
     print!(rt; " ldl={} lu={}", info.n_mult_subs_ldl, info.n_mult_subs_lu)?;
@@ -101,7 +102,7 @@ fn print_figures<R: Runtime>(rt: &R, info: &Info) -> Result<()> {
 }
 
 /// Begins a line with what `order` returned.
-fn print_ordering<R: Runtime, I: PrimInt>(
+fn print_ordering<R: Print, I: Index>(
     rt: &R,
     kind: &str,
     name: &str,
@@ -116,7 +117,7 @@ fn print_ordering<R: Runtime, I: PrimInt>(
 }
 
 /// Prints what the calls of `order` returned, and their times.
-fn print_outcome<R: Runtime, I: PrimInt>(
+fn print_outcome<R: Print, I: Index>(
     rt: &R,
     kind: &str,
     name: &str,
@@ -127,19 +128,14 @@ fn print_outcome<R: Runtime, I: PrimInt>(
 }
 
 /// Prints what the calls of `order` returned, and the memory of one.
-fn print_taken<R: Runtime, I: PrimInt>(
-    rt: &R,
-    kind: &str,
-    name: &str,
-    taken: &Taken<I>,
-) -> Result<()> {
+fn print_taken<R: Print, I: Index>(rt: &R, kind: &str, name: &str, taken: &Taken<I>) -> Result<()> {
     print_ordering(rt, kind, name, &taken.p, &taken.info)?;
     println!(rt; " peak={} requests={}", taken.peak, taken.requests)?;
     Ok(())
 }
 
 /// Prints what the calls of `columns` or `analyze` returned, and their times.
-fn print_factored<R: Runtime>(
+fn print_factored<R: Print>(
     rt: &R,
     kind: &str,
     name: &str,
@@ -153,7 +149,7 @@ fn print_factored<R: Runtime>(
 }
 
 /// The times of a stage in each of some calls, which have their stages in one order.
-fn times_of<R: Runtime + Alloc<A = Global>>(
+fn times_of<R: Alloc<A = Global>>(
     rt: &R,
     calls: &[Vec<(&'static str, Duration)>],
     stage: usize,
@@ -167,7 +163,7 @@ fn times_of<R: Runtime + Alloc<A = Global>>(
 }
 
 /// Prints a line with the times of each stage; that of the whole call, the last one, has the hash of the permutation.
-fn print_staged<R: Runtime + Alloc<A = Global>, I: PrimInt>(
+fn print_staged<R: Print + Alloc<A = Global>, I: Index>(
     rt: &R,
     kind: &str,
     name: &str,

@@ -6,11 +6,10 @@ use amd_cases::matrix::BinaryMatrix;
 use anyhow::{Context, Result, bail};
 use num_traits::PrimInt;
 use std::alloc::Global;
-use std::rt::Runtime;
 
 /// What the calls returned, which is the same each time, and the memory of the call that took most.
 #[derive(Drop)]
-pub struct Taken<I: PrimInt> {
+pub struct Taken<I> {
     pub p: Vec<I>,
     pub info: Info,
     /// The most bytes that stood at once.
@@ -20,12 +19,12 @@ pub struct Taken<I: PrimInt> {
 }
 
 /// A copy of a list that does not need the allocator which that list came from.
-fn copied<I: PrimInt>(alloc: Global, numbers: &[I]) -> Result<Vec<I>> {
+fn copied<I: Copy>(alloc: Global, numbers: &[I]) -> Result<Vec<I>> {
     Ok(Vec::from_slice(alloc, numbers)?)
 }
 
 /// Orders a matrix by the default control once.
-fn taken_once<R: Runtime + Alloc<A = Global>, I: PrimInt>(
+fn taken_once<R: Alloc<A = Global>, I: PrimInt>(
     rt: &R,
     matrix: &BinaryMatrix<I, Global>,
 ) -> Result<Taken<I>>
@@ -48,7 +47,7 @@ fn taken_once<R: Runtime + Alloc<A = Global>, I: PrimInt>(
 }
 
 /// Orders a matrix by the default control some times.
-pub fn most_taken<R: Runtime + Alloc<A = Global>, I: PrimInt>(
+pub fn most_taken<R: Alloc<A = Global>, I: PrimInt>(
     rt: &R,
     matrix: &BinaryMatrix<I, Global>,
     repeats: usize,

@@ -5,28 +5,26 @@ ghost use Rattle.std.specs.Prelude.{IfOk};
 
 use amd_cases::matrix::{BinaryMatrix, read_matrix};
 use amd_market::reader::{Matrix as Listed, read_matrix as read_listed};
+use amd_types::index::Index;
 use anyhow::{Context, Result};
 use num_traits::PrimInt;
 use std::alloc::Global;
 use std::fs;
 use std::io::BufReader;
-use std::rt::Runtime;
+use std::rt::Files;
 
 /// Numbers in the type that was asked for.
-fn converted<R: Runtime + Alloc<A = Global>, I: PrimInt>(
-    rt: &R,
-    numbers: &[usize],
-) -> Result<Vec<I>> {
+fn converted<R: Alloc<A = Global>, I: Index>(rt: &R, numbers: &[usize]) -> Result<Vec<I>> {
     let mut list = Vec::with_capacity(rt.alloc(), numbers.len())?;
     'numbers: for &number in numbers {
-        let number = num_traits::cast::<usize, I>(number);
+        let number = I::from_count(number);
         list.push(number.context("a number does not fit")?)?;
     }
     Ok(list)
 }
 
 /// A matrix of the Matrix Market in the type of numbers that was asked for.
-fn narrowed<R: Runtime + Alloc<A = Global>, I: PrimInt>(
+fn narrowed<R: Alloc<A = Global>, I: PrimInt>(
     rt: &R,
     matrix: &Listed<Global>,
 ) -> Result<BinaryMatrix<I, Global>>
@@ -41,7 +39,7 @@ fn narrowed<R: Runtime + Alloc<A = Global>, I: PrimInt>(
 }
 
 /// Reads the matrix of the file at a path.
-pub fn read_file<R: Runtime + Alloc<A = Global>, I: PrimInt>(
+pub fn read_file<R: Files + Alloc<A = Global>, I: PrimInt>(
     rt: &R,
     path: &str,
 ) -> Result<BinaryMatrix<I, Global>>

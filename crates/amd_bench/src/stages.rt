@@ -22,13 +22,14 @@ use amd_engine::ended::list_rows;
 use amd_engine::fresh::fresh_lists;
 use amd_engine::running::run;
 use amd_types::dense::dense_threshold;
+use amd_types::index::Index;
 use amd_types::internal::{known_count, to_count};
 use amd_words::{Cell, Signed, Unsigned, Word};
 use amd_workspace::laying::{Laid, lay};
 use anyhow::{Context, Result, bail};
 use num_traits::PrimInt;
 use std::alloc::Global;
-use std::rt::Runtime;
+use std::time;
 use std::time::{Duration, Instant};
 
 /// A stage, and how long it took.
@@ -49,7 +50,7 @@ struct Clock {
 
 impl Clock {
     /// A clock that starts.
-    fn start<R: Runtime + Alloc<A = Global>>(rt: &R) -> Result<Clock> {
+    fn start<R: time::Clock + Alloc<A = Global>>(rt: &R) -> Result<Clock> {
         let spans = Vec::with_capacity(rt.alloc(), 8)?;
         let now = Instant::now(rt)?;
         Ok(Clock {
@@ -62,14 +63,14 @@ impl Clock {
 
     /// Ends a stage, where there was no fault yet. `spans` returns a fault of the clock, so that no caller has to give
     /// up in the middle of a call.
-    fn end<R: Runtime>(&mut self, rt: &R, stage: &'static str) {
+    fn end<R: time::Clock>(&mut self, rt: &R, stage: &'static str) {
         if self.outcome.is_ok() {
             self.outcome = self.note(rt, stage);
         }
     }
 
     /// Notes a stage that ends now.
-    fn note<R: Runtime>(&mut self, rt: &R, stage: &'static str) -> Result<()> {
+    fn note<R: time::Clock>(&mut self, rt: &R, stage: &'static str) -> Result<()> {
         let now = Instant::now(rt)?;
         self.spans.push((stage, now.duration_since(self.last)))?;
         self.last = now;
@@ -87,7 +88,7 @@ impl Clock {
 
 /// What the calls returned, which is the same each time, and the stages of each call.
 #[derive(Drop)]
-pub struct Staged<I: PrimInt> {
+pub struct Staged<I> {
     pub p: Vec<I>,
     pub calls: Vec<Vec<Span>>,
 }
@@ -101,7 +102,7 @@ fn workspace_words(nzaat: usize, n: usize) -> Option<usize>
 }
 
 /// Eliminates in lists that are laid, and lists the rows.
-fn time_rounds<R: Runtime + Alloc<A = Global>, I: PrimInt, S: Signed, U: Unsigned>(
+fn time_rounds<R: time::Clock + Alloc<A = Global>, I: Index, S: Signed, U: Unsigned>(
     rt: &R,
     clock: &mut Clock,
     n: I,
@@ -156,7 +157,7 @@ fn time_rounds<R: Runtime + Alloc<A = Global>, I: PrimInt, S: Signed, U: Unsigne
 }
 
 /// Lays the lists of rows of known degrees, eliminates and lists, in words of these widths.
-fn time_elimination<R: Runtime + Alloc<A = Global>, I: PrimInt, S: Signed, U: Unsigned>(
+fn time_elimination<R: time::Clock + Alloc<A = Global>, I: Index, S: Signed, U: Unsigned>(
     rt: &R,
     clock: &mut Clock,
     n: I,
@@ -193,7 +194,7 @@ fn time_elimination<R: Runtime + Alloc<A = Global>, I: PrimInt, S: Signed, U: Un
 }
 
 /// Orders a matrix whose columns are sorted.
-fn time_sorted<R: Runtime + Alloc<A = Global>, I: PrimInt>(
+fn time_sorted<R: time::Clock + Alloc<A = Global>, I: PrimInt>(
     rt: &R,
     clock: &mut Clock,
     n: I,
@@ -224,7 +225,7 @@ fn time_sorted<R: Runtime + Alloc<A = Global>, I: PrimInt>(
 }
 
 /// Orders a matrix by the default control.
-fn time_call<R: Runtime + Alloc<A = Global>, I: PrimInt>(
+fn time_call<R: time::Clock + Alloc<A = Global>, I: PrimInt>(
     rt: &R,
     clock: &mut Clock,
     matrix: &BinaryMatrix<I, Global>,
@@ -252,7 +253,7 @@ fn time_call<R: Runtime + Alloc<A = Global>, I: PrimInt>(
 }
 
 /// Orders a matrix by the default control some times.
-pub fn stages_often<R: Runtime + Alloc<A = Global>, I: PrimInt>(
+pub fn stages_often<R: time::Clock + Alloc<A = Global>, I: PrimInt>(
     rt: &R,
     matrix: &BinaryMatrix<I, Global>,
     repeats: usize,

@@ -41,8 +41,8 @@ time_rounds-requires-clause-laid g c =
 
 pub time_rounds-requires-clause-graph : goal.time_rounds-requires-clause-graph
 time_rounds-requires-clause-graph g c =
-    let a_p : List ℤ = map g.I.Number.value c.args.a_p.now in
-    let a_i : List ℤ = map g.I.Number.value c.args.a_i.now in
+    let a_p : List ℤ = map g.I.Index.value c.args.a_p.now in
+    let a_i : List ℤ = map g.I.Index.value c.args.a_i.now in
     let n : ℕ = length c.args.degrees.now in
     let laid = c.in_ok-laid.ensures in
     let lays = lays_same (graph_of n a_p a_i) (starting_list n (is_pair n a_p a_i)) c.in_ok-laid.laid.iw.items c.deref_mut-2.result.now

@@ -1,7 +1,8 @@
 use Rattle.std.proofs.Common.{arith, ℕ, ℤ, List, pos, length, drop, ap, sym, subst, ◌≡◌, ◌<◌, ◌∙◌}
-use Rattle.std.specs.Prelude.{◌≤ℤ◌, replicate}
+use Rattle.std.specs.Prelude.{replicate}
 use Rattle.std.proofs.lemmas.Int.{ints}
 use Rattle.std.proofs.lemmas.List.{length-replicate, take_at}
+use Rattle.amd_types.proofs.Fitting.{fits_below}
 use Rattle.amd_engine.specs.InPlace.{AreOver}
 use Rattle.amd_bench.proofs.stages.time_rounds.Goals as goal
 
@@ -45,7 +46,5 @@ list_rows-requires-clause-fits g c = λ k l.
     let rows = c.run.ensures.over.words.0 in
     let small : k < length c.args.len.now = omega (arith, l, rows) in
     let size = c.requires.size in
-    let low : pos 0 ≤ℤ pos k = omega (arith, ints) in
-    let most : pos k ≤ℤ g.I.Number.value c.args.n = omega (arith, ints, small, size) in
-    let exact = g.met.I.Integral.exact_law in
-    g.I.Number.between_law (pos 0) (pos k) (g.I.Number.value c.args.n) exact (g.met.I.Zero.zero_fits_law exact) c.requires.fits low most
+    fits_below g.I.Index.fits g.met.I.Index.zero_fits g.met.I.Index.between k (g.I.Index.value c.args.n) c.requires.fits
+    (omega (arith, ints, small, size))
