@@ -2,16 +2,19 @@ use Rattle.std.proofs.Common.{arith, ℕ, ℤ, List, map, length, take, drop, re
 use Rattle.std.proofs.lemmas.Int.{ints}
 use Rattle.std.proofs.lemmas.List.{take_at, length-replicate, get_or-replicate}
 use Rattle.std.specs.Option.{option_copied}
+use Rattle.amd_words.specs.Sides.{nexts, lasts}
 use Rattle.amd_types.specs.Permutations.{AreInverse}
 use Rattle.amd_types.proofs.Fitting.{fits_below}
-use Rattle.amd_engine.specs.InPlace.{AreEmpty, AreFresh}
+use Rattle.amd_engine.specs.InPlace.{AreEmpty, AreFresh, AreOver}
 use Rattle.amd_engine.proofs.EndingLaw.{answers, ends_same}
 use Rattle.amd_engine.proofs.amd_2.amd_2_from.Goals as goal
 
--- lists as they are when they are made name no row
-fresh_empty : (n : ℕ) (e_len nv : List ℤ) (degree w head next last hash : List ℕ) →
-    AreFresh n e_len nv degree w head next last hash → AreEmpty n e_len nv degree w head next last hash
-fresh_empty n e_len nv degree w head next last hash fresh = record {
+-- lists as they are when they are made name no row, also lent
+lent_empty : {n : ℕ} {e_len nv e_len' nv' : List ℤ} {degree w head hash degree' w' head' hash' : List ℕ} {X : Type 0}
+    {sides sides' : List X} (next last : List X → List ℕ) → AreFresh n e_len nv degree w head (next sides) (last sides) hash →
+    e_len' ≡ e_len → nv' ≡ nv → degree' ≡ degree → w' ≡ w → head' ≡ head → sides' ≡ sides → hash' ≡ hash →
+    AreEmpty n e_len' nv' degree' w' head' (next sides') (last sides') hash'
+lent_empty {n} next last fresh a b d f h i j = rw (a, b, d, f, h, i, j) (record {
   words = fresh.words;
   figures = fresh.figures;
   links = (
@@ -21,23 +24,21 @@ fresh_empty n e_len nv degree w head next last hash fresh = record {
     ap length fresh.heads.1 ∙ length-replicate n n,
   );
   heads = λ b small. let is = get_or-replicate n b n 0 small in rw (fresh.heads.0, fresh.heads.1) (omega (arith, is), omega (arith, is));
-}
+})
 
 pub run-told-requires-clause-empty : goal.run-told-requires-clause-empty
-run-told-requires-clause-empty g c =
-    rw (
-      c.deref_mut.ensures.value,
-      c.deref_mut-2.ensures.value,
-      c.deref_mut-3.ensures.value,
-      c.deref_mut-4.ensures.value,
-      c.deref_mut-5.ensures.value,
-      c.deref_mut-6.ensures.value,
-      c.deref_mut-7.ensures.value,
-    )
-    (fresh_empty _ _ _ _ _ _ _ _ _ c.in_ok-lists.ensures.fresh)
+run-told-requires-clause-empty g c = lent_empty nexts lasts c.in_ok-lists.ensures.fresh c.deref_mut.ensures.value
+    c.deref_mut-2.ensures.value c.deref_mut-3.ensures.value c.deref_mut-4.ensures.value c.deref_mut-5.ensures.value
+    c.deref_mut-6.ensures.value c.deref_mut-7.ensures.value
 
 pub run-told-requires-clause-narrow : goal.run-told-requires-clause-narrow
 run-told-requires-clause-narrow g c = c.requires.narrow
+
+-- what is over is so lent
+lent_over : {n m : ℕ} {pe e_len nv e_len' nv' : List ℤ} {degree w head hash degree' w' head' hash' : List ℕ} →
+    AreOver n pe e_len nv degree w head hash → m ≡ n → e_len' ≡ e_len → nv' ≡ nv → degree' ≡ degree → w' ≡ w → head' ≡ head →
+    hash' ≡ hash → AreOver m pe e_len' nv' degree' w' head' hash'
+lent_over over k a b d f h i = rw (k, a, b, d, f, h, i) over
 
 pub list_rows-requires-clause-over : goal.list_rows-requires-clause-over
 list_rows-requires-clause-over g c =
@@ -53,15 +54,9 @@ list_rows-requires-clause-over g c =
     (over.links.0 ∙ sym (l.head.ok.0 ∙ ap length fresh.heads.0 ∙ length-replicate n n)) in
     let hash_is = take_at new.hash (drop (length new.hash) l.hash.items) l.hash.len
     (over.links.1 ∙ sym (l.hash.ok.0 ∙ ap length fresh.heads.1 ∙ length-replicate n n)) in
-    rw (
-      c.deref_mut-8.ensures.value ∙ e_len_is,
-      c.deref_mut-9.ensures.value ∙ nv_is,
-      c.deref_mut-10.ensures.value ∙ degree_is,
-      c.deref_mut-11.ensures.value ∙ w_is,
-      c.deref_mut-12.ensures.value ∙ head_is,
-      c.deref_mut-13.ensures.value ∙ hash_is,
-      over.words.0,
-    ) over
+    lent_over over over.words.0 (c.deref_mut-8.ensures.value ∙ e_len_is) (c.deref_mut-9.ensures.value ∙ nv_is)
+    (c.deref_mut-10.ensures.value ∙ degree_is) (c.deref_mut-11.ensures.value ∙ w_is) (c.deref_mut-12.ensures.value ∙ head_is)
+    (c.deref_mut-13.ensures.value ∙ hash_is)
 
 pub list_rows-requires-clause-room : goal.list_rows-requires-clause-room
 list_rows-requires-clause-room g c =
