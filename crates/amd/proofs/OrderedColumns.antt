@@ -1,7 +1,7 @@
 -- The columns by which an input is ordered: its own where it is sorted, else those of its transpose. An ordering by these columns
 -- is one of the input.
-use Rattle.std.proofs.Common.{ℕ, ℤ, List, Bool, pos, negsuc, ◌≡◌, ◌≢◌, refl, sym, ap, subst}
-use Rattle.std.specs.Prelude.{unsigned_abs, Option, None, Some, IsSomeAnd, MatchOption}
+use Rattle.std.proofs.Common.{ℕ, ℤ, List, Bool, pos, negsuc, ◌≡◌, ◌≢◌, map, refl, sym, ap, subst}
+use Rattle.std.specs.Prelude.{unsigned_abs, Option, None, Some, IsSomeAnd, MatchOption, Result, Ok, Err, IfOk, IfErr, IsErrAnd}
 use Rattle.amd_model.specs.Input.Columns.{IsInput, IsSortedInput}
 use Rattle.amd_model.specs.Input.Held.{HasMarks}
 use Rattle.amd_model.specs.Input.Pattern.{is_pair}
@@ -10,7 +10,7 @@ use Rattle.amd_types.specs.Statuses.{IsStatusOf}
 use Rattle.amd_types.specs.declared.amd.Info.{Info}
 use Rattle.amd_types.specs.declared.amd.Status.{Status}
 use Rattle.amd_types.specs.declared.amd.Status.TheVariants.{OK, Invalid, OkButJumbled, OutOfMemory}
-use Rattle.amd.specs.Answers.{OrdersMatrix, IsOrderingHolding, ordered_pairs}
+use Rattle.amd.specs.Answers.{OrdersMatrix, IsOrderingHolding, IsInputHolding, IsRefusalHolding, ordered_pairs, refusal_of}
 use Rattle.amd.proofs.Orderings.{orders_turned}
 
 -- the columns by which an input of this status is ordered
@@ -77,28 +77,84 @@ marks_for hold count z is marks = subst (λ m. HasMarks hold (unsigned_abs m)) i
 marks_back : (hold : Option (List Bool)) (count : ℕ) (z : ℤ) → pos count ≡ z → HasMarks hold (unsigned_abs z) → HasMarks hold count
 marks_back hold count z is marks = subst (λ m. HasMarks hold (unsigned_abs m)) (sym is) marks
 
-pub taken : {T : Type 0} (hold : Option (List Bool)) (count : ℕ) (z : ℤ) (a_p a_i c_p c_i : List ℤ) (status : Status) → pos count ≡ z →
-    count ≢ 0 → (status ≢ Invalid → HasMarks hold count) → (HasMarks hold count → IsStatusOf z z a_p a_i status) →
+pub has_status : (hold : Option (List Bool)) (count : ℕ) (z : ℤ) (a_p a_i : List ℤ) (status : Status) → pos count ≡ z → count ≢ 0 →
+    (status ≢ Invalid → HasMarks hold count) → (HasMarks hold count → IsStatusOf z z a_p a_i status) → HasStatus hold z a_p a_i status
+has_status hold count z a_p a_i status is some marks status_is = record {
+  some = not_nothing count z is some;
+  marks = λ v. marks_for hold count z is (marks v);
+  is = λ m. status_is (marks_back hold count z is m);
+}
+
+taken : {T : Type 0} (hold : Option (List Bool)) (z : ℤ) (a_p a_i c_p c_i : List ℤ) (status : Status) → HasStatus hold z a_p a_i status →
     (t : Option T) (Clean Same : T → Type 0) (Own : Type 0) → status ≢ Invalid → (status ≡ OK → t ≡ None) →
     (status ≡ OkButJumbled → IsSomeAnd t Clean) → MatchOption t Own Same → (Own → (c_p ≡ a_p) × (c_i ≡ a_i)) →
     ((c : T) → Clean c → Same c → IsCleanTranspose z a_p a_i c_p c_i) → IsTaken hold z a_p a_i c_p c_i status
-taken hold count z a_p a_i c_p c_i status is some marks status_is t Clean Same Own valid sorted jumbled from own turned =
-    let has : HasStatus hold z a_p a_i status = record {
-      some = not_nothing count z is some;
-      marks = λ v. marks_for hold count z is (marks v);
-      is = λ m. status_is (marks_back hold count z is m);
-    } in record {
-      has = has;
-      valid = valid;
-      columns = are_ordered status t z a_p a_i c_p c_i Clean Same Own valid (not_memory hold z a_p a_i status has) sorted jumbled from own
-          turned;
-    }
+taken hold z a_p a_i c_p c_i status has t Clean Same Own valid sorted jumbled from own turned = record {
+  has = has;
+  valid = valid;
+  columns = are_ordered status t z a_p a_i c_p c_i Clean Same Own valid (not_memory hold z a_p a_i status has) sorted jumbled from own
+      turned;
+}
+
+-- an input with marks
+holding_input : (hold : Option (List Bool)) (z : ℤ) (a_p a_i : List ℤ) → IsInput z z a_p a_i → HasMarks hold (unsigned_abs z) →
+    IsInputHolding hold z a_p a_i
+holding_input None z a_p a_i form marks = form
+holding_input (Some m) z a_p a_i form marks = (form, marks)
+
+held_marks : (hold : Option (List Bool)) (z : ℤ) (a_p a_i : List ℤ) → IsInputHolding hold z a_p a_i → HasMarks hold (unsigned_abs z)
+held_marks None z a_p a_i holding = tt
+held_marks (Some m) z a_p a_i holding = holding.1
+
+held_form : (hold : Option (List Bool)) (z : ℤ) (a_p a_i : List ℤ) → IsInputHolding hold z a_p a_i → IsInput z z a_p a_i
+held_form None z a_p a_i holding = holding
+held_form (Some m) z a_p a_i holding = holding.0
+
+-- what a call that failed makes of its fault
+pub err_gives : {T : Type 0} (Q : Status → Type 0) (r : Result T Status) (x : Status) → IsErrAnd r (λ e. e ≡ x) → Q x → IfErr r Q
+err_gives Q (Ok a) x h q = absurd h
+err_gives Q (Err e) x h q = subst Q (sym h) q
+
+pub err_alone : {T : Type 0} (P : T → Type 0) (r : Result T Status) (x : Status) → IsErrAnd r (λ e. e ≡ x) → IfOk r P
+err_alone P (Ok a) x h = absurd h
+err_alone P (Err e) x h = tt
+
+-- a valid input is refused for want of memory alone
+pub refused : (hold : Option (List Bool)) (z : ℤ) (a_p a_i : List ℤ) (status e : Status) → HasStatus hold z a_p a_i status →
+    status ≢ Invalid → e ≡ OutOfMemory → IsRefusalHolding hold z a_p a_i e
+refused hold z a_p a_i status e h valid is = subst (IsRefusalHolding hold z a_p a_i) (sym is)
+    (h.some, holding_input hold z a_p a_i (valid_form hold z a_p a_i status h valid) (h.marks valid))
+
+-- and any input as its status says
+pub refused_by : (hold : Option (List Bool)) (z : ℤ) (a_p a_i : List ℤ) (status e : Status) → HasStatus hold z a_p a_i status →
+    e ≡ refusal_of status → IsRefusalHolding hold z a_p a_i e
+refused_by hold z a_p a_i OK e h is = refused hold z a_p a_i OK e h (λ i. cc) is
+refused_by hold z a_p a_i Invalid e h is = subst (IsRefusalHolding hold z a_p a_i) (sym is)
+    (h.some, λ holding. h.is (held_marks hold z a_p a_i holding) (held_form hold z a_p a_i holding))
+refused_by hold z a_p a_i OkButJumbled e h is = refused hold z a_p a_i OkButJumbled e h (λ i. cc) is
+refused_by hold z a_p a_i OutOfMemory e h is = refused hold z a_p a_i OutOfMemory e h (λ i. cc) is
 
 -- the transpose under other names
 pub clean_same : (z : ℤ) (a_p a_i b_p b_i c_p c_i : List ℤ) → IsCleanTranspose z a_p a_i b_p b_i → c_p ≡ b_p → c_i ≡ b_i →
     IsCleanTranspose z a_p a_i c_p c_i
 clean_same z a_p a_i b_p b_i c_p c_i clean x y = subst (λ xs. IsCleanTranspose z a_p a_i xs c_i) (sym x)
     (subst (λ xs. IsCleanTranspose z a_p a_i b_p xs) (sym y) clean)
+
+-- the columns that were taken, as lists of the caller's numbers
+pub columns_taken : {T I : Type 0} (value : I → ℤ) (hold : Option (List Bool)) (z : ℤ) (own_p own_i got_p got_i : List I)
+    (status : Status) → HasStatus hold z (map value own_p) (map value own_i) status → (t : Option T) (first second : T → List I) →
+    status ≢ Invalid → (status ≡ OK → t ≡ None) →
+    (status ≡ OkButJumbled → IsSomeAnd t (λ c. IsCleanTranspose z (map value own_p) (map value own_i) (map value (first c))
+    (map value (second c)))) →
+    MatchOption t ((got_p ≡ own_p) × (got_i ≡ own_i)) (λ c. (got_p ≡ first c) × (got_i ≡ second c)) →
+    IsTaken hold z (map value own_p) (map value own_i) (map value got_p) (map value got_i) status
+columns_taken value hold z own_p own_i got_p got_i status has t first second valid sorted jumbled from =
+    taken hold z (map value own_p) (map value own_i) (map value got_p) (map value got_i) status has t
+    (λ c. IsCleanTranspose z (map value own_p) (map value own_i) (map value (first c)) (map value (second c)))
+    (λ c. (got_p ≡ first c) × (got_i ≡ second c)) ((got_p ≡ own_p) × (got_i ≡ own_i)) valid sorted jumbled from
+    (λ own. (ap (map value) own.0, ap (map value) own.1))
+    (λ c clean same. clean_same z (map value own_p) (map value own_i) (map value (first c)) (map value (second c)) (map value got_p)
+    (map value got_i) clean (ap (map value) same.0) (ap (map value) same.1))
 
 clean_form : (z : ℤ) (a_p a_i c_p c_i : List ℤ) → IsCleanTranspose z a_p a_i c_p c_i → IsInput z z c_p c_i × IsSortedInput z c_p c_i
 clean_form (pos k) a_p a_i c_p c_i clean = (clean.form, clean.sorted)

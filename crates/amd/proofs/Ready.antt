@@ -1,12 +1,17 @@
 -- A matrix whose columns are sorted is ready for an engine once its degrees are counted: what `amd_1` asks for, of the matrix, of these
 -- degrees under another name, and of the words of its workspace.
-use Rattle.std.proofs.Common.{ℕ, ℤ, List, zero, suc, pos, negsuc, ◌≡◌, ◌≢◌, ◌+◌, ◌/◌, ◌<◌, ◌≤◌, length, ap, subst, sym, arith}
-use Rattle.std.specs.Prelude.{unsigned_abs}
+use Rattle.std.proofs.Common.{ℕ, ℤ, Bool, List, map, zero, suc, pos, negsuc, ◌≡◌, ◌≢◌, ◌+◌, ◌/◌, ◌<◌, ◌≤◌, length, ap, subst, sym, arith}
+use Rattle.std.specs.Prelude.{unsigned_abs, Option, None, IsSomeAnd, MatchOption}
 use Rattle.amd_model.specs.Graph.{degree, degree_sum}
 use Rattle.amd_model.specs.Input.Columns.{IsColumnForm, IsSorted, IsInput, IsSortedInput}
+use Rattle.amd_model.specs.Input.Held.{HasMarks}
 use Rattle.amd_model.specs.Input.Pattern.{graph_of}
 use Rattle.amd_edges.specs.Visits.{AreCounts, start_of}
 use Rattle.amd_input.specs.Degrees.{AreDegrees}
+use Rattle.amd_input.specs.Transposes.{IsCleanTranspose}
+use Rattle.amd_types.specs.declared.amd.Status.{Status}
+use Rattle.amd_types.specs.declared.amd.Status.TheVariants.{OK, Invalid, OkButJumbled}
+use Rattle.amd.proofs.OrderedColumns.{HasStatus, columns_taken, ordered_form}
 use Rattle.amd_input.proofs.PatternLemmas.{input_form, input_sorted}
 
 -- there is a degree for each row
@@ -67,3 +72,24 @@ pub ready : (z : ℤ) (a_p a_i : List ℤ) (total words count : ℕ) (numbers le
 ready z a_p a_i total words count numbers lent form sorted some degrees is counted same =
     subst (IsReady z a_p a_i words) (sym same)
     (ready_itself z a_p a_i total words numbers form sorted some degrees (subst (λ m. words ≡ total + total / 5 + m) counted is))
+
+-- so is an input by the columns that were taken, with its marks
+pub record IsReadyHolding (hold : Option (List Bool)) (z : ℤ) (a_p a_i : List ℤ) (words : ℕ) (numbers : List ℕ) : Type 0 where
+  pub ready : IsReady z a_p a_i words numbers
+  pub marks : HasMarks hold (length numbers)
+
+pub ready_holding : {T I : Type 0} (value : I → ℤ) (hold : Option (List Bool)) (count : ℕ) (z : ℤ) (own_p own_i got_p got_i : List I)
+    (status : Status) → pos count ≡ z → HasStatus hold z (map value own_p) (map value own_i) status → (t : Option T)
+    (first second : T → List I) → status ≢ Invalid → (status ≡ OK → t ≡ None) →
+    (status ≡ OkButJumbled → IsSomeAnd t (λ c. IsCleanTranspose z (map value own_p) (map value own_i) (map value (first c))
+    (map value (second c)))) →
+    MatchOption t ((got_p ≡ own_p) × (got_i ≡ own_i)) (λ c. (got_p ≡ first c) × (got_i ≡ second c)) → (total words : ℕ)
+    (numbers lent : List ℕ) → AreDegrees (unsigned_abs z) (map value got_p) (map value got_i) total numbers →
+    words ≡ total + total / 5 + count → lent ≡ numbers → IsReadyHolding hold z (map value got_p) (map value got_i) words lent
+ready_holding value hold count z own_p own_i got_p got_i status is has t first second valid sorted jumbled from total words numbers lent
+    degrees room same =
+    let a_p : List ℤ = map value got_p in let a_i : List ℤ = map value got_i in
+    let k = columns_taken value hold z own_p own_i got_p got_i status has t first second valid sorted jumbled from in
+    let form = ordered_form hold z (map value own_p) (map value own_i) a_p a_i status k.has k.columns in
+    let r = ready z a_p a_i total words count numbers lent form.0 form.1 has.some degrees room (ap unsigned_abs is) same in
+    record { ready = r; marks = subst (HasMarks hold) (ap unsigned_abs r.size) (has.marks valid) }

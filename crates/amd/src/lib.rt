@@ -19,10 +19,11 @@ ghost use Rattle.amd.specs.Answers.{IsOrdering, IsOrderingHolding, IsRefusal, Is
 use amd_engine::amd_1::amd_1;
 use amd_input::aat::aat;
 use amd_input::preprocess::preprocess;
-use amd_input::valid::valid;
+use amd_input::valid::status_of;
 pub use amd_input::{aat, preprocess, valid};
 pub use amd_texts::{control, info};
 pub use amd_types::amd::{Control, Info, Status};
+use amd_types::index::Index;
 /// Internal: how the crates over this one read a caller's numbers. It is no part of what the ordering promises.
 pub use amd_types::internal;
 use amd_types::internal::to_count;
@@ -40,7 +41,7 @@ fn workspace_words(nzaat: usize, n: usize) -> Option<usize>
 
 /// The status of an input with marks of rows to hold last: that of the column form, but `Invalid` where there are marks
 /// and not one for each of the `count` rows.
-fn class_of<I: PrimInt>(n: I, count: usize, a_p: &[I], a_i: &[I], hold: Option<&[bool]>) -> Status
+fn class_of<I: Index>(n: I, count: usize, a_p: &[I], a_i: &[I], hold: Option<&[bool]>) -> Status
     requires fits { I.fits (I.value n) }
     requires count { I.value n ≡ pos count }
     ensures marks { result ≢ Status.Invalid → HasMarks (option_copied hold.entry) count }
@@ -49,7 +50,7 @@ fn class_of<I: PrimInt>(n: I, count: usize, a_p: &[I], a_i: &[I], hold: Option<&
 {
     match hold {
         Some(marks) if marks.len() != count => Status::Invalid,
-        _ => valid(n, n, a_p, a_i),
+        _ => status_of(n, n, a_p, a_i),
     }
 }
 
@@ -80,7 +81,7 @@ fn transpose_of<I: PrimInt, A: Allocator + Copy>(
 }
 
 /// The columns of the transpose where there is one, else those of the matrix.
-fn columns_of<'a, I: PrimInt, A: Allocator>(
+fn columns_of<'a, I: Index, A: Allocator>(
     transpose: &'a Option<(Vec<I, A>, Vec<I, A>)>,
     a_p: &'a [I],
     a_i: &'a [I],
