@@ -1,5 +1,5 @@
 -- What was written to the front of each array are the numbers of the supernodes; where there was no place, they are more.
-use Rattle.std.proofs.Common.{◌≡◌, ◌<◌, ◌+◌, ◌-◌, ◌⊎◌, ◌++◌, drop, inl, inr, map, pos, length, refl, sym, ◌∙◌, ap, subst, arith, rules}
+use Rattle.std.proofs.Common.{◌≡◌, ◌<◌, ◌+◌, ◌-◌, ◌⊎◌, ◌++◌, drop, take, inl, inr, map, pos, length, refl, sym, ◌∙◌, ap, subst, arith, rules}
 use Rattle.std.specs.Prelude.{slice_index}
 use Rattle.std.proofs.lemmas.List.{get_or_read, length-map}
 use Rattle.amd_types.specs.Counts.{counts}
@@ -10,8 +10,29 @@ use Rattle.amd_c.specs.Supernodal.{HasBlockPlaces, blocks}
 use Rattle.amd_c.proofs.ColumnsLeft.{front_values}
 use Rattle.amd_c.proofs.Parted.{passes}
 use Rattle.amd_c.proofs.supernodal.matrix_supernodes_into.Goals as goal
+use mathlib.Core.List.{not-mem-nil}
 use Rattle.amd_c.proofs.supernodal.matrix_supernodes_into.Goals.{then-len-parent-via-then-len-parent}
 use Rattle.amd_c.proofs.supernodal.matrix_supernodes_into.Goals.{then-len-parent-via-else-len-parent+then-below-rows}
+
+pub write_rows-cut-requires : goal.write_rows-cut-requires
+write_rows-cut-requires g c κs within =
+    let cut = c.in_ok-found.found.cut in
+    let p = subst (λ x. IsPartitionOf x cut.first.items cut.owner.items cut.ptr.items cut.parent.items
+    c.in_ok-found.found.lists.starts.items c.in_ok-found.found.lists.neighbours.items) (sym c.requires.1.1.1)
+    c.in_ok-found.ensures.partition in
+    let pointers = p.cut.partition.pointers in let parents = p.cut.partition.parents in
+    let many : c.len.result ≡ length cut.parent.items = omega arith in
+    let read : c.index-below.result.now ≡ slice_index cut.ptr.items c.len.result =
+    get_or_read cut.ptr.items c.len.result c.index-below.result.now (omega (arith, pointers, parents, many)) c.index-below.ensures 0 in
+    let last : c.len.result ≡ length cut.first.items - 1 = omega (arith, parents, many) in
+    let fits : g.I.Number.fits g.m.size = subst (λ x. g.I.Number.fits x.size) (sym c.requires.1.1.1) c.requires.1.1.0 in
+    let long : length (take c.index-below.result.now c.args.rows.now) ≡ c.index-below.result.now = search rules in (
+      within,
+      (
+        (λ a h. absurd (not-mem-nil h)),
+        (p, (c.in_ok-found.ensures.next, (c.in_ok-found.ensures.mark, ((long ∙ read ∙ ap (slice_index cut.ptr.items) last), fits)))),
+      ),
+    )
 
 pub returns-then-len-parent : goal.returns-then-len-parent
 returns-then-len-parent g c =
