@@ -108,51 +108,6 @@ pub fn order_in<I: Index, S: Signed, U: Unsigned, A: Allocator + Copy>(
     Ok((p, p_inv))
 }
 
-/// As `amd_1`, which calls it, in words of the narrower width that holds the numbers.
-///
-/// # Errors
-///
-/// As `amd_1`.
-fn order_narrowest<I: Index, A: Allocator + Copy>(
-    alloc: A,
-    n: I,
-    a_p: &[I],
-    a_i: &[I],
-    len: &[usize],
-    iwlen: usize,
-    control: &Control,
-    hold: Option<&[bool]>,
-    info: &mut Info,
-) -> Result<(Vec<I, A>, Vec<I, A>), Status>
-    requires fits { I.fits (I.value n) }
-    requires size { I.value n ≡ pos (length len.now) }
-    requires some { 0 < length len.now }
-    requires form { IsColumnForm (pos (length len.now)) (length len.now) (map I.value a_p.now) (map I.value a_i.now) }
-    requires sorted { IsSorted (length len.now) (map I.value a_p.now) (map I.value a_i.now) }
-    requires degrees { AreCounts (graph_of (length len.now) (map I.value a_p.now) (map I.value a_i.now))
-        ((graph_of (length len.now) (map I.value a_p.now) (map I.value a_i.now)).edge) len.now }
-    requires room { (start_of (graph_of (length len.now) (map I.value a_p.now) (map I.value a_i.now)) (length len.now)
-        + length len.now ≤ iwlen) × (iwlen < 2 ^ 63) }
-    requires marks { HasMarks (option_copied hold) (length len.now) }
-    ensures orders { IfOk result (λ a. IsEngineAnswer (option_copied hold.entry) (length len.now) control.now.dense
-        control.now.aggressive (map I.value a_p.now) (map I.value a_i.now) (map I.value a.0.items)
-        (map I.value a.1.items) info.old info.new) }
-    ensures compactions { OnOk result (info.new.n_cmp_a ≤ length len.now) }
-    ensures refused { IfErr result (λ e. e ≡ Status.OutOfMemory) }
-{
-    let size = len.len();
-    ask_for_most(alloc, size, iwlen)?;
-    if holds::<i32, u32>(size, iwlen, 2) {
-        return order_in::<I, i32, u32, A>(alloc, 2, n, a_p, a_i, len, iwlen, control, hold, info);
-    }
-    if holds::<isize, usize>(size, iwlen, 2) {
-        return order_in::<I, isize, usize, A>(
-            alloc, 2, n, a_p, a_i, len, iwlen, control, hold, info,
-        );
-    }
-    Err(Status::OutOfMemory)
-}
-
 /// Orders the rows of a matrix with sorted columns by elimination in a workspace of `iwlen` words.
 ///
 /// The input is a column form with `n` rows and columns, at least one, each strictly ascending: `valid` tells `OK`.
@@ -198,5 +153,15 @@ pub fn amd_1<I: PrimInt, A: Allocator + Copy>(
     ensures refused { IfErr result (λ e. e ≡ Status.OutOfMemory) }
     ensures degrees { len.new ≡ len.old }
 {
-    order_narrowest(alloc, n, a_p, a_i, len, iwlen, control, hold, info)
+    let size = len.len();
+    ask_for_most(alloc, size, iwlen)?;
+    if holds::<i32, u32>(size, iwlen, 2) {
+        return order_in::<I, i32, u32, A>(alloc, 2, n, a_p, a_i, len, iwlen, control, hold, info);
+    }
+    if holds::<isize, usize>(size, iwlen, 2) {
+        return order_in::<I, isize, usize, A>(
+            alloc, 2, n, a_p, a_i, len, iwlen, control, hold, info,
+        );
+    }
+    Err(Status::OutOfMemory)
 }

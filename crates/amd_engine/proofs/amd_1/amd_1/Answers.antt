@@ -1,5 +1,5 @@
 use Rattle.std.proofs.Common.{arith, refl}
-use Rattle.amd_engine.proofs.amd_1.order_narrowest.Goals as goal
+use Rattle.amd_engine.proofs.amd_1.amd_1.Goals as goal
 
 pub holds-requires : goal.holds-requires
 holds-requires g c = let r = c.requires.room in let a = r.0 in let b = r.1 in omega (arith, a, b)
@@ -43,6 +43,9 @@ returns-then-holds-clause-compactions g c = c.order_in.ensures.compactions
 pub returns-then-holds-clause-refused : goal.returns-then-holds-clause-refused
 returns-then-holds-clause-refused g c = c.order_in.ensures.refused
 
+pub returns-then-holds-clause-degrees : goal.returns-then-holds-clause-degrees
+returns-then-holds-clause-degrees g c = refl
+
 pub holds-requires-2 : goal.holds-requires-2
 holds-requires-2 g c = let r = c.requires.room in let a = r.0 in let b = r.1 in omega (arith, a, b)
 
@@ -85,5 +88,11 @@ returns-then-holds-2-clause-compactions g c = c.order_in-then-holds-2.ensures.co
 pub returns-then-holds-2-clause-refused : goal.returns-then-holds-2-clause-refused
 returns-then-holds-2-clause-refused g c = c.order_in-then-holds-2.ensures.refused
 
+pub returns-then-holds-2-clause-degrees : goal.returns-then-holds-2-clause-degrees
+returns-then-holds-2-clause-degrees g c = refl
+
 pub returns-clause-refused : goal.returns-clause-refused
 returns-clause-refused g c = refl
+
+pub returns-clause-degrees : goal.returns-clause-degrees
+returns-clause-degrees g c = refl
