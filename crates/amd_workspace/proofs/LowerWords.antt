@@ -36,7 +36,7 @@ use Rattle.amd_workspace.proofs.Layings.{row_word}
 use Rattle.amd_workspace.proofs.LowerLists.{IsNth, nth_below, nth_once, length_more, length_grows, lower_list, lower_count}
 use Rattle.amd_workspace.proofs.SymmetricCounts.{next_start}
 
-rows_nth : (iw : List ℤ) (from count k : ℕ) → k < count → get_or (rows iw from count) k 0 ≡ place (word iw (from + k))
+pub rows_nth : (iw : List ℤ) (from count k : ℕ) → k < count → get_or (rows iw from count) k 0 ≡ place (word iw (from + k))
 unfolding rows
 rows_nth iw from zero k l = absurd (omega (arith, l))
 rows_nth iw from (suc n) k l = let long = rows_length iw from n in elim (cases_lt k n) [
@@ -201,14 +201,14 @@ module _ (n : ℕ) (ap' ai : List ℤ) (lower : IsLower n ap' ai) where
     q : ℕ → Bool
     q = is_other n ap' ai j
 
-    other_early : (a : ℕ) → is_other n ap' ai j a ≡ true → is_earlier n ap' ai a j ≡ true
+    pub other_early : (a : ℕ) → is_other n ap' ai j a ≡ true → is_earlier n ap' ai a j ≡ true
     unfolding is_other is_earlier
     other_early a e = let p = and_parts _ _ e in let v = lower a j p.1 in elim (cases_eq a j) [
       | inl w ↦ clash (eq-eqb a j w) (not-true _ p.0)
       | inr ne ↦ and_from _ _ (lt-ltb j a (omega (arith, v, ne))) p.1
     ]
 
-    early_other : (a : ℕ) → is_earlier n ap' ai a j ≡ true → is_other n ap' ai j a ≡ true
+    pub early_other : (a : ℕ) → is_earlier n ap' ai a j ≡ true → is_other n ap' ai j a ≡ true
     unfolding is_other is_earlier
     early_other a e = let p = and_parts _ _ e in let v = ltb-true j a p.0 in
         and_from _ _ (not_from_false _ (ne_eqb a j (λ w. omega (arith, v, w)))) p.1

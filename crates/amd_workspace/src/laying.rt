@@ -196,7 +196,16 @@ pub fn lay<I: Index, S: Signed, U: Unsigned, A: Allocator + Copy>(
     let free = starts(&mut pe, &mut next, &mut len, degrees);
     let mut pointers = Vec::with_capacity(alloc, size)?;
     let iw = if has_long_lower(size, a_p, a_i, free) {
-        lower_lists(alloc, size, a_p, a_i, degrees, room, &mut next)?
+        lower_lists(
+            alloc,
+            size,
+            a_p,
+            a_i,
+            degrees,
+            room,
+            &mut next,
+            &mut pointers,
+        )?
     } else {
         general_lists(alloc, size, a_p, a_i, degrees, room, next, &mut pointers)?
     };

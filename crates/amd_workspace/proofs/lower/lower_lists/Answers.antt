@@ -27,45 +27,35 @@ module _ (n : ℕ) (ap' ai : List ℤ) (lower : IsLower n ap' ai) (degrees : Lis
     back_long : length (take count (new ++ drop (length new) items)) ≡ room
     back_long = ap length back ∙ kept ∙ ap length value ∙ long
 
-pub spread_lists-requires : goal.spread_lists-requires
-spread_lists-requires g c = let r = c.requires in let p = c.push_lists in
-    let ap' = map g.I.Index.value c.args.a_p.now in let ai = map g.I.Index.value c.args.a_i.now in record {
-      laid = (
-        record { n = c.args.size; ap = ap'; ai = ai },
-        columns c.args.size ap' ai r.lower c.args.degrees.now _ _ c.args.room c.args.next.now p.new.iw.items c.deref_mut.result.now
-            r.degrees r.room r.fits.0 r.fits.1 r.long r.starts p.ensures.long p.ensures.own c.deref_mut.ensures.value,
-      );
-    }
+pub spread_all-requires-clause-laid : goal.spread_all-requires-clause-laid
+spread_all-requires-clause-laid g c = let r = c.requires in let p = c.push_lists in
+    let ap' = map g.I.Index.value c.args.a_p.now in let ai = map g.I.Index.value c.args.a_i.now in
+    columns c.args.size ap' ai r.lower c.args.degrees.now _ _ c.args.room c.args.next.now p.new.iw.items c.deref_mut.result.now
+    r.degrees r.room r.fits.0 r.fits.1 r.long r.starts p.ensures.long p.ensures.own c.deref_mut.ensures.value
 
 pub returns-clause-long : goal.returns-clause-long
 returns-clause-long g c = let r = c.requires in let p = c.push_lists in
     let ap' = map g.I.Index.value c.args.a_p.now in let ai = map g.I.Index.value c.args.a_i.now in
     back_long c.args.size ap' ai r.lower c.args.degrees.now g.S.Signed.MOST g.U.Unsigned.MOST c.args.room c.args.next.now p.new.iw.items
     c.deref_mut.result.now r.degrees
-    r.room r.fits.0 r.fits.1 r.long r.starts p.ensures.long p.ensures.own c.deref_mut.ensures.value c.spread_lists.new.iw p.new.iw.len
-    (let b = p.new.iw.ok.0 in omega (arith, b)) c.spread_lists.ensures.long
+    r.room r.fits.0 r.fits.1 r.long r.starts p.ensures.long p.ensures.own c.deref_mut.ensures.value c.spread_all.new.iw p.new.iw.len
+    (let b = p.new.iw.ok.0 in omega (arith, b)) c.spread_all.ensures.long
 
 pub returns-clause-words : goal.returns-clause-words
 returns-clause-words g c = let r = c.requires in let p = c.push_lists in
     let ap' = map g.I.Index.value c.args.a_p.now in let ai = map g.I.Index.value c.args.a_i.now in
-    let so = columns c.args.size ap' ai r.lower c.args.degrees.now g.S.Signed.MOST g.U.Unsigned.MOST c.args.room c.args.next.now
-    p.new.iw.items c.deref_mut.result.now r.degrees
-    r.room r.fits.0 r.fits.1 r.long r.starts p.ensures.long p.ensures.own c.deref_mut.ensures.value in
     let same = back c.args.size ap' ai r.lower c.args.degrees.now g.S.Signed.MOST g.U.Unsigned.MOST c.args.room c.args.next.now
     p.new.iw.items c.deref_mut.result.now r.degrees
-    r.room r.fits.0 r.fits.1 r.long r.starts p.ensures.long p.ensures.own c.deref_mut.ensures.value c.spread_lists.new.iw p.new.iw.len
-    (let b = p.new.iw.ok.0 in omega (arith, b)) c.spread_lists.ensures.long in
-    subst (HoldRows c.args.size) (sym same) (c.spread_lists.ensures.lists (record { n = c.args.size; ap = ap'; ai = ai }) so).0
+    r.room r.fits.0 r.fits.1 r.long r.starts p.ensures.long p.ensures.own c.deref_mut.ensures.value c.spread_all.new.iw p.new.iw.len
+    (let b = p.new.iw.ok.0 in omega (arith, b)) c.spread_all.ensures.long in
+    subst (HoldRows c.args.size) (sym same) c.spread_all.ensures.lists.0
 
 pub returns-clause-lists : goal.returns-clause-lists
 returns-clause-lists g c = λ i l. let r = c.requires in let p = c.push_lists in
     let ap' = map g.I.Index.value c.args.a_p.now in let ai = map g.I.Index.value c.args.a_i.now in
-    let so = columns c.args.size ap' ai r.lower c.args.degrees.now g.S.Signed.MOST g.U.Unsigned.MOST c.args.room c.args.next.now
-    p.new.iw.items c.deref_mut.result.now r.degrees
-    r.room r.fits.0 r.fits.1 r.long r.starts p.ensures.long p.ensures.own c.deref_mut.ensures.value in
     let same = back c.args.size ap' ai r.lower c.args.degrees.now g.S.Signed.MOST g.U.Unsigned.MOST c.args.room c.args.next.now
     p.new.iw.items c.deref_mut.result.now r.degrees
-    r.room r.fits.0 r.fits.1 r.long r.starts p.ensures.long p.ensures.own c.deref_mut.ensures.value c.spread_lists.new.iw p.new.iw.len
-    (let b = p.new.iw.ok.0 in omega (arith, b)) c.spread_lists.ensures.long in
+    r.room r.fits.0 r.fits.1 r.long r.starts p.ensures.long p.ensures.own c.deref_mut.ensures.value c.spread_all.new.iw p.new.iw.len
+    (let b = p.new.iw.ok.0 in omega (arith, b)) c.spread_all.ensures.long in
     ap (λ xs. rows xs (own_start c.args.size ap' ai i) (num c.args.degrees.now i)) same
-    ∙ (c.spread_lists.ensures.lists (record { n = c.args.size; ap = ap'; ai = ai }) so).1 i l
+    ∙ c.spread_all.ensures.lists.1 i l
