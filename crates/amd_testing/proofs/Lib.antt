@@ -1,1 +1,2 @@
 pub mod Countdown
+mod Wrapped

@@ -1,7 +1,7 @@
 -- It counts the request, and answers what the inner allocator answers or, at the chosen one, `Err`. Assumes `Logic`.
 use Rattle.std.proofs.Common.{◌≡◌, ℕ, ◌+◌, ◌^◌, ◌<◌, true, false, List, [], ◌∷◌, Bool, Ok, Err, refl, w64, Bor}
 use seplogic.Ra.Ura.{Ura}
-use mir.Syntax.{Ty, Args, Fn, a_type, dnil, dcons}
+use mir.Syntax.{Ty, Fn}
 use mir.Val.{Val, vbool, vint, vptr}
 use mir.MapTy.{inst_fn}
 use base.Logic.{SProp, ent, id⊢}
@@ -20,9 +20,8 @@ use denote.Exit.{yes}
 use denote.RattleType.{owns}
 use denote.Ref.{shr_vals}
 use denote.Opens.{unhide}
-use denote.Param.{bounded, param}
 use denote.Plain.{uint_vals, uint_Tells}
-use denote.Signature.{Slot, plain, types_at}
+use denote.Signature.{plain, types_at}
 use denote.Steps.{heard, nothing}
 use denote.Triple.Clauses.{Ended, Clauses}
 use denote.Triple.Spec.{triple_of}
@@ -33,7 +32,7 @@ use types.Kit.{‵, raw, ◌⊛◌, later, given, learn, some, pick, ◌$◌, �
 use types.Kit.{fjoin, suffices, await, at_ret, done}
 use types.ByLocal.{env, alloc_all, pass_all, free_all, look_at, get, through, sets, lands_as}
 use denote.RawPtr.{block_ptr}
-use denote.Builtin.{usize, RefOf}
+use denote.Builtin.{usize}
 use denote.Triple.Call.{calls_at}
 use Rattle.std.proofs.alloc.Shapes.{after}
 use Rattle.std.proofs.alloc.Calls.{Al, α, seen, Answer, answer_val, Answer-typed, Answer-Ok, Answer-err, takes_key, Takes, at_takes}
@@ -41,6 +40,7 @@ use Rattle.std.proofs.alloc.Calls.{Answered, Takes-goes, Takes-gives, answers}
 use Rattle.amd_testing.proofs.Countdown.{Requests, Grants, at_grants, Grants-goes, Grants-gives}
 use Rattle.amd_testing.proofs.refusing.grants.Symbol as c_sym
 use Rattle.amd_testing.proofs.refusing.grants.Met as c_met
+use Rattle.amd_testing.proofs.Wrapped.{args, self}
 use Rattle.amd_testing.specs.contracts.refusing.Refusing as wrapper
 use Rattle.amd_testing.specs.contracts.refusing.RefusingAllocator.allocate as F
 use Rattle.amd_testing.specs.contracts.refusing.RefusingAllocator.allocate.Key as key
@@ -48,20 +48,14 @@ use Rattle.amd_testing.proofs.refusing.RefusingAllocator.allocate.Statement as s
 use Rattle.amd_testing.proofs.refusing.RefusingAllocator.allocate.Code as code
 
 module _ (Z : Al) where
-  abbrev args : Args
-  args = bounded (a_type ∷ []) (Z.row, tt) (dcons Z.d (dcons Z.drops dnil))
-
   abbrev here : Fn
-  here = inst_fn args code.function
-
-  abbrev self : Slot 2
-  self = RefOf (0 ∷ []) tt (plain (λ _. wrapper.the_row (param 0 Z.row))) (λ _. tt)
+  here = inst_fn (args Z) code.function
 
   abbrev ended : Ended
   ended = F.ended Z.row Z.g Z.d Z.drops
 
   abbrev stayed : Stays ended.signature.params ended.kept
-  stayed = (stay_dropped self yes, (stay_dropped (plain (λ _. usize)) yes, (stay_dropped (plain (λ _. usize)) yes, tt)))
+  stayed = (stay_dropped (self Z) yes, (stay_dropped (plain (λ _. usize)) yes, (stay_dropped (plain (λ _. usize)) yes, tt)))
 
 module _ (Z : Al) {M : Type 1} {𝓤 : Ura M} (𝓛 : Logic 𝓤) (at_mem : Memory → SProp 𝓤) (run : Routine → Fun 𝓤) (𝓣 : Tables 𝓤 𝓛.H)
     (tk : Triple 𝓤 (𝓣.C (takes_key Z)) (Takes Z 𝓛 at_mem run)) (kn : Triple 𝓤 (𝓣.C c_sym.name) (Grants 𝓛 at_mem run)) where
@@ -140,7 +134,6 @@ pub allocate_spec : {M : Type 1} → stated.statement M
 unfolding tables_of
 allocate_spec 𝓤 𝓛 𝓜 𝓡 wired Y L g d d' met _ =
     let Z : Al = record { row = Y; laws = L; g = g; d = d; drops = d' } in
-    let A = 𝓛.A in
     let 𝓣 : Tables 𝓤 𝓛.H = tables_of 𝓤 𝓛.H 𝓜 (tables 𝓤 𝓛.H 𝓜 𝓡 𝓡.env) in
     let c = F.clauses Y g d d' 𝓛 𝓜.mem 𝓡.returns in
     entered 𝓤 𝓛.H (triple_of 𝓛 (F.signature Y) (F.spec Y g d d' 𝓛 𝓜.mem 𝓡.returns)) 𝓣.C 𝓣.Λ (key.name (args Z)) (here Z)
