@@ -1,1 +1,2 @@
 pub mod Tallies
+mod Wrapped

@@ -1,4 +1,5 @@
--- Calls of `count_taken` and `count_given`: what each is handed, and what its caller has of it. Assumes `Logic`.
+-- Calls of `count_taken` and `count_given`: what each is handed, and what its caller has of it. Both take the counters and a size, and
+-- have no clause, so that one contract serves both. Assumes `Logic`.
 use Rattle.std.proofs.Common.{◌≡◌, ℕ, ◌<◌, ◌^◌, List, [], ◌∷◌, refl, ap, w64}
 use seplogic.Ra.Ura.{Ura}
 use mir.Val.{Val, vunit, vint, vptr}
@@ -18,20 +19,19 @@ use denote.Triple.Statement.{Contract}
 use denote.Triple.Spec.{triple_of}
 use Rattle.amd_bench.specs.contracts.counting.Tally as tally
 use Rattle.amd_bench.specs.contracts.counting.count_taken as count_taken
-use Rattle.amd_bench.specs.contracts.counting.count_given as count_given
 
 -- the row of the counters
 abbrev Counters : RattleType
 Counters = tally.the_row
 
 module _ {M : Type 1} {𝓤 : Ura M} (𝓛 : Logic 𝓤) (at_mem : Memory → SProp 𝓤) (run : Routine → Fun 𝓤) where
-  -- the contract of `count_taken`
-  abbrev pub CountTaken : Contract 𝓤
-  CountTaken = triple_of 𝓛 count_taken.signature (count_taken.spec 𝓛 at_mem run)
+  -- the contract of `count_taken`, which is that of `count_given` too
+  abbrev pub Counts : Contract 𝓤
+  Counts = triple_of 𝓛 count_taken.signature (count_taken.spec 𝓛 at_mem run)
 
   -- its ghost values at the counters t, which lie at c and are lent for κ, and a size
-  abbrev pub at_count_taken : Lft → Share → ℕ × ℕ → Counters.Denot → ℕ → CountTaken.Ghost
-  at_count_taken κ q c t n = (
+  abbrev pub at_counts : Lft → Share → ℕ × ℕ → Counters.Denot → ℕ → Counts.Ghost
+  at_counts κ q c t n = (
     (
       (κ, tt),
       (q, tt),
@@ -50,63 +50,19 @@ module _ {M : Type 1} {𝓤 : Ura M} (𝓛 : Logic 𝓤) (at_mem : Memory → SP
   open 𝓛 use {H, A}
 
   -- what it needs: the counters, lent, the lifetime, and a size that a machine word holds
-  pub CountTaken-goes : n < 2 ^ 64 → ent 𝓤 (sep 𝓤 (sem 𝓛 (hidden_shr Counters κ t c.0 c.1)) (A.lft κ q))
-      ((CountTaken 𝓛 at_mem run).pre (at_count_taken 𝓛 at_mem run κ q c t n))
-  CountTaken-goes fits =
+  pub Counts-goes : n < 2 ^ 64 → ent 𝓤 (sep 𝓤 (sem 𝓛 (hidden_shr Counters κ t c.0 c.1)) (A.lft κ q))
+      ((Counts 𝓛 at_mem run).pre (at_counts 𝓛 at_mem run κ q c t n))
+  Counts-goes fits =
       qed 𝓛 (‵ (hidden_shr Counters κ t c.0 c.1) ∷ ‵ (flft κ q) ∷ []) ∵ nothing ! $ flt_i ! n (2 ^ 64) fits $
       feq_i ! (List Val) (vint w64 n ∷ []) (vint w64 n ∷ []) refl $ fjoin ! $ fjoin ! $ move ! (1 ∷ []) $
       feq_i ! (List Val) (vptr c.0 c.1 ∷ []) (vptr c.0 c.1 ∷ []) refl $ fjoin ! $ fjoin ! $
       nothing ! $ move ! (2 ∷ []) $ join ! $ join ! $ nothing ! $ move ! (1 ∷ []) $ done !
 
   -- what it gives: the lifetime back
-  pub CountTaken-gives : (v : Val) → ent 𝓤 ((CountTaken 𝓛 at_mem run).post (at_count_taken 𝓛 at_mem run κ q c t n) v)
+  pub Counts-gives : (v : Val) → ent 𝓤 ((Counts 𝓛 at_mem run).post (at_counts 𝓛 at_mem run κ q c t n) v)
       (H.⇛ (guard 𝓤 (v ≡ vunit) (A.lft κ q)))
-  CountTaken-gives v =
-      qed 𝓛 (types.Kit.raw ((CountTaken 𝓛 at_mem run).post (at_count_taken 𝓛 at_mem run κ q c t n) v) ∷ []) ∵ updating ! $
-      use1 𝓛 (later (some (λ (r : Unit {0}). ((‵ (flft κ q) ⊛ ‵ ftrue) ⊛ ‵ (unit.own_val r (v ∷ []))) ⊛ some
-      (λ (ws : Unit {0} × (Unit {0} × Unit {0})). ‵ (fsep ftrue (fsep ftrue ftrue)) ⊛ ‵ ftrue)))) (id⊢ 𝓤 _) $
-      await ! tt $ pick ! (λ r. split ! $ split ! $ move ! (1 ∷ []) $ feq_l ! (λ e. split ! $ at_once ! $ check ! (ap only e) $
-      keep ! (0 ∷ []) $ done !))
-
-module _ {M : Type 1} {𝓤 : Ura M} (𝓛 : Logic 𝓤) (at_mem : Memory → SProp 𝓤) (run : Routine → Fun 𝓤) where
-  -- the contract of `count_given`
-  abbrev pub CountGiven : Contract 𝓤
-  CountGiven = triple_of 𝓛 count_given.signature (count_given.spec 𝓛 at_mem run)
-
-  -- its ghost values at the counters t, which lie at c and are lent for κ, and a size
-  abbrev pub at_count_given : Lft → Share → ℕ × ℕ → Counters.Denot → ℕ → CountGiven.Ghost
-  at_count_given κ q c t n = (
-    (
-      (κ, tt),
-      (q, tt),
-      tt,
-      (record { ref_ptr = c; now = t }, (n, tt)),
-      (
-        vptr c.0 c.1 ∷ [],
-        (vint w64 n ∷ [], tt),
-      ),
-    ),
-    tt,
-  )
-
-module _ {M : Type 1} {𝓤 : Ura M} (𝓛 : Logic 𝓤) (at_mem : Memory → SProp 𝓤) (run : Routine → Fun 𝓤) (κ : Lft) (q : Share) (c : ℕ × ℕ)
-    (t : Counters.Denot) (n : ℕ) where
-  open 𝓛 use {H, A}
-
-  -- what it needs: the counters, lent, the lifetime, and a size that a machine word holds
-  pub CountGiven-goes : n < 2 ^ 64 → ent 𝓤 (sep 𝓤 (sem 𝓛 (hidden_shr Counters κ t c.0 c.1)) (A.lft κ q))
-      ((CountGiven 𝓛 at_mem run).pre (at_count_given 𝓛 at_mem run κ q c t n))
-  CountGiven-goes fits =
-      qed 𝓛 (‵ (hidden_shr Counters κ t c.0 c.1) ∷ ‵ (flft κ q) ∷ []) ∵ nothing ! $ flt_i ! n (2 ^ 64) fits $
-      feq_i ! (List Val) (vint w64 n ∷ []) (vint w64 n ∷ []) refl $ fjoin ! $ fjoin ! $ move ! (1 ∷ []) $
-      feq_i ! (List Val) (vptr c.0 c.1 ∷ []) (vptr c.0 c.1 ∷ []) refl $ fjoin ! $ fjoin ! $
-      nothing ! $ move ! (2 ∷ []) $ join ! $ join ! $ nothing ! $ move ! (1 ∷ []) $ done !
-
-  -- what it gives: the lifetime back
-  pub CountGiven-gives : (v : Val) → ent 𝓤 ((CountGiven 𝓛 at_mem run).post (at_count_given 𝓛 at_mem run κ q c t n) v)
-      (H.⇛ (guard 𝓤 (v ≡ vunit) (A.lft κ q)))
-  CountGiven-gives v =
-      qed 𝓛 (types.Kit.raw ((CountGiven 𝓛 at_mem run).post (at_count_given 𝓛 at_mem run κ q c t n) v) ∷ []) ∵ updating ! $
+  Counts-gives v =
+      qed 𝓛 (types.Kit.raw ((Counts 𝓛 at_mem run).post (at_counts 𝓛 at_mem run κ q c t n) v) ∷ []) ∵ updating ! $
       use1 𝓛 (later (some (λ (r : Unit {0}). ((‵ (flft κ q) ⊛ ‵ ftrue) ⊛ ‵ (unit.own_val r (v ∷ []))) ⊛ some
       (λ (ws : Unit {0} × (Unit {0} × Unit {0})). ‵ (fsep ftrue (fsep ftrue ftrue)) ⊛ ‵ ftrue)))) (id⊢ 𝓤 _) $
       await ! tt $ pick ! (λ r. split ! $ split ! $ move ! (1 ∷ []) $ feq_l ! (λ e. split ! $ at_once ! $ check ! (ap only e) $

@@ -1,7 +1,7 @@
 -- It counts the block that comes back, and gives the block back to the inner allocator. Assumes `Logic`.
 use Rattle.std.proofs.Common.{◌≡◌, ℕ, ◌+◌, ◌^◌, ◌<◌, List, [], ◌∷◌, refl, w64, Bor}
 use seplogic.Ra.Ura.{Ura}
-use mir.Syntax.{Ty, Args, Fn, a_type, dnil, dcons}
+use mir.Syntax.{Ty, Fn}
 use mir.Val.{Val, vint, vptr}
 use mir.MapTy.{inst_fn}
 use base.Logic.{SProp, ent, id⊢}
@@ -19,9 +19,8 @@ use denote.Exit.{yes}
 use denote.RattleType.{owns}
 use denote.Ref.{shr_vals}
 use denote.Opens.{unhide}
-use denote.Param.{bounded, param}
 use denote.Plain.{uint_vals, uint_Tells}
-use denote.Signature.{Slot, plain, types_at}
+use denote.Signature.{plain, types_at}
 use denote.Steps.{heard, nothing}
 use denote.Triple.Clauses.{Ended, Clauses}
 use denote.Triple.Spec.{triple_of}
@@ -36,12 +35,13 @@ use types.Kit.{fjoin, feq_i, suffices, await, done}
 use types.Run.{unit_lit}
 use types.ByLocal.{alloc_all, pass_all, free_all, look_at, get, through, sets, lands_as}
 use denote.RawPtr.{Ptr, block_ptr, null_ptr, ptr_val, rawptr_vals, rawptr_Tells}
-use denote.Builtin.{usize, RawPtr, RefOf}
+use denote.Builtin.{usize, RawPtr}
 use denote.Triple.Call.{calls_at}
 use Rattle.std.proofs.alloc.Calls.{Al, α, seen, token, gives_key, Gives, at_gives, Gives-goes, Gives-Gives}
-use Rattle.amd_bench.proofs.Tallies.{CountGiven, at_count_given, CountGiven-goes, CountGiven-gives}
+use Rattle.amd_bench.proofs.Tallies.{Counts, at_counts, Counts-goes, Counts-gives}
 use Rattle.amd_bench.proofs.counting.count_given.Symbol as c_sym
 use Rattle.amd_bench.proofs.counting.count_given.Met as c_met
+use Rattle.amd_bench.proofs.Wrapped.{args, self}
 use Rattle.amd_bench.specs.contracts.counting.Counting as wrapper
 use Rattle.amd_bench.specs.contracts.counting.CountingAllocator.deallocate as F
 use Rattle.amd_bench.specs.contracts.counting.CountingAllocator.deallocate.Key as key
@@ -49,21 +49,15 @@ use Rattle.amd_bench.proofs.counting.CountingAllocator.deallocate.Statement as s
 use Rattle.amd_bench.proofs.counting.CountingAllocator.deallocate.Code as code
 
 module _ (Z : Al) where
-  abbrev args : Args
-  args = bounded (a_type ∷ []) (Z.row, tt) (dcons Z.d (dcons Z.drops dnil))
-
   abbrev here : Fn
-  here = inst_fn args code.function
-
-  abbrev self : Slot 2
-  self = RefOf (0 ∷ []) tt (plain (λ _. wrapper.the_row (param 0 Z.row))) (λ _. tt)
+  here = inst_fn (args Z) code.function
 
   abbrev ended : Ended
   ended = F.ended Z.row Z.g Z.d Z.drops
 
   abbrev stayed : Stays ended.signature.params ended.kept
   stayed = (
-    stay_dropped self yes,
+    stay_dropped (self Z) yes,
     (
       stay_dropped (plain (λ _. RawPtr)) yes,
       (
@@ -76,7 +70,7 @@ module _ (Z : Al) where
 
 module _ (Z : Al) {M : Type 1} {𝓤 : Ura M} (𝓛 : Logic 𝓤) (at_mem : Memory → SProp 𝓤) (run : Routine →
     Fun 𝓤) (𝓣 : Tables 𝓤 𝓛.H) (de : Triple 𝓤 (𝓣.C (gives_key Z)) (Gives Z 𝓛 at_mem run)) (kn : Triple 𝓤 (𝓣.C c_sym.name)
-    (CountGiven 𝓛 at_mem run)) where
+    (Counts 𝓛 at_mem run)) where
   open 𝓛 use {H}
 
   abbrev held : Clauses 𝓤 (ended Z)
@@ -144,11 +138,11 @@ module _ (Z : Al) {M : Type 1} {𝓤 : Ura M} (𝓛 : Logic 𝓤) (at_mem : Memo
           ),
         ) $
         sets ! (addr ! (through ! refl (fld ! refl (stop !)))) refl (tt, tt) $
-        use2 𝓛 (raw ((CountGiven 𝓛 at_mem run).pre (at_count_given 𝓛 at_mem run κ₁ q₁ c r.now.tally n)))
-        (CountGiven-goes 𝓛 at_mem run κ₁ q₁ c r.now.tally n fn) $
-        calls_at ! (fm_of 𝓤 H 𝓛.laws 𝓣) (CountGiven 𝓛 at_mem run) kn (at_count_given 𝓛 at_mem run κ₁ q₁ c r.now.tally n)
+        use2 𝓛 (raw ((Counts 𝓛 at_mem run).pre (at_counts 𝓛 at_mem run κ₁ q₁ c r.now.tally n)))
+        (Counts-goes 𝓛 at_mem run κ₁ q₁ c r.now.tally n fn) $
+        calls_at ! (fm_of 𝓤 H 𝓛.laws 𝓣) (Counts 𝓛 at_mem run) kn (at_counts 𝓛 at_mem run κ₁ q₁ c r.now.tally n)
         (and_then ! (get ! refl) (and_then ! (get ! refl) (no_more !))) (λ u.
-        use1 𝓛 (later (given (u ≡ vunit) (‵ (flft κ₁ q₁)))) (CountGiven-gives 𝓛 at_mem run κ₁ q₁ c r.now.tally n u) $ await ! tt $
+        use1 𝓛 (later (given (u ≡ vunit) (‵ (flft κ₁ q₁)))) (Counts-gives 𝓛 at_mem run κ₁ q₁ c r.now.tally n u) $ await ! tt $
         learn ! (λ eu. lands_as ! eu refl (tt, tt) $ move ! (1 ∷ []) $
         sets ! (addr ! (through ! refl (fld ! refl (stop !)))) refl (tt, tt) $
         join ! $ move ! (2 ∷ []) $ fsplit ! $ move ! (1 ∷ 2 ∷ []) $ join ! $ move ! (1 ∷ 0 ∷ []) $ join ! $
@@ -168,7 +162,6 @@ pub deallocate_spec : {M : Type 1} → stated.statement M
 unfolding tables_of
 deallocate_spec 𝓤 𝓛 𝓜 𝓡 wired Y L g d d' met _ =
     let Z : Al = record { row = Y; laws = L; g = g; d = d; drops = d' } in
-    let A = 𝓛.A in
     let 𝓣 : Tables 𝓤 𝓛.H = tables_of 𝓤 𝓛.H 𝓜 (tables 𝓤 𝓛.H 𝓜 𝓡 𝓡.env) in
     let c = F.clauses Y g d d' 𝓛 𝓜.mem 𝓡.returns in
     entered 𝓤 𝓛.H (triple_of 𝓛 (F.signature Y) (F.spec Y g d d' 𝓛 𝓜.mem 𝓡.returns)) 𝓣.C 𝓣.Λ (key.name (args Z)) (here Z)
