@@ -1,3 +1,4 @@
 pub mod InPlaceLaw
+pub mod LentPattern
 pub mod RaisedLists
 pub mod EndingLaw

@@ -1,0 +1,31 @@
+-- A workspace in which the lists of a pattern were laid, under the names by which it is lent.
+use Rattle.std.proofs.Common.{ℕ, ℤ, List, ◌≡◌, ◌<◌, ◌∙◌, ap, sym, length}
+use Rattle.amd_model.specs.Quotient.{starting_list}
+use Rattle.amd_model.specs.Input.Pattern.{graph_of, is_pair}
+use Rattle.amd_edges.specs.Visits.{AreCounts}
+use Rattle.amd_lists.specs.Layout.{list_in}
+use Rattle.amd_workspace.specs.Laying.{IsLaidOut}
+use Rattle.amd_engine.specs.InPlace.{LaysGraph}
+use Rattle.amd_engine.proofs.EndingLaw.{laid_same, lays_same, lays_pattern}
+
+-- the lists of a pattern of n rows are laid in a workspace
+pub record LaysPattern (n : ℕ) (a_p a_i : List ℤ) (iw pe : List ℤ) (len : List ℕ) (free : ℕ) : Type 0 where
+  pub size : length len ≡ n
+  pub laid : IsLaidOut (length len) iw pe len free
+  pub lays : LaysGraph (graph_of n a_p a_i) (starting_list n (is_pair n a_p a_i)) iw pe len
+
+-- and so they are in the lent one
+pub lent_pattern : (a_p a_i : List ℤ) (degrees : List ℕ) (free : ℕ) {iw pe iw1 pe1 : List ℤ} {len len1 : List ℕ} →
+    AreCounts (graph_of (length degrees) a_p a_i) ((graph_of (length degrees) a_p a_i).edge) degrees → len ≡ degrees →
+    IsLaidOut (length degrees) iw pe len free →
+    ((i : ℕ) → i < length degrees → list_in iw pe len i ≡ starting_list (length degrees) (is_pair (length degrees) a_p a_i) i) →
+    iw1 ≡ iw → pe1 ≡ pe → len1 ≡ len → LaysPattern (length degrees) a_p a_i iw1 pe1 len1 free
+lent_pattern a_p a_i degrees free {iw} {pe} {iw1} {pe1} {len} {len1} counts same laid lists b d e =
+    let n : ℕ = length degrees in
+    let size : length len1 ≡ n = ap length e ∙ ap length same in
+    record {
+      size = size;
+      laid = laid_same n (length len1) iw iw1 pe pe1 len len1 free laid (sym size) (sym b) (sym d) (sym e);
+      lays = lays_same (graph_of n a_p a_i) (starting_list n (is_pair n a_p a_i)) iw iw1 pe pe1 len len1
+          (lays_pattern n a_p a_i degrees len iw pe counts same lists) (sym b) (sym d) (sym e);
+    }
