@@ -71,6 +71,28 @@ module _ (o : Order) (laws : IsGraph o.graph) (i : ℕ) (n : i < length o.rows) 
     over-i : Over o.graph o.rows k i
     over-i = entry-over o.graph o.rows laws k i entry
 
+    -- the link of k leads to row i now, and the others are as they were
+    at-k : slice_index (set ancestor k i) k ≡ i
+    at-k = get_or-set_same ancestor k i 0 (let r = c.room in let l = low in omega (arith, r, l, n))
+
+    else-where : (m : ℕ) → m ≢ k → slice_index (set ancestor k i) m ≡ slice_index ancestor m
+    else-where m other = get_or-set_other ancestor k m i 0 other
+
+    -- each of them leads to a place over its own
+    linked : (m : ℕ) → m < i → (slice_index (set ancestor k i) m ≡ m) ⊎ ((m < slice_index (set ancestor k i) m) ×
+        (slice_index (set ancestor k i) m ≤ i) × Over o.graph o.rows m (slice_index (set ancestor k i) m))
+    linked m l = elim (cases_eq m k) [
+      | inl e ↦ inr (subst (λ v. (v < slice_index (set ancestor k i) v) × (slice_index (set ancestor k i) v ≤ i) ×
+          Over o.graph o.rows v (slice_index (set ancestor k i) v)) (sym e)
+          (subst (λ v. (k < v) × (v ≤ i) × Over o.graph o.rows k v) (sym at-k) (low, omega arith, over-i)))
+      | inr other ↦ subst (λ v. (v ≡ m) ⊎ ((m < v) × (v ≤ i) × Over o.graph o.rows m v)) (sym (else-where m other)) (c.links m l)
+    ]
+
+    -- one that leads to its own place is not that of k
+    not-linked : (m : ℕ) → slice_index (set ancestor k i) m ≡ m → m ≢ k
+    not-linked m e = λ same. (let f = at-k in let g = subst (λ v. slice_index (set ancestor k i) v ≡ v) same e in let h = low in
+        omega (arith, f, g, h))
+
     -- the link leads on
     module _ (on : a ≢ k) where
       pub link : (k < a) × (a ≤ i) × Over o.graph o.rows k a
@@ -96,17 +118,8 @@ module _ (o : Order) (laws : IsGraph o.graph) (i : ℕ) (n : i < length o.rows) 
         fresh = c.fresh;
         within = link.1;
         pending = λ no-end. (let s = c.pending ne in (s.0, s.1, s.2, over-trans o.graph o.rows s.3 link.2));
-        links = λ m l. elim (cases_eq m k) [
-          | inl e ↦ inr (subst (λ v. (v < slice_index (set ancestor k i) v) × (slice_index (set ancestor k i) v ≤ i) ×
-              Over o.graph o.rows v (slice_index (set ancestor k i) v)) (sym e)
-              (subst (λ v. (k < v) × (v ≤ i) × Over o.graph o.rows k v) (sym at-k) (low, omega arith, over-i)))
-          | inr other ↦ subst (λ v. (v ≡ m) ⊎ ((m < v) × (v ≤ i) × Over o.graph o.rows m v)) (sym (else-where m other)) (c.links m l)
-        ];
-        roots = λ m l e. elim (cases_eq m k) [
-          | inl same ↦ absurd (let f = at-k in let g = subst (λ v. slice_index (set ancestor k i) v ≡ v) same e in let h = low in
-              omega (arith, f, g, h))
-          | inr other ↦ c.roots m l (sym (else-where m other) ∙ e)
-        ];
+        links = linked;
+        roots = λ m l e. c.roots m l (sym (else-where m (not-linked m e)) ∙ e);
         marked = λ m l e r lr h. elim (cases_eq m k) [
           | inl same ↦ elim (step r lr (subst (λ v. Over o.graph o.rows v r) same h)) [
             | inl t ↦ inl t
@@ -118,12 +131,6 @@ module _ (o : Order) (laws : IsGraph o.graph) (i : ℕ) (n : i < length o.rows) 
           ]
         ];
       }
-        where
-          at-k : slice_index (set ancestor k i) k ≡ i
-          at-k = get_or-set_same ancestor k i 0 (let r = c.room in let l = low in omega (arith, r, l, n))
-
-          else-where : (m : ℕ) → m ≢ k → slice_index (set ancestor k i) m ≡ slice_index ancestor m
-          else-where m other = get_or-set_other ancestor k m i 0 other
 
       -- what waits for the climb waits on
       pub still : (r : ℕ) → r < i → (slice_index_or parent r None ≢ None) ⊎ Over o.graph o.rows k r →
@@ -173,12 +180,6 @@ module _ (o : Order) (laws : IsGraph o.graph) (i : ℕ) (n : i < length o.rows) 
           (slice_index_or parent' r None ≢ None) ⊎ Over o.graph o.rows i r
       ends r l h = inl (elim h [ inl t ↦ more r t | inr w ↦ done-at r l w ])
 
-      at-k : slice_index (set ancestor k i) k ≡ i
-      at-k = get_or-set_same ancestor k i 0 (let r = c.room in let l = low in omega (arith, r, l, n))
-
-      else-where : (m : ℕ) → m ≢ k → slice_index (set ancestor k i) m ≡ slice_index ancestor m
-      else-where m other = get_or-set_other ancestor k m i 0 other
-
       pub ended : Climbing o i i (slice_set parent k (Some i)) (set ancestor k i)
       ended = record {
         tells = record {
@@ -194,17 +195,8 @@ module _ (o : Order) (laws : IsGraph o.graph) (i : ℕ) (n : i < length o.rows) 
         fresh = λ m l. parent-other m (λ e. let h = low in omega (arith, h, e, l)) ∙ c.fresh m l;
         within = omega arith;
         pending = λ no-end. absurd (no-end refl);
-        links = λ m l. elim (cases_eq m k) [
-          | inl e ↦ inr (subst (λ v. (v < slice_index (set ancestor k i) v) × (slice_index (set ancestor k i) v ≤ i) ×
-              Over o.graph o.rows v (slice_index (set ancestor k i) v)) (sym e)
-              (subst (λ v. (k < v) × (v ≤ i) × Over o.graph o.rows k v) (sym at-k) (low, omega arith, over-i)))
-          | inr other ↦ subst (λ v. (v ≡ m) ⊎ ((m < v) × (v ≤ i) × Over o.graph o.rows m v)) (sym (else-where m other)) (c.links m l)
-        ];
-        roots = λ m l e. elim (cases_eq m k) [
-          | inl same ↦ absurd (let f = at-k in let g = subst (λ v. slice_index (set ancestor k i) v ≡ v) same e in let h = low in
-              omega (arith, f, g, h))
-          | inr other ↦ parent-other m other ∙ c.roots m l (sym (else-where m other) ∙ e)
-        ];
+        links = linked;
+        roots = λ m l e. parent-other m (not-linked m e) ∙ c.roots m l (sym (else-where m (not-linked m e)) ∙ e);
         marked = λ m l e r lr h. inl (elim (cases_eq m k) [
           | inl same ↦ done-at r lr (subst (λ v. Over o.graph o.rows v r) same h)
           | inr other ↦ elim (c.marked m l (sym (else-where m other) ∙ e) r lr h) [ inl t ↦ more r t | inr w ↦ done-at r lr w.1 ]

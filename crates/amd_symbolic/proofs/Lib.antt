@@ -12,6 +12,7 @@ pub mod Entries
 pub mod Steps
 pub mod ListStarts
 pub mod Filling
+pub mod SummedCounts
 pub mod NeighbourLists
 pub mod LaterArcs
 -- The columns: children, new rows, merging, and columns that stand one behind the other.

@@ -14,16 +14,6 @@ returns-in_err-places-clause-fault g c =
     (map g.I.Index.value c.args.p.now) c.args.room) memory
     (λ _. c.requires.1.1.0)
 
-pub returns-in_default-clause-fault : goal.returns-in_default-clause-fault
-returns-in_default-clause-fault g c = ((λ _. c.requires.1.1.0), rw c.in_default.is at c.in_ok-places.ensures.none)
-
-pub later_lists-requires-clause-form : goal.later_lists-requires-clause-form
-later_lists-requires-clause-form g c = c.requires.1.1.0
-
-pub later_lists-requires-clause-places : goal.later_lists-requires-clause-places
-later_lists-requires-clause-places g c =
-    (counts (map g.I.Index.value c.args.p.now), rw c.deref.ensures.value (rw c.in-Some.is at c.in_ok-places.ensures.places))
-
 pub returns-in_err-lists-clause-fault : goal.returns-in_err-lists-clause-fault
 returns-in_err-lists-clause-fault g c =
     let memory : IfErr c.from_residual-in_err-lists.result (λ e. e ≡ OutOfMemory) = search rules in
