@@ -61,6 +61,7 @@ pub mod NoSupernodes
 -- Their sizes, the columns that they stand for, and their laws.
 pub mod SupernodeRoom
 pub mod CutSizes
+pub mod PartitionEnds
 pub mod Appending
 pub mod SupernodeFigures
 pub mod BlocksInside
