@@ -2,20 +2,25 @@
 -- have no clause, so that one contract serves both. Assumes `Logic`.
 use Rattle.std.proofs.Common.{◌≡◌, ℕ, ◌<◌, ◌^◌, List, [], ◌∷◌, refl, ap, w64}
 use seplogic.Ra.Ura.{Ura}
+use mir.Syntax.{Callee, Place, Opd as Operand, Body, seq, call}
 use mir.Val.{Val, vunit, vint, vptr}
 use base.Logic.{SProp, ent, sep, guard, id⊢}
 use base.Fml.{Lft, Share, ftrue, fsep, flft}
 use prog.Memory.{Memory}
 use prog.Routine.{Routine}
+use prog.Wp.{Env, Calls, Loops}
 use types.Logic.{Logic, sem}
 use contract.Monad.{Fun}
-use types.Kit.{‵, ◌⊛◌, some, later, ◌$◌, ◌∵◌, !, qed, move, keep, use1, split, join, pick, fjoin, feq_i, feq_l, flt_i, check, await}
-use types.Kit.{updating, now as at_once, done}
+use sound.WpLaws.{FmC}
+use types.Kit.{Item, Post, Seq, ‵, raw, ◌⊛◌, some, later, given, ◌$◌, ◌∵◌, !, qed, move, keep, use1, split, join, pick, learn}
+use types.Kit.{runs, lands, fjoin, feq_i, feq_l, flt_i, check, await, updating, now as at_once, done}
+use types.Run.{Opds}
 use denote.RattleType.{RattleType}
 use denote.Memory.{hidden_shr}
 use denote.Builtin.{unit}
 use denote.Steps.{nothing, only}
-use denote.Triple.Statement.{Contract}
+use denote.Triple.Call.{calls_at}
+use denote.Triple.Statement.{Contract, Triple}
 use denote.Triple.Spec.{triple_of}
 use Rattle.amd_bench.specs.contracts.counting.Tally as tally
 use Rattle.amd_bench.specs.contracts.counting.count_taken as count_taken
@@ -62,8 +67,21 @@ module _ {M : Type 1} {𝓤 : Ura M} (𝓛 : Logic 𝓤) (at_mem : Memory → SP
   pub Counts-gives : (v : Val) → ent 𝓤 ((Counts 𝓛 at_mem run).post (at_counts 𝓛 at_mem run κ q c t n) v)
       (H.⇛ (guard 𝓤 (v ≡ vunit) (A.lft κ q)))
   Counts-gives v =
-      qed 𝓛 (types.Kit.raw ((Counts 𝓛 at_mem run).post (at_counts 𝓛 at_mem run κ q c t n) v) ∷ []) ∵ updating ! $
+      qed 𝓛 (raw ((Counts 𝓛 at_mem run).post (at_counts 𝓛 at_mem run κ q c t n) v) ∷ []) ∵ updating ! $
       use1 𝓛 (later (some (λ (r : Unit {0}). ((‵ (flft κ q) ⊛ ‵ ftrue) ⊛ ‵ (unit.own_val r (v ∷ []))) ⊛ some
       (λ (ws : Unit {0} × (Unit {0} × Unit {0})). ‵ (fsep ftrue (fsep ftrue ftrue)) ⊛ ‵ ftrue)))) (id⊢ 𝓤 _) $
       await ! tt $ pick ! (λ r. split ! $ split ! $ move ! (1 ∷ []) $ feq_l ! (λ e. split ! $ at_once ! $ check ! (ap only e) $
       keep ! (0 ∷ []) $ done !))
+
+-- the step of a walk: from what the call needs to the lifetime, once it has returned
+pub counted : {M : Type 1} {𝓤 : Ura M} (𝓛 : Logic 𝓤) (at_mem : Memory → SProp 𝓤) (run : Routine → Fun 𝓤) {K : Type 0}
+    {Γ : List (Item 𝓤)} {E : Env 𝓤 𝓛.H} {C : Calls 𝓤 𝓛.H} {f : Callee} {xs : List Operand} {Λ : Loops 𝓤 𝓛.H} {Q : Post 𝓤 𝓛.H}
+    {d : Place} {rest : Body} → K → FmC 𝓤 𝓛.H 𝓛.laws C → Triple 𝓤 (C f) (Counts 𝓛 at_mem run) → (κ : Lft) (q : Share) (c : ℕ × ℕ)
+    (t : Counters.Denot) (n : ℕ) →
+    Opds K 𝓛 (raw ((Counts 𝓛 at_mem run).pre (at_counts 𝓛 at_mem run κ q c t n)) ∷ Γ) E xs
+    ((Counts 𝓛 at_mem run).args (at_counts 𝓛 at_mem run κ q c t n)) →
+    ((r : Val) → r ≡ vunit → Seq K 𝓛 (‵ (flft κ q) ∷ Γ) (lands C Λ E d r rest Q)) →
+    Seq K 𝓛 (raw ((Counts 𝓛 at_mem run).pre (at_counts 𝓛 at_mem run κ q c t n)) ∷ Γ) (runs C Λ E (seq (call f xs d) rest) Q)
+counted 𝓛 at_mem run k fm met κ q c t n os next =
+    calls_at k fm (Counts 𝓛 at_mem run) met (at_counts 𝓛 at_mem run κ q c t n) os (λ r.
+    use1 𝓛 (later (given (r ≡ vunit) (‵ (flft κ q)))) (Counts-gives 𝓛 at_mem run κ q c t n r) $ await k tt $ learn k (next r))

@@ -1,9 +1,9 @@
 -- What was written to the front of each array are the numbers of the supernodes; where there was no place, they are more.
-use Rattle.std.proofs.Common.{◌≡◌, ◌<◌, ◌+◌, ◌-◌, ◌⊎◌, ◌++◌, drop, take, inl, inr, map, pos, length, refl, sym, ◌∙◌, ap, subst, arith, rules}
+use Rattle.std.proofs.Common.{◌≡◌, ◌<◌, ◌+◌, ◌⊎◌, ◌++◌, drop, take, inl, inr, map, pos, length, refl, sym, ◌∙◌, ap, subst, arith, rules}
 use Rattle.std.specs.Prelude.{slice_index}
-use Rattle.std.proofs.lemmas.List.{get_or_read, length-map}
+use Rattle.std.proofs.lemmas.List.{length-map}
 use Rattle.amd_types.specs.Counts.{counts}
-use Rattle.amd_symbolic.specs.Partitions.{IsPartitionOf}
+use Rattle.amd_symbolic.proofs.PartitionEnds.{partition_of, rows_end}
 use Rattle.amd_symbolic.proofs.TypedRows.{count-length}
 use Rattle.amd_c.specs.Columns.{parent_number}
 use Rattle.amd_c.specs.Supernodal.{HasBlockPlaces, blocks}
@@ -16,21 +16,14 @@ use Rattle.amd_c.proofs.supernodal.matrix_supernodes_into.Goals.{then-len-parent
 
 pub write_rows-cut-requires : goal.write_rows-cut-requires
 write_rows-cut-requires g c κs within =
-    let cut = c.in_ok-found.found.cut in
-    let p = subst (λ x. IsPartitionOf x cut.first.items cut.owner.items cut.ptr.items cut.parent.items
-    c.in_ok-found.found.lists.starts.items c.in_ok-found.found.lists.neighbours.items) (sym c.requires.1.1.1)
-    c.in_ok-found.ensures.partition in
-    let pointers = p.cut.partition.pointers in let parents = p.cut.partition.parents in
-    let many : c.len.result ≡ length cut.parent.items = omega arith in
-    let read : c.index-below.result.now ≡ slice_index cut.ptr.items c.len.result =
-    get_or_read cut.ptr.items c.len.result c.index-below.result.now (omega (arith, pointers, parents, many)) c.index-below.ensures 0 in
-    let last : c.len.result ≡ length cut.first.items - 1 = omega (arith, parents, many) in
+    let p = partition_of c.requires.1.1.1 c.in_ok-found.ensures.partition in
+    let ends = rows_end p c.len.result c.index-below.result.now (omega arith) c.index-below.ensures in
     let fits : g.I.Number.fits g.m.size = subst (λ x. g.I.Number.fits x.size) (sym c.requires.1.1.1) c.requires.1.1.0 in
     let long : length (take c.index-below.result.now c.args.rows.now) ≡ c.index-below.result.now = search rules in (
       within,
       (
         (λ a h. absurd (not-mem-nil h)),
-        (p, (c.in_ok-found.ensures.next, (c.in_ok-found.ensures.mark, ((long ∙ read ∙ ap (slice_index cut.ptr.items) last), fits)))),
+        (p, (c.in_ok-found.ensures.next, (c.in_ok-found.ensures.mark, (long ∙ ends.0, fits)))),
       ),
     )
 
@@ -38,20 +31,15 @@ pub returns-then-len-parent : goal.returns-then-len-parent
 returns-then-len-parent g c =
     let value = g.I.Number.value in
     let cut = c.in_ok-found.found.cut in
-    let p = subst (λ x. IsPartitionOf x cut.first.items cut.owner.items cut.ptr.items cut.parent.items
-    c.in_ok-found.found.lists.starts.items c.in_ok-found.found.lists.neighbours.items) (sym c.requires.1.1.1)
-    c.in_ok-found.ensures.partition in
-    let pointers = p.cut.partition.pointers in let parents = p.cut.partition.parents in
-    let many : c.len.result ≡ length cut.parent.items = omega arith in
-    let read : c.index-below.result.now ≡ slice_index cut.ptr.items c.len.result =
-    get_or_read cut.ptr.items c.len.result c.index-below.result.now (omega (arith, pointers, parents, many)) c.index-below.ensures 0 in
-    let last = ap (slice_index cut.ptr.items) many in
+    let p = partition_of c.requires.1.1.1 c.in_ok-found.ensures.partition in
+    let ends = rows_end p c.len.result c.index-below.result.now (omega arith) c.index-below.ensures in
     let places : HasBlockPlaces (map value c.args.first.now) (map value c.args.ptr.now) (map value c.args.parent.now) = search rules in
     let wide = length-map c.args.parent.now value in let long = length-map c.args.rows.now value in
     let more : (length (map value c.args.parent.now) < length cut.parent.items) ⊎ (length (map value c.args.rows.now) < slice_index
     cut.ptr.items (length cut.parent.items)) = elim c.then-len-parent.branch [
       | then-len-parent-via-then-len-parent w ↦ inl (let t = w.if-len-parent.true in omega (arith, t, wide))
-      | then-len-parent-via-else-len-parent+then-below-rows w ↦ inr (let t = w.if-below-rows.true in omega (arith, t, long, read, last))
+      | then-len-parent-via-else-len-parent+then-below-rows w ↦ inr (let t = w.if-below-rows.true in let end = ends.1 in
+          omega (arith, t, long, end))
     ] in (
       (
         (λ has. passes g.m cut.first.items cut.owner.items cut.ptr.items cut.parent.items c.in_ok-found.found.lists.starts.items

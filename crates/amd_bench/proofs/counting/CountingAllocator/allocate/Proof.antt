@@ -2,7 +2,7 @@
 use Rattle.std.proofs.Common.{◌≡◌, ℕ, ◌+◌, ◌^◌, ◌<◌, true, false, List, [], ◌∷◌, Ok, Err, refl, w64, Bor}
 use seplogic.Ra.Ura.{Ura}
 use mir.Syntax.{Ty, Fn}
-use mir.Val.{Val, vunit, vint, vptr}
+use mir.Val.{Val, vint, vptr}
 use mir.MapTy.{inst_fn}
 use base.Logic.{SProp, ent, id⊢}
 use base.Fml.{Lft, Share, ftrue, flft}
@@ -27,7 +27,7 @@ use denote.Triple.Spec.{triple_of}
 use denote.Triple.Statement.{Triple}
 use denote.Triple.Table.{entered, cited}
 use denote.Triple.Walked.{Stays, stay_dropped, walk_of, ends_at, walked, Goes-dropped, walk_Meets}
-use types.Kit.{‵, raw, ◌⊛◌, later, given, learn, ◌$◌, ◌∵◌, !, qed, move, keep, use0, use1, use2, split, join, fsplit, fjoin}
+use types.Kit.{‵, raw, ◌⊛◌, later, ◌$◌, ◌∵◌, !, qed, move, keep, use0, use1, use2, split, join, fsplit, fjoin}
 use types.Kit.{suffices, await, done}
 use types.ByLocal.{alloc_all, pass_all, free_all, look_at, get, through, sets, lands_as}
 use denote.RawPtr.{block_ptr}
@@ -35,7 +35,7 @@ use denote.Builtin.{usize}
 use denote.Triple.Call.{calls_at}
 use Rattle.std.proofs.alloc.Calls.{Al, α, seen, Answer, answer_val, Answer-typed, Answer-Ok, Answer-err, takes_key, Takes, at_takes}
 use Rattle.std.proofs.alloc.Calls.{Answered, Takes-goes, Takes-gives, answers}
-use Rattle.amd_bench.proofs.Tallies.{Counts, at_counts, Counts-goes, Counts-gives}
+use Rattle.amd_bench.proofs.Tallies.{Counts, at_counts, Counts-goes, counted}
 use Rattle.amd_bench.proofs.counting.count_taken.Symbol as c_sym
 use Rattle.amd_bench.proofs.counting.count_taken.Met as c_met
 use Rattle.amd_bench.proofs.Wrapped.{args, self}
@@ -92,11 +92,8 @@ module _ (Z : Al) {M : Type 1} {𝓤 : Ura M} (𝓛 : Logic 𝓤) (at_mem : Memo
         ) $
         sets ! (addr ! (through ! refl (fld ! refl (stop !)))) refl (tt, tt) $
         use2 𝓛 (raw ((Counts 𝓛 at_mem run).pre (at_counts 𝓛 at_mem run κ₁ q₁ c r.now.tally n)))
-        (Counts-goes 𝓛 at_mem run κ₁ q₁ c r.now.tally n fn) $
-        calls_at ! (fm_of 𝓤 H 𝓛.laws 𝓣) (Counts 𝓛 at_mem run) kn (at_counts 𝓛 at_mem run κ₁ q₁ c r.now.tally n)
-        (and_then ! (get ! refl) (and_then ! (get ! refl) (no_more !))) (λ u.
-        use1 𝓛 (later (given (u ≡ vunit) (‵ (flft κ₁ q₁)))) (Counts-gives 𝓛 at_mem run κ₁ q₁ c r.now.tally n u) $ await ! tt $
-        learn ! (λ eu. lands_as ! eu refl (tt, tt) $ move ! (1 ∷ []) $
+        (Counts-goes 𝓛 at_mem run κ₁ q₁ c r.now.tally n fn) $ counted 𝓛 at_mem run ! (fm_of 𝓤 H 𝓛.laws 𝓣) kn κ₁ q₁ c r.now.tally n
+        (and_then ! (get ! refl) (and_then ! (get ! refl) (no_more !))) (λ u eu. lands_as ! eu refl (tt, tt) $ move ! (1 ∷ []) $
         sets ! (addr ! (through ! refl (fld ! refl (stop !)))) refl (tt, tt) $
         use2 𝓛 (raw ((Takes Z 𝓛 at_mem run).pre y)) (Takes-goes Z 𝓛 at_mem run κ₁ q₁ p h
         (⊑_trans κ₁ κ₂ Z.row.lives inn le) n a τ said.0 said.1 fn fa) $
@@ -123,7 +120,7 @@ module _ (Z : Al) {M : Type 1} {𝓤 : Ura M} (𝓛 : Logic 𝓤) (at_mem : Memo
         )) $
         use0 𝓛 (‵ (Answer.own_val (Err (record {})) (answer_val false 0 0 ∷ []))) (Answer-err 𝓛) $ nothing ! $ nothing ! $ fjoin ! $
         nothing ! $ fjoin ! $ nothing ! $ fjoin ! $ join ! $
-        move ! (2 ∷ 3 ∷ []) $ join ! $ join ! $ done !)))))))
+        move ! (2 ∷ 3 ∷ []) $ join ! $ join ! $ done !))))))
 
 pub allocate_spec : {M : Type 1} → stated.statement M
 unfolding tables_of

@@ -38,7 +38,7 @@ use denote.RawPtr.{Ptr, block_ptr, null_ptr, ptr_val, rawptr_vals, rawptr_Tells}
 use denote.Builtin.{usize, RawPtr}
 use denote.Triple.Call.{calls_at}
 use Rattle.std.proofs.alloc.Calls.{Al, α, seen, token, gives_key, Gives, at_gives, Gives-goes, Gives-Gives}
-use Rattle.amd_bench.proofs.Tallies.{Counts, at_counts, Counts-goes, Counts-gives}
+use Rattle.amd_bench.proofs.Tallies.{Counts, at_counts, Counts-goes, counted}
 use Rattle.amd_bench.proofs.counting.count_given.Symbol as c_sym
 use Rattle.amd_bench.proofs.counting.count_given.Met as c_met
 use Rattle.amd_bench.proofs.Wrapped.{args, self}
@@ -139,11 +139,8 @@ module _ (Z : Al) {M : Type 1} {𝓤 : Ura M} (𝓛 : Logic 𝓤) (at_mem : Memo
         ) $
         sets ! (addr ! (through ! refl (fld ! refl (stop !)))) refl (tt, tt) $
         use2 𝓛 (raw ((Counts 𝓛 at_mem run).pre (at_counts 𝓛 at_mem run κ₁ q₁ c r.now.tally n)))
-        (Counts-goes 𝓛 at_mem run κ₁ q₁ c r.now.tally n fn) $
-        calls_at ! (fm_of 𝓤 H 𝓛.laws 𝓣) (Counts 𝓛 at_mem run) kn (at_counts 𝓛 at_mem run κ₁ q₁ c r.now.tally n)
-        (and_then ! (get ! refl) (and_then ! (get ! refl) (no_more !))) (λ u.
-        use1 𝓛 (later (given (u ≡ vunit) (‵ (flft κ₁ q₁)))) (Counts-gives 𝓛 at_mem run κ₁ q₁ c r.now.tally n u) $ await ! tt $
-        learn ! (λ eu. lands_as ! eu refl (tt, tt) $ move ! (1 ∷ []) $
+        (Counts-goes 𝓛 at_mem run κ₁ q₁ c r.now.tally n fn) $ counted 𝓛 at_mem run ! (fm_of 𝓤 H 𝓛.laws 𝓣) kn κ₁ q₁ c r.now.tally n
+        (and_then ! (get ! refl) (and_then ! (get ! refl) (no_more !))) (λ u eu. lands_as ! eu refl (tt, tt) $ move ! (1 ∷ []) $
         sets ! (addr ! (through ! refl (fld ! refl (stop !)))) refl (tt, tt) $
         join ! $ move ! (2 ∷ []) $ fsplit ! $ move ! (1 ∷ 2 ∷ []) $ join ! $ move ! (1 ∷ 0 ∷ []) $ join ! $
         use1 𝓛 (raw ((Gives Z 𝓛 at_mem run).pre y)) (Gives-goes Z 𝓛 at_mem run κ₁ q₁ p h
@@ -156,7 +153,7 @@ module _ (Z : Al) {M : Type 1} {𝓤 : Ura M} (𝓛 : Logic 𝓤) (at_mem : Memo
         suffices ! _ (ends_at 𝓛 (ended Z) (stayed Z) held (bound x) vunit tt (tt, (tt, (tt, (tt, tt)))) (tt, (tt, (tt, (tt, tt))))) $
         nothing ! $ feq_i ! (List Val) (vunit ∷ []) (vunit ∷ []) refl $ nothing ! $ nothing ! $ fjoin ! $ nothing ! $ fjoin ! $
         nothing ! $ fjoin ! $ nothing ! $ fjoin ! $ join ! $
-        move ! (2 ∷ 3 ∷ []) $ join ! $ join ! $ done !)))))))
+        move ! (2 ∷ 3 ∷ []) $ join ! $ join ! $ done !))))))
 
 pub deallocate_spec : {M : Type 1} → stated.statement M
 unfolding tables_of
