@@ -83,13 +83,8 @@ module _ (Z : Al) {M : Type 1} {𝓤 : Ura M} (𝓛 : Logic 𝓤) (at_mem : Memo
         move ! (1 ∷ []) $ split ! $ heard ! (κ₂ ⊑ Z.row.lives) (λ le. heard ! Said (λ said.
         split ! $ split ! $ move ! (2 ∷ []) $ fsplit ! $ fsplit ! $ move ! (1 ∷ []) $ unhide ! $ fsplit ! $ fsplit ! $
         use1 𝓛 (‵ (seen Z κ₁ p h)) (id⊢ 𝓤 _) $ move ! (1 ∷ []) $ fsplit ! $ keep ! (0 ∷ 6 ∷ 2 ∷ 7 ∷ []) $
-        enter ! 𝓣.C 𝓣.Λ (here Z) vs _ $ alloc_all ! (λ l. pass_all ! refl (
-          (tt, tt),
-          (
-            (tt, record { fits = fn }),
-            ((tt, record { fits = fa }), tt),
-          ),
-        ) $
+        enter ! 𝓣.C 𝓣.Λ (here Z) vs _ $ alloc_all ! (λ l.
+        pass_all ! refl ((tt, tt), ((tt, record { fits = fn }), ((tt, record { fits = fa }), tt))) $
         sets ! (addr ! (through ! refl (fld ! refl (stop !)))) refl (tt, tt) $
         use2 𝓛 (raw ((Counts 𝓛 at_mem run).pre (at_counts 𝓛 at_mem run κ₁ q₁ c r.now.tally n)))
         (Counts-goes 𝓛 at_mem run κ₁ q₁ c r.now.tally n fn) $ counted 𝓛 at_mem run ! (fm_of 𝓤 H 𝓛.laws 𝓣) kn κ₁ q₁ c r.now.tally n
