@@ -3,16 +3,6 @@
 #![tactic(auto)]
 
 #[cfg(test)]
-mod answers;
-#[cfg(test)]
 mod checks;
 #[cfg(test)]
-mod choices;
-#[cfg(test)]
-mod desk;
-#[cfg(test)]
-mod outputs;
-#[cfg(test)]
-mod pictures;
-#[cfg(test)]
-mod runs;
+mod tests;

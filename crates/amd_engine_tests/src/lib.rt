@@ -6,38 +6,6 @@
 #![tactic(auto)]
 
 #[cfg(test)]
-mod case_lines;
-#[cfg(test)]
-mod cases;
-#[cfg(test)]
 mod checks;
 #[cfg(test)]
-mod engine;
-#[cfg(test)]
-mod families;
-#[cfg(test)]
-mod fronts;
-#[cfg(test)]
-mod helpers;
-#[cfg(test)]
-mod in_place;
-#[cfg(test)]
-mod in_place_matrices;
-#[cfg(test)]
-mod in_place_memory;
-#[cfg(test)]
-mod in_place_rows;
-#[cfg(test)]
-mod laid;
-#[cfg(test)]
-mod lists;
-#[cfg(test)]
-mod own_lists;
-#[cfg(test)]
-mod readings;
-#[cfg(test)]
-mod row_sides;
-#[cfg(test)]
-mod sorted;
-#[cfg(test)]
-mod trees;
+mod tests;

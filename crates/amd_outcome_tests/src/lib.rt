@@ -9,32 +9,4 @@
 #[cfg(test)]
 mod checks;
 #[cfg(test)]
-mod comparison;
-#[cfg(test)]
-mod counts;
-#[cfg(test)]
-mod demo_texts;
-#[cfg(test)]
-mod demos;
-#[cfg(test)]
-mod earlier;
-#[cfg(test)]
-mod expansion;
-#[cfg(test)]
-mod jumbled_texts;
-#[cfg(test)]
-mod lengths;
-#[cfg(test)]
-mod memory;
-#[cfg(test)]
-mod numbers;
-#[cfg(test)]
-mod orders;
-#[cfg(test)]
-mod refusals;
-#[cfg(test)]
-mod supernodes;
-#[cfg(test)]
-mod texts;
-#[cfg(test)]
-mod worked;
+mod tests;

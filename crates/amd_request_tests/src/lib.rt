@@ -5,6 +5,4 @@
 #[cfg(test)]
 mod checks;
 #[cfg(test)]
-mod files;
-#[cfg(test)]
-mod words;
+mod tests;

@@ -5,28 +5,6 @@
 #![tactic(auto)]
 
 #[cfg(test)]
-mod can_24;
-#[cfg(test)]
 mod checks;
 #[cfg(test)]
-mod comparison;
-#[cfg(test)]
-mod factors;
-#[cfg(test)]
-mod holding;
-#[cfg(test)]
-mod input;
-#[cfg(test)]
-mod memory;
-#[cfg(test)]
-mod numbers;
-#[cfg(test)]
-mod patterns;
-#[cfg(test)]
-mod small_matrices;
-#[cfg(test)]
-mod statuses;
-#[cfg(test)]
-mod wide_numbers;
-#[cfg(test)]
-mod worked;
+mod tests;

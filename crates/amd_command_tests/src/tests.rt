@@ -1,0 +1,8 @@
+// The tests, a module for each part. Called by: the gate.
+
+mod answers;
+mod choices;
+mod desk;
+mod outputs;
+mod pictures;
+mod runs;

@@ -1,0 +1,192 @@
+// What is written beside the permutation and the figures: what the factor needs under several orders, the permuted
+// matrix, the elimination tree and its supernodes, both pictures whole, and the answers as JSON, read with the kit's
+// reader. The matrix is the path of three rows, the orders and what they need were worked by hand.
+
+use crate::tests::outputs::PATH;
+use amd_command::needs::{need_under, standing_order, told};
+use amd_command::ordering::order_matrix;
+use amd_command::permuted::permuted;
+use amd_command::picture::write_picture;
+use amd_market::reader::{Matrix, read_matrix};
+use amd_report::compare::{Comparison, write_comparison_lines};
+use amd_report::facts::facts_of;
+use amd_report::json::{write_facts_json, write_order_json};
+use amd_report::pattern::write_matrix;
+use amd_report::tree::{write_supernodes, write_tree};
+use amd_report::tree_picture::write_tree_picture;
+use amd_request::listed::read_rows;
+use amd_symbolic::{Fault, counts, supernodes};
+use amd_testing::check;
+use serde_json::Value;
+use std::alloc::Global;
+use std::process::Abort;
+use std::test::Fail;
+
+/// The order of the rows of the path.
+const ORDER: [usize; 3] = [1, 0, 2];
+
+/// What the factor needs under three orders; the last one begins with the row in the middle of the path.
+const NEEDS: &str =
+    "    entries of L below the diagonal                     2 as it stands, 2 ordered, 3 by --with
+    fill                                                0 as it stands, 0 ordered, 1 by --with
+    multiply-subtracts for LDL'                         2 as it stands, 2 ordered, 4 by --with
+    multiply-subtracts for LU                           2 as it stands, 2 ordered, 5 by --with
+    largest column, with its diagonal                   2 as it stands, 2 ordered, 3 by --with
+";
+
+/// The path in its order.
+const PERMUTED: &str =
+    "%%MatrixMarket matrix coordinate pattern general\n3 3 5\n3 1\n2 2\n3 2\n1 3\n2 3\n";
+
+/// The path drawn.
+const PICTURE: &str = "<svg xmlns=\"http://www.w3.org/2000/svg\" width=\"860\" height=\"472\"
+ viewBox=\"0 0 860 472\" font-family=\"sans-serif\" font-size=\"14\">
+<rect width=\"860\" height=\"472\" fill=\"#ffffff\"/>
+<text x=\"20\" y=\"24\">before</text>
+<svg x=\"20\" y=\"36\" width=\"400\" height=\"400\" viewBox=\"0 0 3 3\" shape-rendering=\"crispEdges\">
+<rect width=\"3\" height=\"3\" fill=\"#f4f4f2\"/>
+<path fill=\"#1f4e79\" fill-opacity=\"100%\" d=\"M0 0h1v1h-1zM2 0h1v1h-1zM2 1h1v1h-1zM0 2h2v1h-2z\"/>
+</svg>
+<text x=\"440\" y=\"24\">after</text>
+<svg x=\"440\" y=\"36\" width=\"400\" height=\"400\" viewBox=\"0 0 3 3\" shape-rendering=\"crispEdges\">
+<rect width=\"3\" height=\"3\" fill=\"#f4f4f2\"/>
+<path fill=\"#1f4e79\" fill-opacity=\"100%\" d=\"M2 0h1v1h-1zM1 1h2v1h-2zM0 2h2v1h-2z\"/>
+</svg>
+<text x=\"20\" y=\"460\">3 rows, 2 edges</text>
+<rect x=\"440\" y=\"449\" width=\"12\" height=\"12\" fill=\"#e07b39\"/>
+<text x=\"458\" y=\"460\">fill: 0 entries of L</text>
+</svg>
+";
+
+/// The path.
+fn path(alloc: Global) -> Result<Matrix<Global>, Fail> {
+    Ok(read_matrix(alloc, PATH.as_bytes())?)
+}
+
+/// The first column of the path in its order is a supernode with the row 3, and the other two are its parent.
+#[test]
+fn supernodes_of_the_path(rt: HostRuntime) -> Result<(), Fail> {
+    let alloc = rt.alloc();
+    let matrix = path(alloc)?;
+    let Ok(made) = supernodes(alloc, 3, &matrix.a_p, &matrix.a_i, &ORDER) else {
+        panic!(&rt; "no supernodes");
+    };
+    let mut lines = Vec::new(alloc);
+    check!(&rt; write_supernodes(&made.first, &made.ptr, &made.parent, &mut lines).is_ok());
+    check!(&rt; lines.as_slice() == b"1 1 2 1\n2 3 0 0\n".as_slice());
+    Ok(())
+}
+
+/// What the factor of the path needs under three orders.
+fn three_needs(alloc: Global, matrix: &Matrix<Global>) -> Result<Comparison, Fault> {
+    let standing = standing_order(alloc, 3)?;
+    Ok(Comparison {
+        edges: 2,
+        stands: told(&need_under(alloc, matrix, &standing)?),
+        ordered: told(&need_under(alloc, matrix, &ORDER)?),
+        other: Some(told(&need_under(alloc, matrix, &[2, 0, 1])?)),
+    })
+}
+
+#[test]
+fn needs_under_orders(rt: HostRuntime) -> Result<(), Fail> {
+    let alloc = rt.alloc();
+    let matrix = path(alloc)?;
+    let rows = read_rows(alloc, 3, "3\n% a note\n1\n2\n".as_bytes())?;
+    check!(&rt; rows.as_slice() == [2, 0, 1].as_slice());
+    check!(&rt; read_rows(alloc, 3, "0\n".as_bytes()).is_err());
+    let Ok(compared) = three_needs(alloc, &matrix) else {
+        panic!(&rt; "no needs");
+    };
+    let mut out = Vec::new(alloc);
+    check!(&rt; write_comparison_lines(compared, &mut out).is_ok());
+    check!(&rt; out.as_slice() == NEEDS.as_bytes());
+    let repeated = need_under(alloc, &matrix, &[0, 0, 1]);
+    check!(&rt; matches!(repeated, Err(Fault::NotPermutation)));
+    Ok(())
+}
+
+#[test]
+fn files_beside_the_permutation(rt: HostRuntime) -> Result<(), Fail> {
+    let alloc = rt.alloc();
+    let matrix = path(alloc)?;
+    let (Ok(other), Ok(counted)) = (
+        permuted(alloc, &matrix, &ORDER),
+        counts(alloc, 3, &matrix.a_p, &matrix.a_i, &ORDER),
+    ) else {
+        panic!(&rt; "no order");
+    };
+    let mut out = Vec::new(alloc);
+    check!(&rt; write_matrix(&other, &mut out).is_ok());
+    check!(&rt; out.as_slice() == PERMUTED.as_bytes());
+    let mut tree = Vec::new(alloc);
+    check!(&rt; write_tree(&counted.parent, &mut tree).is_ok());
+    check!(&rt; tree.as_slice() == b"3\n3\n0\n".as_slice());
+    let mut drawn = Vec::new(alloc);
+    check!(&rt; write_picture(alloc, &matrix, &ORDER, false, &mut drawn).is_ok());
+    check!(&rt; drawn.as_slice() == PICTURE.as_bytes());
+    let mut blocks = Vec::new(alloc);
+    check!(&rt; write_tree_picture(alloc, &counted.parent, &counted.sizes, &mut blocks).is_ok());
+    let text = String::from_utf8_lossy(alloc, &blocks)?;
+    check!(&rt; text.contains(">3 blocks; largest column, with its diagonal: 2<"));
+    Ok(())
+}
+
+/// The number that stands in a text of JSON under a path of names.
+fn number_at(alloc: Global, text: &[u8], path: &str) -> Result<Option<u64>, Fail> {
+    let text = String::from_utf8_lossy(alloc, text)?;
+    let value = Value::from_str(alloc, &text)?;
+    Ok(value.pointer(path).and_then(Value::as_u64))
+}
+
+/// Numbers in the answer of `order`, each under a path of names.
+static ORDER_NUMBERS: [(&str, u64); 7] = [
+    ("/rows", 3),
+    ("/duplicates_dropped", 4),
+    ("/at_most/largest_column", 2),
+    ("/as_it_stands/entries_of_l", 2),
+    ("/with/multiply_subtracts_lu", 5),
+    ("/permutation/0", 2),
+    ("/permutation/2", 3),
+];
+
+/// Numbers in the answer of `info`.
+static FACT_NUMBERS: [(&str, u64); 3] = [
+    ("/entries_on_the_diagonal", 1),
+    ("/greatest_degree", 2),
+    ("/with/fill", 1),
+];
+
+/// Asserts that these numbers stand in a text of JSON.
+fn check_numbers(
+    rt: &impl Abort,
+    alloc: Global,
+    text: &[u8],
+    numbers: &[(&str, u64)],
+) -> Result<(), Fail> {
+    for (path, wanted) in numbers {
+        let number = number_at(alloc, text, path)?;
+        check!(rt; number == Some(*wanted), path);
+    }
+    Ok(())
+}
+
+#[test]
+fn answers_as_json(rt: HostRuntime) -> Result<(), Fail> {
+    let alloc = rt.alloc();
+    let matrix = path(alloc)?;
+    let control = Default::default();
+    let (Ok((p, info)), Ok(facts), Ok(compared)) = (
+        order_matrix(alloc, &matrix, &control, None),
+        facts_of(alloc, &matrix, &control),
+        three_needs(alloc, &matrix),
+    ) else {
+        panic!(&rt; "no answer");
+    };
+    let mut order = Vec::new(alloc);
+    check!(&rt; write_order_json(&info, 4, Some(compared), &p, &mut order).is_ok());
+    let mut matrix_facts = Vec::new(alloc);
+    check!(&rt; write_facts_json(&facts, Some(compared), &mut matrix_facts).is_ok());
+    check_numbers(&rt, alloc, &order, &ORDER_NUMBERS)?;
+    check_numbers(&rt, alloc, &matrix_facts, &FACT_NUMBERS)
+}

@@ -1,0 +1,360 @@
+// Whole runs of the command: the exit status, what stands on standard output and what is told on standard error, for
+// good files, for files and words at fault, for outputs that fail, and for runs that take long.
+
+use crate::tests::desk::{Desk, Pages};
+use crate::tests::outputs::{PATH, PATH_FACTS};
+use amd_command::program::run;
+use amd_request::causes::Cause;
+use amd_testing::check;
+use std::alloc::{AllocError, Global};
+use std::cell::RefCell;
+use std::io;
+use std::io::ErrorKind;
+use std::process::Abort;
+use std::test::Fail;
+
+/// What is told of the path where it is ordered.
+const PATH_FIGURES: &str = "    rows                                                3\n";
+
+/// What is shown of it then, by the independent program: row 2 comes first, then 1 and 3.
+const PATH_ORDER: &str = "2\n1\n3\n";
+
+/// The same as JSON.
+const PATH_JSON: &str = concat!(
+    "{\"rows\":3,\"entries\":5,\"duplicates_dropped\":0,\"status\":\"OK\",",
+    "\"rows_placed_last\":0,\"workspace_compactions\":0,",
+    "\"at_most\":{\"entries_of_l\":2,\"divisions\":2,\"multiply_subtracts_ldl\":2,\"multiply_subtracts_lu\":2,",
+    "\"largest_column\":2},\"permutation\":[2,1,3]}\n"
+);
+
+/// What `analyze` shows of it as JSON: row 3 is the parent of both others.
+const PATH_FACTOR_JSON: &str = concat!(
+    "{\"rows\":3,\"entries\":5,\"duplicates_dropped\":0,\"status\":\"OK\",",
+    "\"rows_placed_last\":0,\"workspace_compactions\":0,",
+    "\"at_most\":{\"entries_of_l\":2,\"divisions\":2,\"multiply_subtracts_ldl\":2,\"multiply_subtracts_lu\":2,",
+    "\"largest_column\":2},\"ordered\":{\"entries_of_l\":2,\"fill\":0,\"divisions\":2,",
+    "\"multiply_subtracts_ldl\":2,\"multiply_subtracts_lu\":2,\"largest_column\":2},",
+    "\"columns\":[[2,3,1],[1,3,1],[3,0,0]]}\n"
+);
+
+/// A file whose third line has a row that there is not.
+const BAD: &str = "%%MatrixMarket matrix coordinate pattern general\n2 2 2\n3 1\n1 1\n";
+
+/// A path that there is not.
+const NOWHERE: &str = "/no/such/folder/file";
+
+/// The words of a command line.
+fn words_of(alloc: Global, words: &[&str]) -> Result<Vec<String>, AllocError> {
+    let mut owned = Vec::new(alloc);
+    owned.push(String::from_str(alloc, "rimopaku")?)?;
+    for word in words {
+        owned.push(String::from_str(alloc, word)?)?;
+    }
+    Ok(owned)
+}
+
+/// The text of a page.
+fn text_of(alloc: Global, page: &RefCell<Vec<u8>>) -> Result<String, Fail> {
+    match page.try_borrow() {
+        Ok(bytes) => Ok(String::from_utf8_lossy(alloc, &bytes)?),
+        Err(_) => Ok(String::new(alloc)),
+    }
+}
+
+/// How a run ended.
+#[derive(Drop)]
+struct Ended {
+    status: u8,
+    shown: String,
+    told: String,
+}
+
+/// Runs the command with a text as its input, with a clock that goes on by so many seconds, and with an output that
+/// fails where it is `broken`.
+fn run_at_desk(
+    host: &HostRuntime,
+    words: &[&str],
+    input: &str,
+    step: u64,
+    broken: bool,
+) -> Result<Ended, Fail> {
+    let alloc = host.alloc();
+    let pages = Pages::new(alloc);
+    let owned = words_of(alloc, words)?;
+    let desk = Desk {
+        host,
+        input: input.as_bytes(),
+        pages: &pages,
+        step,
+        broken,
+    };
+    let status = run(&desk, &owned);
+    Ok(Ended {
+        status,
+        shown: text_of(alloc, &pages.shown)?,
+        told: text_of(alloc, &pages.told)?,
+    })
+}
+
+/// Words, an input, the status, and a part of what is told, where something is at fault.
+type Refused = (&'static [&'static str], &'static str, u8, &'static str);
+
+/// Words and files at fault: status 2. Outputs that cannot be opened: status 1.
+static REFUSED: [Refused; 24] = [
+    (&[], "", 2, "Usage: rimopaku"),
+    (&["sort", "-"], PATH, 2, "sort"),
+    (&["order"], PATH, 2, "FILE"),
+    (&["order", "-", "--sort"], PATH, 2, "--sort"),
+    (
+        &["order", "-", "--dense", "ten"],
+        PATH,
+        2,
+        "rimopaku: --dense: the dense row parameter is no",
+    ),
+    (&["info", "-"], "", 2, "rimopaku: -: the file is empty\n"),
+    (
+        &["info", "-"],
+        BAD,
+        2,
+        "rimopaku: -: line 3: the row is out of range: 3, of rows 1 to 2",
+    ),
+    (
+        &["order", "-"],
+        BAD,
+        2,
+        "rimopaku: -: line 3: the row is out of range: 3, of rows 1 to 2",
+    ),
+    (
+        &["order", "-", "--picture", NOWHERE],
+        BAD,
+        2,
+        "rimopaku: -: line 3: the row is out of range: 3, of rows 1 to 2",
+    ),
+    (
+        &["analyze", "-"],
+        BAD,
+        2,
+        "rimopaku: -: line 3: the row is out of range: 3, of rows 1 to 2",
+    ),
+    (
+        &["order", NOWHERE],
+        "",
+        2,
+        "rimopaku: /no/such/folder/file: cannot be opened: ",
+    ),
+    (
+        &["info", "/"],
+        "",
+        2,
+        "rimopaku: /: is a folder: name a file\n",
+    ),
+    (
+        &["order", "-", "--hold", "/tmp"],
+        PATH,
+        2,
+        "rimopaku: /tmp: is a folder: name a file\n",
+    ),
+    (
+        &["order", "-", "--picture", "/"],
+        PATH,
+        2,
+        "rimopaku: /: is a folder: name a file\n",
+    ),
+    (
+        &["order", "/etc/hostname", "--out", "/etc/hostname"],
+        "",
+        2,
+        "rimopaku: /etc/hostname: is named twice: an output must be a file of its own\n",
+    ),
+    (
+        &[
+            "order",
+            "-",
+            "--hold",
+            "/etc/hostname",
+            "--picture",
+            "/etc/../etc/hostname",
+        ],
+        PATH,
+        2,
+        "rimopaku: /etc/../etc/hostname: is named twice: an output must be a file of its own\n",
+    ),
+    (
+        &[
+            "order",
+            "-",
+            "--out",
+            "/tmp/no-such-file",
+            "--picture",
+            "/tmp/no-such-file",
+        ],
+        PATH,
+        2,
+        "rimopaku: /tmp/no-such-file: is named twice: an output must be a file of its own\n",
+    ),
+    (
+        &[
+            "order",
+            "-",
+            "--permuted",
+            "/tmp/no-such-file",
+            "--tree",
+            "/tmp/../tmp/no-such-file",
+        ],
+        PATH,
+        2,
+        "rimopaku: /tmp/../tmp/no-such-file: is named twice: an output must be a file of its own\n",
+    ),
+    (&["order", "-", "--with", "/dev/null"], PATH, 2, "--compare"),
+    (
+        &["info", "-", "--exact", "--with", "/dev/null"],
+        PATH,
+        2,
+        "rimopaku: /dev/null: no order of the rows: row 1 does not stand there\n",
+    ),
+    (
+        &["order", "-", "--permuted", NOWHERE],
+        PATH,
+        1,
+        "rimopaku: /no/such/folder/file: cannot be written: ",
+    ),
+    (
+        &["order", "-", "--hold", NOWHERE],
+        PATH,
+        2,
+        "rimopaku: /no/such/folder/file: cannot be opened: ",
+    ),
+    (
+        &["order", "-", "--out", NOWHERE],
+        PATH,
+        1,
+        "rimopaku: /no/such/folder/file: cannot be written: ",
+    ),
+    (
+        &["analyze", "-", "--out", NOWHERE],
+        PATH,
+        1,
+        "rimopaku: /no/such/folder/file: cannot be written: ",
+    ),
+];
+
+/// Nothing is shown where something is at fault, and a message tells what.
+#[test]
+fn runs_that_are_refused(rt: HostRuntime) -> Result<(), Fail> {
+    for (words, input, status, told) in &REFUSED {
+        let end = run_at_desk(&rt, words, input, 0, false)?;
+        let is_refused = end.status == *status && end.shown.is_empty() && end.told.contains(*told);
+        check!(&rt; is_refused, told);
+    }
+    Ok(())
+}
+
+/// Words of runs that do what is asked for, and what they show.
+static ANSWERED: [(&[&str], &str); 6] = [
+    (&["info", "-"], PATH_FACTS),
+    (&["order", "-", "--out", "/dev/null"], ""),
+    (
+        &["analyze", "-", "--hold", "/dev/null", "--out", "/dev/null"],
+        "",
+    ),
+    (
+        &["order", "-", "--picture", "/dev/null", "--out", "/dev/null"],
+        "",
+    ),
+    (
+        &[
+            "order",
+            "-",
+            "--tree-picture",
+            "/dev/null",
+            "--permuted",
+            "/dev/null",
+            "--tree",
+            "/dev/null",
+            "--json",
+        ],
+        PATH_JSON,
+    ),
+    (&["analyze", "-", "--json"], PATH_FACTOR_JSON),
+];
+
+#[test]
+fn runs_that_end_well(rt: HostRuntime) -> Result<(), Fail> {
+    for (words, shown) in &ANSWERED {
+        let end = run_at_desk(&rt, words, PATH, 0, false)?;
+        let is_told = end.told.is_empty() || end.told.starts_with(PATH_FIGURES);
+        let name = words.first().copied().unwrap_or("");
+        check!(&rt; end.status == 0 && end.shown.as_str() == *shown && is_told, name);
+    }
+    Ok(())
+}
+
+/// Runs that tell of the command itself.
+#[test]
+fn runs_without_a_file(rt: HostRuntime) -> Result<(), Fail> {
+    for word in ["--help", "--version"] {
+        let end = run_at_desk(&rt, &[word], "", 0, false)?;
+        let is_shown = end.shown.contains("rimopaku") && end.told.is_empty();
+        check!(&rt; end.status == 0 && is_shown, word);
+    }
+    Ok(())
+}
+
+#[test]
+fn an_output_that_takes_nothing(rt: HostRuntime) -> Result<(), Fail> {
+    for name in ["order", "analyze", "info"] {
+        let end = run_at_desk(&rt, &[name, "-"], PATH, 0, true)?;
+        let wanted = "rimopaku: standard output: cannot be written: ";
+        check!(&rt; end.status == 1 && end.told.starts_with(wanted), name);
+    }
+    Ok(())
+}
+
+/// Where the picture fails, the permutation and the figures are written, and a message behind them names the picture.
+#[test]
+fn a_picture_that_fails(rt: HostRuntime) -> Result<(), Fail> {
+    let end = run_at_desk(&rt, &["order", "-", "--picture", NOWHERE], PATH, 0, false)?;
+    check!(&rt; end.status == 3 && end.shown.as_str() == PATH_ORDER);
+    let message = "\nrimopaku: /no/such/folder/file: the picture cannot be written: ";
+    check!(&rt; end.told.starts_with(PATH_FIGURES) && end.told.contains(message));
+    let words = ["order", "-", "--out", "/dev/null", "--picture", "/dev/full"];
+    let full = run_at_desk(&rt, &words, PATH, 0, false)?;
+    check!(&rt; full.status == 3 && full.told.starts_with(PATH_FIGURES));
+    check!(&rt; full.told
+            .contains("rimopaku: /dev/full: the picture cannot be written: "));
+    Ok(())
+}
+
+#[test]
+fn causes_that_are_told(rt: HostRuntime) -> Result<(), Fail> {
+    let alloc = rt.alloc();
+    check!(&rt; Cause::Write(io::Error::from(ErrorKind::BrokenPipe)).is_quiet());
+    check!(&rt; !Cause::Write(io::Error::from(ErrorKind::WriteZero)).is_quiet());
+    let told = format!(in alloc; "{}", Cause::Memory.at_picture())?;
+    check!(&rt; told.as_str() == "the picture cannot be written: out of memory");
+    Ok(())
+}
+
+/// A run that has taken some seconds tells each stage that it begins; one that has not tells none.
+#[test]
+fn stages_of_long_runs(rt: HostRuntime) -> Result<(), Fail> {
+    let words = [
+        "order",
+        "-",
+        "--hold",
+        "/dev/null",
+        "--picture",
+        "/dev/null",
+    ];
+    let slow = run_at_desk(&rt, &words, PATH, 2, false)?;
+    let stages = "rimopaku: reading /dev/null, 0 MiB
+rimopaku: ordering 3 rows, 5 entries
+";
+    check!(&rt; slow.status == 0 && slow.told.starts_with(stages));
+    let last = "\nrimopaku: drawing up to 2 entries of L\n";
+    check!(&rt; slow.told.contains(PATH_FIGURES) && slow.told.ends_with(last));
+    let fast = run_at_desk(&rt, &words, PATH, 0, false)?;
+    check!(&rt; fast.status == 0 && fast.told.starts_with(PATH_FIGURES));
+    check!(&rt; slow.shown.as_str() == fast.shown.as_str());
+    Ok(())
+}

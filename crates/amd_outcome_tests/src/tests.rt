@@ -1,0 +1,17 @@
+// The tests, a module for each part. Called by: the gate.
+
+mod comparison;
+mod counts;
+mod demo_texts;
+mod demos;
+mod earlier;
+mod expansion;
+mod jumbled_texts;
+mod lengths;
+mod memory;
+mod numbers;
+mod orders;
+mod refusals;
+mod supernodes;
+mod texts;
+mod worked;

@@ -1,0 +1,14 @@
+// The tests, a module for each part. Called by: the gate.
+
+mod can_24;
+mod comparison;
+mod factors;
+mod holding;
+mod input;
+mod memory;
+mod numbers;
+mod patterns;
+mod small_matrices;
+mod statuses;
+mod wide_numbers;
+mod worked;
