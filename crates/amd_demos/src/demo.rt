@@ -239,30 +239,9 @@ fn print_ordering<W: Write, A: Allocator + Copy>(
     Ok(false)
 }
 
-/// Orders a matrix, and writes the ordering, the permuted matrix and what stands behind it. The line of failure comes
-/// where there is no ordering, its status is another, or there is no exact factor. Returns whether all was written.
-fn print_outcome<W: Write, A: Allocator + Copy>(
-    alloc: A,
-    form: Form,
-    matrix: &DemoMatrix,
-    out: &mut W,
-) -> io::Result<bool>
-    ensures ordered { IfOk result (λ ordered. ordered ≡ true →
-        HasDemo form matrix.now.n matrix.now.a_p.now matrix.now.a_i.now (W.contents out.old) (W.contents out.new)) }
-    ensures failure { IfOk result (λ ordered. ordered ≡ false →
-        EndsInFailure (W.contents out.old) (W.contents out.new)) }
-{
-    let n = matrix.n;
-    match order(alloc, n, matrix.a_p, matrix.a_i, &Control::default()) {
-        Ok((p, p_inv, told)) => print_ordering(alloc, form, matrix, &p, &p_inv, &told, out),
-        Err(_) => {
-            write_failure(out)?;
-            Ok(false)
-        }
-    }
-}
-
-/// Writes a matrix, and then its ordering. Returns whether all was written.
+/// Writes a matrix, orders it, and writes the ordering, the permuted matrix and what stands behind it. The line of
+/// failure comes where there is no ordering, its status is another, or there is no exact factor. Returns whether all
+/// was written.
 fn print_demo<W: Write, A: Allocator + Copy>(
     alloc: A,
     form: Form,
@@ -275,7 +254,14 @@ fn print_demo<W: Write, A: Allocator + Copy>(
         EndsInFailure (W.contents out.old) (W.contents out.new)) }
 {
     write_input(form, matrix, out)?;
-    print_outcome(alloc, form, matrix, out)
+    let n = matrix.n;
+    match order(alloc, n, matrix.a_p, matrix.a_i, &Control::default()) {
+        Ok((p, p_inv, told)) => print_ordering(alloc, form, matrix, &p, &p_inv, &told, out),
+        Err(_) => {
+            write_failure(out)?;
+            Ok(false)
+        }
+    }
 }
 
 /// Writes a matrix, orders it, and writes the ordering and the permuted matrix; and for a sorted matrix the exact
