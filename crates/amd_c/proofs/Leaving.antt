@@ -69,19 +69,19 @@ memory_of_values p q statistics =
 
 -- what a call leaves in the values is what it leaves in the integers
 pub orders_into : (hold : Option (List Bool)) (m n : ℤ) (choice : Parameters) (a_p a_i p q r s : List ℤ) (before after : Statistics)
-    (status : Status) (number : ℤ) → m ≡ n →
-    Leaves hold m choice (values a_p) (values a_i) (memory (values p) (values q) before) (memory (values r) (values s) after) status →
-    number ≡ number_of status →
+    (number : ℤ) → m ≡ n →
+    OrdersInto hold m choice (values a_p) (values a_i) (memory (values p) (values q) before) (memory (values r) (values s) after)
+    number →
     OrdersInto hold n choice a_p a_i (memory p q before) (memory r s after) (to_z w32 (of_z w32 number))
-orders_into hold m n choice a_p a_i p q r s before after status number same left is =
+orders_into hold m n choice a_p a_i p q r s before after number same o =
     let old : Memory = memory (values p) (values q) before in
     let new : Memory = memory (values r) (values s) after in
-    let one = subst (λ x. Leaves hold x choice (values a_p) (values a_i) old new status) same left in
-    let two = subst (λ x. Leaves hold n choice x (values a_i) old new status) (map-id a_p) one in
-    let three = subst (λ x. Leaves hold n choice a_p x old new status) (map-id a_i) two in
-    let four = subst (λ x. Leaves hold n choice a_p a_i x new status) (memory_of_values p q before) three in
-    let five = subst (λ x. Leaves hold n choice a_p a_i (memory p q before) x status) (memory_of_values r s after) four in
-    record { status = status; answer = answer_is status number is; left = five }
+    let one = subst (λ x. Leaves hold x choice (values a_p) (values a_i) old new o.status) same o.left in
+    let two = subst (λ x. Leaves hold n choice x (values a_i) old new o.status) (map-id a_p) one in
+    let three = subst (λ x. Leaves hold n choice a_p x old new o.status) (map-id a_i) two in
+    let four = subst (λ x. Leaves hold n choice a_p a_i x new o.status) (memory_of_values p q before) three in
+    let five = subst (λ x. Leaves hold n choice a_p a_i (memory p q before) x o.status) (memory_of_values r s after) four in
+    record { status = o.status; answer = answer_is o.status number o.answer; left = five }
 
 -- and so for the status of an input
 pub classifies_input : (k l m n : ℤ) (a_p a_i : List ℤ) (status : Status) (number : ℤ) → k ≡ m → l ≡ n →

@@ -47,12 +47,10 @@ pub extern "C" fn rimopaku_order_i32(
     p_inv: &mut [i32],
     statistics: &mut Statistics,
 ) -> i32
-    ensures { OrdersInto None n parameters.now a_p.now a_i.now
-        (memory p.old p_inv.old statistics.old)
+    ensures { OrdersInto None n parameters.now a_p.now a_i.now (memory p.old p_inv.old statistics.old)
         (memory p.new p_inv.new statistics.new) result }
 {
-    let status = order_into(alloc, n, a_p, a_i, parameters, None, p, p_inv, statistics);
-    number_of(&status)
+    order_into(alloc, n, a_p, a_i, parameters, None, p, p_inv, statistics)
 }
 
 /// Orders a matrix with rows held last, as `order_holding` of the crate `amd`, and returns the number of the status.
@@ -81,13 +79,11 @@ pub extern "C" fn rimopaku_order_holding_i32(
     p_inv: &mut [i32],
     statistics: &mut Statistics,
 ) -> i32
-    ensures { OrdersInto (Some hold.now) n parameters.now a_p.now a_i.now
-        (memory p.old p_inv.old statistics.old)
+    ensures { OrdersInto (Some hold.now) n parameters.now a_p.now a_i.now (memory p.old p_inv.old statistics.old)
         (memory p.new p_inv.new statistics.new) result }
 {
     let hold = Some(hold);
-    let status = order_into(alloc, n, a_p, a_i, parameters, hold, p, p_inv, statistics);
-    number_of(&status)
+    order_into(alloc, n, a_p, a_i, parameters, hold, p, p_inv, statistics)
 }
 
 /// The number of the status of an input with `n_row` rows and `n_col` columns, as `valid` of the crate `amd`.
@@ -164,8 +160,7 @@ pub extern "C" fn rimopaku_counts_i32(
     parent: &mut [i32],
     needs: &mut Needs,
 ) -> i32
-    ensures { CountsInto n a_p.now a_i.now p.now
-        (tallies sizes.old parent.old needs.old)
+    ensures { CountsInto n a_p.now a_i.now p.now (tallies sizes.old parent.old needs.old)
         (tallies sizes.new parent.new needs.new) result }
 {
     let outcome = counts_into(alloc, n, a_p, a_i, p, sizes, parent, needs);
@@ -364,7 +359,7 @@ pub extern "C" fn rimopaku_amd_2_i32(
     ensures kept { result ≡ negsuc 0 → pe.new ≡ pe.old }
 {
     let status = eliminate_narrow(
-        alloc, n, pe, iw, len, parameters, nv, p_inv, p, e_len, statistics,
+        alloc, parameters, n, pe, iw, len, nv, p_inv, p, e_len, statistics,
     );
     number_of(&status)
 }

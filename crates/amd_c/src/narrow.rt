@@ -154,11 +154,11 @@ fn write_words(words: &[Word<i32>], numbers: &mut [i32])
 /// Source: Amestoy, Davis and Duff 1996 and 2004.
 pub fn eliminate_narrow(
     alloc: Global,
+    parameters: &Parameters,
     n: i32,
     pe: &mut [i32],
     iw: &[i32],
     len: &[u32],
-    parameters: &Parameters,
     nv: &mut [i32],
     p_inv: &mut [i32],
     p: &mut [i32],

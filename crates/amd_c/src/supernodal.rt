@@ -55,9 +55,9 @@ fn have_block_places<I: Index>(first: &[I], ptr: &[I], parent: &[I]) -> bool
 fn matrix_supernodes_into<I: PrimInt>(
     alloc: Global,
     n: I,
+    p: &[I],
     a_p: &[I],
     a_i: &[I],
-    p: &[I],
     first: &mut [I],
     ptr: &mut [I],
     rows: &mut [I],
@@ -122,5 +122,5 @@ pub fn supernodes_into<I: PrimInt>(
         (blocks (map I.value first.old) (map I.value ptr.old) (map I.value rows.old) (map I.value parent.old))
         (blocks (map I.value first.new) (map I.value ptr.new) (map I.value rows.new) (map I.value parent.new)) result }
 {
-    matrix_supernodes_into(alloc, n, a_p, a_i, p, first, ptr, rows, parent)
+    matrix_supernodes_into(alloc, n, p, a_p, a_i, first, ptr, rows, parent)
 }

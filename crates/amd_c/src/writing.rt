@@ -3,9 +3,9 @@
 
 ghost use Rattle.std.specs.Prelude.{◌↔◌, IsTrue, map};
 ghost use Rattle.std.specs.Option.{option_copied};
-ghost use Rattle.amd_c.specs.Calls.{HasPlaces, Leaves, memory};
+ghost use Rattle.amd_c.specs.Calls.{HasPlaces, OrdersInto, memory};
 
-use crate::records::{Parameters, Statistics, statistics_of};
+use crate::records::{Parameters, Statistics, number_of, statistics_of};
 use amd::{Control, Status, order_marked};
 use amd_types::index::Index;
 use amd_types::internal::to_count;
@@ -22,7 +22,8 @@ pub fn have_places<I: Index>(n: I, p: &[I], p_inv: &[I]) -> bool
     }
 }
 
-/// Orders a matrix into the caller's arrays, with or without marks of rows to hold last, and returns the status.
+/// Orders a matrix into the caller's arrays, with or without marks of rows to hold last, and returns the number of the
+/// status.
 ///
 /// The input is as that of `order` of the crate `amd`, and with marks as that of `order_holding`: `hold` then has one
 /// for each of the `n` rows. The permutation is written into `p`, its inverse into `p_inv`, and what the ordering tells
@@ -45,16 +46,16 @@ pub fn order_into<I: PrimInt>(
     p: &mut [I],
     p_inv: &mut [I],
     statistics: &mut Statistics,
-) -> Status
+) -> i32
     // A number of a primitive type is always in range.
     requires fits { I.fits (I.value n) }
-    ensures { Leaves (option_copied hold.entry) (I.value n) parameters.now
+    ensures { OrdersInto (option_copied hold.entry) (I.value n) parameters.now
         (map I.value a_p.now) (map I.value a_i.now)
         (memory (map I.value p.old) (map I.value p_inv.old) statistics.old)
         (memory (map I.value p.new) (map I.value p_inv.new) statistics.new) result }
 {
     if !have_places(n, p, p_inv) {
-        return Status::Invalid;
+        return number_of(&Status::Invalid);
     }
     let control = Control {
         dense: parameters.dense,
@@ -65,8 +66,8 @@ pub fn order_into<I: PrimInt>(
             p.copy_from_slice(&rows);
             p_inv.copy_from_slice(&places);
             *statistics = statistics_of(&info);
-            info.status
+            number_of(&info.status)
         }
-        Err(status) => status,
+        Err(status) => number_of(&status),
     }
 }

@@ -7,7 +7,6 @@ use Rattle.amd_c.proofs.int64.rimopaku_order_holding_i64.Goals as goal
 pub returns : goal.returns
 returns c =
     let a = c.args in
-    let order = c.order_into-status in
-    orders_into (Some c.args.hold.now) _ a.n a.parameters.now a.a_p.now a.a_i.now a.p.now a.p_inv.now order.new.p order.new.p_inv
-    a.statistics.now
-    order.new.statistics order.result _ (to_z-of_z w64 a.n c.ranges.n) order.ensures c.number_of.ensures
+    let order = c.order_into in
+    orders_into (Some c.args.hold.now) _ a.n a.parameters.now a.a_p.now a.a_i.now a.p.now a.p_inv.now order.new.p order.new.p_inv a.statistics.now
+    order.new.statistics _ (to_z-of_z w64 a.n c.ranges.n) order.ensures

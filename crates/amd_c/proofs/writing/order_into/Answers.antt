@@ -4,7 +4,7 @@ use Rattle.std.specs.Option.{option_copied}
 use Rattle.std.proofs.lemmas.Int.{to_z-of_z}
 use Rattle.amd.specs.Answers.{IsOrderingHolding}
 use Rattle.amd_c.specs.Calls.{memory}
-use Rattle.amd_c.proofs.Leaving.{leaves_ordering}
+use Rattle.amd_c.proofs.Leaving.{answer_is, leaves_ordering}
 use Rattle.amd_c.proofs.writing.order_into.Goals as goal
 
 pub returns-in-Ok : goal.returns-in-Ok
@@ -29,4 +29,9 @@ returns-in-Ok g c =
     let two = subst (λ x. IsOrderingHolding hold z t aggressive a_p a_i x places info) (sym rows_is) one in
     let three = subst (λ x. IsOrderingHolding hold z t aggressive a_p a_i p x info) (sym places_is) two in
     let old = memory (map value c.args.p.now) (map value c.args.p_inv.now) c.args.statistics.now in
-    leaves_ordering hold z c.args.parameters.now a_p a_i old (memory p q c.statistics_of.result) info three c.statistics_of.ensures
+    record {
+      status = info.status;
+      answer = answer_is info.status _ c.number_of-in-Ok.ensures;
+      left = leaves_ordering hold z c.args.parameters.now a_p a_i old (memory p q c.statistics_of.result) info three
+          c.statistics_of.ensures;
+    }
