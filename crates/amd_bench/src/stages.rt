@@ -121,19 +121,19 @@ fn time_rounds<R: time::Clock + Alloc<A = Global>, I: Index, S: Signed, U: Unsig
 {
     let control = Control::default();
     let threshold = dense_threshold(len.len(), &control);
-    let mut lists = fresh_lists(rt.alloc(), len.len())?;
+    let mut fresh = fresh_lists(rt.alloc(), len.len())?;
     clock.end(rt, "lists");
     run(
         iw,
         pe,
-        &mut lists.e_len,
-        &mut lists.nv,
         len,
-        &mut lists.degree,
-        &mut lists.w,
-        &mut lists.head,
-        &mut lists.sides,
-        &mut lists.hash,
+        &mut fresh.e_len,
+        &mut fresh.nv,
+        &mut fresh.degree,
+        &mut fresh.w,
+        &mut fresh.head,
+        &mut fresh.sides,
+        &mut fresh.hash,
         free,
         2,
         &control,
@@ -143,17 +143,17 @@ fn time_rounds<R: time::Clock + Alloc<A = Global>, I: Index, S: Signed, U: Unsig
     clock.end(rt, "rounds");
     list_rows(
         pe,
-        &mut lists.e_len,
-        &mut lists.nv,
-        &mut lists.degree,
-        &mut lists.w,
-        &mut lists.head,
-        &mut lists.hash,
-        &mut lists.p,
-        &mut lists.p_inv,
+        &mut fresh.e_len,
+        &mut fresh.nv,
+        &mut fresh.degree,
+        &mut fresh.w,
+        &mut fresh.head,
+        &mut fresh.hash,
+        &mut fresh.p,
+        &mut fresh.p_inv,
     );
     clock.end(rt, "listing");
-    Ok(lists.p)
+    Ok(fresh.p)
 }
 
 /// Lays the lists of rows of known degrees, eliminates and lists, in words of these widths.

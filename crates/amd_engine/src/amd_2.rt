@@ -86,9 +86,9 @@ pub fn amd_2_from<I: Index, S: Signed, U: Unsigned, A: Allocator + Copy>(
     let told = run(
         iw,
         pe,
+        len,
         &mut lists.e_len,
         &mut lists.nv,
-        len,
         &mut lists.degree,
         &mut lists.w,
         &mut lists.head,

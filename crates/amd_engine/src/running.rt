@@ -60,9 +60,9 @@ fn first_figures(n_dense: usize) -> Figures
 pub fn run<S: Signed, U: Unsigned>(
     iw: &mut [Word<S>],
     pe: &mut [Word<S>],
+    len: &mut [Cell<U>],
     e_len: &mut [Word<S>],
     nv: &mut [Word<S>],
-    len: &mut [Cell<U>],
     degree: &mut [Cell<U>],
     w: &mut [Cell<U>],
     head: &mut [Cell<U>],
@@ -88,7 +88,7 @@ pub fn run<S: Signed, U: Unsigned>(
     ensures packs { result.n_cmp_a ≤ length len.old }
     ensures over { AreOver (length len.old) pe.new e_len.new nv.new degree.new w.new head.new hash.new }
 {
-    let (live, n_dense) = begin(pe, e_len, nv, len, degree, w, head, sides, hold, threshold);
+    let (live, n_dense) = begin(len, pe, e_len, nv, degree, w, head, sides, hold, threshold);
     let mut work = Work {
         iw,
         pe,

@@ -81,10 +81,10 @@ fn touch_all<S: Signed, U: Unsigned>(
 /// lists.
 fn count_class<S: Signed, U: Unsigned>(
     iw: &[Word<S>],
-    pe: &mut [Word<S>],
     e_len: &[Word<S>],
     nv: &[Word<S>],
     degree: &[Cell<U>],
+    pe: &mut [Word<S>],
     w: &mut [Cell<U>],
     head: &mut [Cell<U>],
     sides: &mut [Sides<U>],
@@ -133,7 +133,7 @@ pub fn count_outside<S: Signed, U: Unsigned>(
     for p in from..from + count {
         let i = named(iw, p);
         count_class(
-            iw, pe, e_len, nv, degree, w, head, sides, i, flag, me, aggressive,
+            iw, e_len, nv, degree, pe, w, head, sides, i, flag, me, aggressive,
         );
     }
 }

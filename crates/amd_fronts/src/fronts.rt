@@ -84,10 +84,10 @@ fn renew_or_retire<S: Signed, U: Unsigned>(
     pe: &mut [Word<S>],
     e_len: &mut [Word<S>],
     nv: &mut [Word<S>],
+    w: &[Cell<U>],
     len: &mut [Cell<U>],
     degree: &mut [Cell<U>],
     sides: &mut [Sides<U>],
-    w: &[Cell<U>],
     i: usize,
     flag: usize,
     me: usize,
@@ -136,7 +136,7 @@ pub fn renew_all<S: Signed, U: Unsigned>(
     let mut gone: usize = 0;
     for p in from..end {
         let i = named(iw, p);
-        gone += renew_or_retire(iw, pe, e_len, nv, len, degree, sides, w, i, flag, me);
+        gone += renew_or_retire(iw, pe, e_len, nv, w, len, degree, sides, i, flag, me);
     }
     gone
 }

@@ -70,8 +70,8 @@ fn take_size<R: Read + Drop, A: Allocator>(lines: &mut LineReader<R, A>) -> Resu
 fn take_entry<R: Read + Drop, A: Allocator>(
     lines: &mut LineReader<R, A>,
     header: Header,
-    size: Size,
     done: usize,
+    size: Size,
 ) -> Result<(usize, usize), ReadError>
     ensures takes { IfOk result (λ e. (line : List ℕ) × TakesTelling percent R.remaining lines.old lines.new line ×
         SpellsEntry header.field size.rows line e) }
@@ -123,7 +123,7 @@ fn next_entry<R: Read + Drop, A: Allocator>(
 {
     match take_plain(lines, header.field, size.rows) {
         Some(entry) => Ok(entry),
-        None => take_entry(lines, header, size, done),
+        None => take_entry(lines, header, done, size),
     }
 }
 

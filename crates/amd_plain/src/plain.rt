@@ -64,14 +64,14 @@ pub fn plain_1<I: Index, A: Allocator + Copy>(
     hold: Option<&[bool]>,
     info: &mut Info,
 ) -> Result<(Vec<I, A>, Vec<I, A>), Status>
-    requires fits { I.fits (I.value n) }
-    requires size { I.value n ≡ pos (length len.now) }
     requires some { 0 < length len.now }
+    requires size { I.value n ≡ pos (length len.now) }
+    requires fits { I.fits (I.value n) }
+    requires marks { HasMarks (option_copied hold) (length len.now) }
     requires form { IsColumnForm (pos (length len.now)) (length len.now) (map I.value a_p.now) (map I.value a_i.now) }
     requires sorted { IsSorted (length len.now) (map I.value a_p.now) (map I.value a_i.now) }
     requires degrees { AreCounts (graph_of (length len.now) (map I.value a_p.now) (map I.value a_i.now))
         ((graph_of (length len.now) (map I.value a_p.now) (map I.value a_i.now)).edge) len.now }
-    requires marks { HasMarks (option_copied hold) (length len.now) }
     ensures orders { IfOk result (λ a. IsEngineAnswer (option_copied hold.entry) (length len.now) control.now.dense
         control.now.aggressive (map I.value a_p.now) (map I.value a_i.now) (map I.value a.0.items)
         (map I.value a.1.items) info.old info.new) }

@@ -54,8 +54,8 @@ pub fn lend_cells(numbers: &mut [usize]) -> &mut [Cell<usize>]
     while i < len {
         unsafe {
             let at = start.add(i);
-            let number = *at;
-            *at = number;
+            let count = *at;
+            *at = count;
         }
         i += 1;
     }

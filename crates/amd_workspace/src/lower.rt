@@ -417,11 +417,11 @@ pub fn lower_lists<I: Index, S: Signed, U: Unsigned, A: Allocator>(
         ((graph_of size (map I.value a_p.now) (map I.value a_i.now)).edge) degrees.now }
     requires room { own_start size (map I.value a_p.now) (map I.value a_i.now) size ≤ room }
     requires fits { (size ≤ S.MOST) × (room ≤ U.MOST) }
+    requires empty { length pointers.old.items ≡ 0 }
+    requires wide { size ≤ vec_capacity pointers.old }
     requires long { length next.old ≡ size }
     requires starts { (i : ℕ) → i < size →
         num next.old i ≡ own_start size (map I.value a_p.now) (map I.value a_i.now) i }
-    requires empty { length pointers.old.items ≡ 0 }
-    requires wide { size ≤ vec_capacity pointers.old }
     ensures long { IfOk result (λ v. length v.items ≡ room) }
     ensures words { IfOk result (λ v. HoldRows size v.items) }
     ensures lists { IfOk result (λ v. (i : ℕ) → i < size →

@@ -103,10 +103,10 @@ fn number_of(holds: bool) -> usize
 /// Starts the elimination: `len` has the degree of each row, and `pe` where its list starts. The rows marked in `hold`
 /// and those of a degree above the threshold are held last. Answers how many rows are live, and how many are held last.
 pub fn begin<S: Signed, U: Unsigned>(
+    len: &mut [Cell<U>],
     pe: &mut [Word<S>],
     e_len: &mut [Word<S>],
     nv: &mut [Word<S>],
-    len: &mut [Cell<U>],
     degree: &mut [Cell<U>],
     w: &mut [Cell<U>],
     head: &mut [Cell<U>],

@@ -23,7 +23,7 @@ pub list_rows-requires-clause-over : goal.list_rows-requires-clause-over
 list_rows-requires-clause-over g c =
     let n : ℕ = length c.args.len.now in
     let none : length (replicate n n) ≡ n = length-replicate n n in
-    let l = c.in_ok-lists.lists in let fresh = c.in_ok-lists.ensures.fresh in
+    let l = c.in_ok-fresh.fresh in let fresh = c.in_ok-fresh.ensures.fresh in
     let new = c.run.new in let over = c.run.ensures.over in
     over_same n (length new.pe) new.pe new.e_len c.deref_mut-8.result.now new.nv c.deref_mut-9.result.now new.degree
     c.deref_mut-10.result.now new.w c.deref_mut-11.result.now new.head c.deref_mut-12.result.now new.hash c.deref_mut-13.result.now
