@@ -135,37 +135,18 @@ pub fn order_in_place<A: Allocator + Copy>(
     control: &Control,
     info: &mut Info,
 ) -> Result<(Vec<i64, A>, Vec<i64, A>), Status> {
-    let (n, a_p, a_i) = (matrix.n, matrix.a_p, matrix.a_i);
+    let (n, a_p, a_i, hold) = (matrix.n, matrix.a_p, matrix.a_i, matrix.hold);
     assert!(rt; flag >= 2);
     let (degrees, room) = degrees_of(rt, alloc, n, a_p, a_i, more, info);
-    check_marks(rt, matrix.hold, degrees.len());
-    if holds::<i32, u32>(degrees.len(), room, flag) {
+    let len = degrees.as_slice();
+    check_marks(rt, hold, len.len());
+    if holds::<i32, u32>(len.len(), room, flag) {
         return order_in::<i64, i32, u32, A>(
-            heap,
-            flag,
-            n,
-            a_p,
-            a_i,
-            &degrees,
-            room,
-            control,
-            matrix.hold,
-            info,
+            heap, flag, n, a_p, a_i, len, room, control, hold, info,
         );
     }
-    assert!(rt; holds::<isize, usize>(degrees.len(), room, flag));
-    order_in::<i64, isize, usize, A>(
-        heap,
-        flag,
-        n,
-        a_p,
-        a_i,
-        &degrees,
-        room,
-        control,
-        matrix.hold,
-        info,
-    )
+    assert!(rt; holds::<isize, usize>(len.len(), room, flag));
+    order_in::<i64, isize, usize, A>(heap, flag, n, a_p, a_i, len, room, control, hold, info)
 }
 
 /// First flags for a matrix of `size` rows: the one of the product, and in each width one far from a reset of the
