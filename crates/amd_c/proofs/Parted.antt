@@ -1,5 +1,5 @@
 -- What a partition into supernodes tells: there are supernodes, and how many.
-use Rattle.std.proofs.Common.{ℕ, ℤ, ◌≡◌, ◌<◌, ◌⊎◌, inl, inr, arith, List, length}
+use Rattle.std.proofs.Common.{ℕ, ◌<◌, ◌⊎◌, inl, inr, arith, List, length}
 use Rattle.std.specs.Prelude.{slice_index, unsigned_abs, Option}
 use Rattle.amd_model.proofs.Patterns.DegreeSums.{pattern_graph}
 use Rattle.amd_symbolic.specs.Partitions.{IsPartitionOf, Matrix, order_of}

@@ -1,12 +1,12 @@
 -- Lines that were read one after another, and the items that they spell.
 use Rattle.std.proofs.Common.{◌≡◌, ℕ, ℤ, Option, None, List, [], ◌∷◌, ◌++◌, refl, sym, ap, ◌∙◌, subst}
-use Rattle.amd_lines.specs.Lines.{TakesLines, TakesNotes, TakesTelling, FailsAt}
+use Rattle.amd_lines.specs.Lines.{TakesLines, TakesTelling, FailsAt}
 use Rattle.amd_lines.specs.declared.lines.LineReader.{LineReader}
 use Rattle.amd_lines.specs.declared.errors.LineCause.{LineCause}
 use Rattle.amd_lines.specs.declared.errors.LineCause.TheVariants as cause
 use Rattle.amd_lines.proofs.LineLemmas.{takes-append, takes-none, telling-both, fails-behind, fails-here}
 use Rattle.amd_cases.specs.Items.{SpellsItem}
-use Rattle.amd_cases.specs.Reading.{TakesItems, SpellsItems, ReadsBody, ReadsCase, StopsAt, NamesLast, case_error, worded}
+use Rattle.amd_cases.specs.Reading.{TakesItems, SpellsItems, ReadsBody, ReadsCase, NamesLast, case_error, worded}
 use Rattle.amd_cases.specs.declared.cases.Case.{Case}
 use Rattle.amd_cases.specs.declared.items.Item.{Item}
 use Rattle.amd_cases.specs.declared.items.Item.TheVariants as item

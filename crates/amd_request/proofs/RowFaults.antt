@@ -1,10 +1,9 @@
 -- What the error of a list of rows says of the lines that were read.
-use Rattle.std.proofs.Common.{◌≡◌, ◌+◌, ℕ, Bool, false, Option, Some, None, List, [], ◌∷◌, ◌++◌, inl, inr, length, refl, sym}
+use Rattle.std.proofs.Common.{◌≡◌, ◌+◌, ℕ, Option, Some, None, List, [], ◌∷◌, ◌++◌, inl, inr, length, refl, sym}
 use Rattle.std.proofs.Common.{ap, subst, ◌∙◌, append_assoc, append-nil, arith}
 use Rattle.std.specs.Prelude.{IfSome}
 use Rattle.std.proofs.lemmas.List.{length-append}
-use Rattle.amd_lines.specs.Words.{words}
-use Rattle.amd_lines.specs.Lines.{BeginsWith, FailsAt, TakesLines, TakesTelling, is_note, line_number, percent, rest_of, telling}
+use Rattle.amd_lines.specs.Lines.{BeginsWith, FailsAt, TakesLines, TakesTelling, line_number, percent, rest_of, telling}
 use Rattle.amd_lines.proofs.LineLemmas.{takes-append, telling-both, telling-one}
 use Rattle.amd_lines.specs.declared.lines.LineReader.{LineReader}
 use Rattle.amd_market.specs.Faults.{IsOfReading, IsTold, IsUnread, named_line}

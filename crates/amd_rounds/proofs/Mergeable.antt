@@ -3,7 +3,7 @@ use Rattle.std.proofs.Common.{ℕ, ℤ, pos, negsuc, Bool, true, false, List, �
 use Rattle.std.proofs.Common.{inl, inr, refl, sym, ap, ◌∙◌, subst, cond, arith, not, filter, sum_by, length}
 use Rattle.std.specs.Prelude.{◌==◌, max}
 use Rattle.std.proofs.Math.Nat.{le-max_left}
-use Rattle.std.proofs.lemmas.Bool.{cases_Bool, cases_eq, cond-true, cond-false, eq-eqb, ltb-true, and_parts, false_from_ne_true}
+use Rattle.std.proofs.lemmas.Bool.{cases_Bool, cond-true, cond-false, ltb-true, and_parts, false_from_ne_true}
 use Rattle.std.proofs.lemmas.List.Sums.{sum_by-append}
 use Rattle.amd_model.specs.Graph.{Graph}
 use Rattle.amd_model.specs.State.{State}

@@ -1,5 +1,5 @@
 -- A count below a number that a type has is one that the type has.
-use Rattle.std.proofs.Common.{◌≡◌, ℕ, ℤ, pos, arith}
+use Rattle.std.proofs.Common.{ℕ, ℤ, pos, arith}
 use Rattle.std.specs.Prelude.{◌<ℤ◌, ◌≤ℤ◌}
 use Rattle.std.proofs.lemmas.Int.{ints}
 

@@ -1,6 +1,6 @@
 -- The tree of the elements: borders lead upwards, and edges join blocks of one line.
 use Rattle.std.proofs.Common.{ℕ, zero, suc, Bool, true, false, ◌≡◌, ◌≢◌, ◌<◌, ◌≤◌, ◌+◌, ◌-◌, ◌⊎◌, inl, inr, refl, sym, ◌∙◌, ap}
-use Rattle.std.proofs.Common.{subst, arith, [], Option, None, Some, cond}
+use Rattle.std.proofs.Common.{subst, arith, Option, None, Some, cond}
 use Rattle.std.proofs.lemmas.Bool.{cases_Bool, true≢false, cases_eq}
 use Rattle.amd_model.specs.Below.{sum_below}
 use Rattle.amd_model.specs.Graph.{Graph, IsGraph}

@@ -1,4 +1,4 @@
-use Rattle.std.proofs.Common.{arith, ℕ, ℤ, List, pos, length, drop, ap, sym, subst, ◌≡◌, ◌<◌, ◌∙◌}
+use Rattle.std.proofs.Common.{arith, ℕ, ℤ, List, length, drop, ap, sym, subst, ◌≡◌, ◌<◌, ◌∙◌}
 use Rattle.std.specs.Prelude.{replicate}
 use Rattle.std.proofs.lemmas.Int.{ints}
 use Rattle.std.proofs.lemmas.List.{length-replicate, take_at}

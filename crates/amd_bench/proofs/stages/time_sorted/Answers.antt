@@ -1,4 +1,4 @@
-use Rattle.std.proofs.Common.{ℤ, List, ◌≡◌, map, length, ap, arith}
+use Rattle.std.proofs.Common.{ℤ, List, map, length, ap, arith}
 use Rattle.std.proofs.lemmas.List.{length-map}
 use Rattle.amd_input.proofs.PatternLemmas.{input_fits}
 use Rattle.amd.proofs.Ready.{ready}

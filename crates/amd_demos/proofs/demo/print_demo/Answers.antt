@@ -1,5 +1,5 @@
 -- The ordering that was answered is what is written, and it stands behind the input.
-use Rattle.std.proofs.Common.{[], rules, sym, ◌∙◌}
+use Rattle.std.proofs.Common.{rules, sym, ◌∙◌}
 use Rattle.std.proofs.lemmas.List.{map-id}
 use Rattle.std.proofs.Math.Facts.{to_z-of_z}
 use Rattle.amd_demos.proofs.Orderings.{default-ordering}

@@ -1,4 +1,4 @@
-use Rattle.std.proofs.Common.{ℕ, List, length, map, pos}
+use Rattle.std.proofs.Common.{ℕ, List, map, pos}
 use Rattle.amd_model.specs.State.{Home}
 use Rattle.amd_listing.specs.Ended.{Shortens}
 use Rattle.amd_listing.specs.Placing.{AreBlocks}

@@ -1,5 +1,5 @@
 -- Each turn reads one line more.
-use Rattle.std.proofs.Common.{◌≡◌, false, replicate, ap, rules}
+use Rattle.std.proofs.Common.{◌≡◌, false, replicate, rules}
 use Rattle.std.proofs.lemmas.Result.{err_from_is_err_and}
 use Rattle.amd_lines.proofs.LineLemmas.{fails-behind}
 use Rattle.amd_request.proofs.HeldLemmas.{held-none, held-next, held-whole}

@@ -1,5 +1,5 @@
 -- Each turn reads one line more.
-use Rattle.std.proofs.Common.{◌≡◌, true, false, [], ◌∷◌, ◌++◌, refl, ap, rules}
+use Rattle.std.proofs.Common.{◌≡◌, true, false, [], ◌∷◌, ◌++◌, refl, rules}
 use Rattle.std.proofs.lemmas.Result.{err_from_is_err_and}
 use Rattle.amd_lines.specs.Words.{words}
 use Rattle.amd_lines.specs.Lines.{is_note, line_of}
