@@ -150,3 +150,19 @@ pub place_in : {A : Type 0} (value : A → ℤ) (rows : List A) (n : ℕ) (ap' :
     (j q end : ℕ) → j < n → end ≡ get_or (counts ap') (j + 1) 0 → q < end → q < length rows
 place_in value rows n ap' form j q end h is high = subst (λ x. q < x) (length-map rows value)
     (place_within n ap' (map value rows) form j q h (omega (arith, is, high)))
+
+-- the pointers and the rows of a column, as the caller has them, are in their lists, and counts of 64 bits
+module _ {A : Type 0} (value : A → ℤ) (pointers rows : List A) (n : ℕ)
+    (form : IsColumnForm (pos n) n (map value pointers) (map value rows)) where
+  pub pointer_read : (j : ℕ) → j ≤ n → length rows < 2 ^ 64 → (j < length pointers) × FitsUnsignedBits 64 (at (map value pointers) j)
+  pointer_read j h short = (
+    (let enough = form.enough in let long = length-map pointers value in omega (arith, enough, long, h)),
+    pointer_fits n (map value pointers) (map value rows) form j h (subst (λ x. x < 2 ^ 64) (sym (length-map rows value)) short),
+  )
+
+  pub row_read : (j q end : ℕ) → j < n → end ≡ get_or (counts (map value pointers)) (j + 1) 0 → q < end → n < 2 ^ 64 →
+      (q < length rows) × FitsUnsignedBits 64 (at (map value rows) q)
+  row_read j q end h is high short = (
+    place_in value rows n (map value pointers) form j q end h is high,
+    row_fits n (map value pointers) (map value rows) form j q h (omega (arith, is, high)) short,
+  )

@@ -1,15 +1,16 @@
-use Rattle.std.proofs.Common.{◌≡◌, ◌+◌, ◌^◌, ◌<◌, ◌≤◌, ◌≢◌, ◌++◌, ◌∷◌, [], map}
+use Rattle.std.proofs.Common.{◌≡◌, ◌+◌, ◌^◌, ◌<◌, ◌≤◌, ◌≢◌, ◌++◌, ◌∷◌, [], ℕ, ℤ, List, pos, map}
 use Rattle.std.proofs.Common.{get_or, arith, ap, sym, true, false, refl, ◌∙◌, subst, subst₂}
 use Rattle.std.proofs.Common.{le_refl, le_of_lt, le_trans, le_of_eq}
 use Rattle.std.proofs.lemmas.Bool.{eqb-true, eqb-false, true≢false, le-ltb}
 use Rattle.std.proofs.lemmas.List.{length-map}
+use Rattle.amd_model.specs.Input.Columns.{IsColumnForm, IsSorted}
 use Rattle.amd_types.specs.Counts.{counts, count_graph, is_entry}
-use Rattle.amd_edges.specs.Visits.{arcs_of, with_arc}
+use Rattle.amd_edges.specs.Visits.{arcs_of, with_arc, IsNew}
 use Rattle.amd_edges.specs.Walk.{IsScan, met}
 use Rattle.amd_edges.proofs.Forms.{pointer_fits, row_fits, place_in, sorted_form}
 use Rattle.amd_edges.proofs.Orders.{edges_until, until_start, until_next, until_end}
-use Rattle.amd_edges.proofs.Reading.{row_below, row_from, before_end, past_end, reading_start, reading_next}
-use Rattle.amd_edges.proofs.Uppers.{IsOver, upper_next, upper_new, upper_after, upper_scan, exit_gap, over_entry, over_none}
+use Rattle.amd_edges.proofs.Reading.{IsReading, row_below, row_from, before_end, past_end, reading_start, reading_next}
+use Rattle.amd_edges.proofs.Uppers.{IsUpper, IsOver, upper_next, upper_new, upper_after, upper_scan, exit_gap, over_entry, over_none}
 use Rattle.amd_edges.proofs.walk.column.Goals as goal
 use Rattle.amd_edges.proofs.walk.column.Goals.{then-upper-test+else-count_at-k, else-upper-test, then-place-end, else-place-end}
 use Rattle.amd_edges.proofs.walk.column.Goals.{then-diagonal, else-diagonal}
@@ -55,40 +56,41 @@ count_at-requires-then-place-end-clause-fits g c = row_fits c.args.size (map g.I
     (map g.I.Index.value c.args.a_i.now) c.requires.form c.args.k
     c.upper.place c.requires.k_in (before_end c.count_at-end.ensures.count c.if-place-end.true) c.ranges.size.fits
 
+-- the next row above the diagonal: its pair, whose arcs are new, what was met with them, and where the pointers stand
+record IsNextRow (n : ℕ) (ap' ai t : List ℕ) (k m j : ℕ) : Type 0 where
+  upper : IsUpper n ap' ai k m j
+  new : IsNew (count_graph n ap' ai) (met n ap' ai t k m) j k × IsNew (count_graph n ap' ai) (with_arc (met n ap' ai t k m) j k) k j
+  after : with_arc (with_arc (met n ap' ai t k m) j k) k j ≡ met n ap' ai t k (j + 1)
+  scan : IsScan n ap' ai t k j
+
+-- the row at the place, read twice, is the next one
+module _ {n k m end p first j : ℕ} {ap' ai : List ℤ} {t : List ℕ} (form : IsColumnForm (pos n) n ap' ai) (sorted : IsSorted n ap' ai)
+    (k_in : k < n) (scan : IsScan n (counts ap') (counts ai) t k m) (end_is : end ≡ get_or (counts ap') (k + 1) 0)
+    (so : IsReading (counts ai) (get_or (counts ap') k 0) end k m p) (first_is : first ≡ get_or (counts ai) p 0)
+    (is : j ≡ get_or (counts ai) p 0) (inside : p < end) (below : first < k) where
+  next_row : IsNextRow n (counts ap') (counts ai) t k m j
+  next_row = let rising = sorted_form n ap' ai form sorted in
+      let low = row_below first_is is below in
+      let u = upper_next n (counts ap') (counts ai) rising t k m k_in scan end p j end_is so is inside low in record {
+        upper = u;
+        new = upper_new n (counts ap') (counts ai) rising t k m k_in scan j u.up u.pair u.low u.gap;
+        after = upper_after n (counts ap') (counts ai) rising t k m k_in scan j u.up u.pair u.low u.gap;
+        scan = upper_scan n (counts ap') (counts ai) rising t k m k_in scan j u.up u.pair u.low u.gap;
+      }
+
 pub arc-requires : goal.arc-requires
 arc-requires g c =
-    let i = c.upper.invariant.1 in let r = c.requires in let m = c.upper.invariant.0 in let t = c.upper.next.items in let k = c.args.k in
-    let n = c.args.size in let j = c.count_at-j.result in
-    let ap' = counts (map g.I.Index.value c.args.a_p.now) in let ai = counts (map g.I.Index.value c.args.a_i.now) in
-    let form = sorted_form n (map g.I.Index.value c.args.a_p.now) (map g.I.Index.value c.args.a_i.now) r.form r.sorted in
-    let below = row_below c.count_at.ensures.count c.count_at-j.ensures.count c.if-count_at-k.true in
-    let u = upper_next n ap' ai form t k m r.k_in i.scan c.count_at-end.result c.upper.place j c.count_at-end.ensures.count i.place
-    c.count_at-j.ensures.count c.upper-test.true below in (
-      count_graph n ap' ai,
-      met n ap' ai t k m,
-      arcs_of (edges_until (is_entry n ap' ai) k m),
-      i.held,
-      (upper_new n ap' ai form t k m r.k_in i.scan j u.up u.pair u.low u.gap).0,
-    )
+    let i = c.upper.invariant.1 in let r = c.requires in
+    let row = next_row r.form r.sorted r.k_in i.scan c.count_at-end.ensures.count i.place c.count_at.ensures.count
+    c.count_at-j.ensures.count c.upper-test.true c.if-count_at-k.true in
+    (_, _, _, i.held, row.new.0)
 
 pub arc-requires-in-upper : goal.arc-requires-in-upper
 arc-requires-in-upper g c =
-    let i = c.upper.invariant.1 in let r = c.requires in let m = c.upper.invariant.0 in let t = c.upper.next.items in let k = c.args.k in
-    let n = c.args.size in let j = c.count_at-j.result in
-    let ap' = counts (map g.I.Index.value c.args.a_p.now) in let ai = counts (map g.I.Index.value c.args.a_i.now) in
-    let form = sorted_form n (map g.I.Index.value c.args.a_p.now) (map g.I.Index.value c.args.a_i.now) r.form r.sorted in
-    let below = row_below c.count_at.ensures.count c.count_at-j.ensures.count c.if-count_at-k.true in
-    let u = upper_next n ap' ai form t k m r.k_in i.scan c.count_at-end.result c.upper.place j c.count_at-end.ensures.count i.place
-    c.count_at-j.ensures.count c.upper-test.true below in
-    let new = upper_new n ap' ai form t k m r.k_in i.scan j u.up u.pair u.low u.gap in
-    let arcs = arcs_of (edges_until (is_entry n ap' ai) k m) in (
-      count_graph n ap' ai,
-      with_arc (met n ap' ai t k m) j k,
-      arcs ++ (j, k) ∷ [],
-      c.arc.ensures.held (count_graph n ap' ai)
-          (met n ap' ai t k m) arcs i.held new.0,
-      new.1,
-    )
+    let i = c.upper.invariant.1 in let r = c.requires in
+    let row = next_row r.form r.sorted r.k_in i.scan c.count_at-end.ensures.count i.place c.count_at.ensures.count
+    c.count_at-j.ensures.count c.upper-test.true c.if-count_at-k.true in
+    (_, _, _, c.arc.ensures.held _ _ _ i.held row.new.0, row.new.1)
 
 -- the clauses have an answer each: stated as one goal, they take far longer to check
 pub lower-requires-clause-form : goal.lower-requires-clause-form
@@ -104,71 +106,51 @@ pub lower-requires-clause-k_in : goal.lower-requires-clause-k_in
 lower-requires-clause-k_in g c = le_of_lt c.requires.k_in
 
 pub lower-requires-clause-mirror : goal.lower-requires-clause-mirror
-lower-requires-clause-mirror g c =
-    let i = c.upper.invariant.1 in let r = c.requires in let m = c.upper.invariant.0 in let t = c.upper.next.items in let k = c.args.k in
-    let n = c.args.size in let j = c.count_at-j.result in
-    let ap' = counts (map g.I.Index.value c.args.a_p.now) in let ai = counts (map g.I.Index.value c.args.a_i.now) in
-    let form = sorted_form n (map g.I.Index.value c.args.a_p.now) (map g.I.Index.value c.args.a_i.now) r.form r.sorted in
-    let below = row_below c.count_at.ensures.count c.count_at-j.ensures.count c.if-count_at-k.true in
-    let u = upper_next n ap' ai form t k m r.k_in i.scan c.count_at-end.result c.upper.place j c.count_at-end.ensures.count i.place
-    c.count_at-j.ensures.count c.upper-test.true below in
-    λ x. u.pair
+lower-requires-clause-mirror g c = λ x.
+    let i = c.upper.invariant.1 in let r = c.requires in
+    (next_row r.form r.sorted r.k_in i.scan c.count_at-end.ensures.count i.place c.count_at.ensures.count
+    c.count_at-j.ensures.count c.upper-test.true c.if-count_at-k.true).upper.pair
 
 pub lower-requires-clause-scan : goal.lower-requires-clause-scan
 lower-requires-clause-scan g c =
-    let i = c.upper.invariant.1 in let r = c.requires in let m = c.upper.invariant.0 in let t = c.upper.next.items in let k = c.args.k in
-    let n = c.args.size in let j = c.count_at-j.result in
-    let ap' = counts (map g.I.Index.value c.args.a_p.now) in let ai = counts (map g.I.Index.value c.args.a_i.now) in
-    let form = sorted_form n (map g.I.Index.value c.args.a_p.now) (map g.I.Index.value c.args.a_i.now) r.form r.sorted in
-    let below = row_below c.count_at.ensures.count c.count_at-j.ensures.count c.if-count_at-k.true in
-    let u = upper_next n ap' ai form t k m r.k_in i.scan c.count_at-end.result c.upper.place j c.count_at-end.ensures.count i.place
-    c.count_at-j.ensures.count c.upper-test.true below in
-    upper_scan n ap' ai form t k m r.k_in i.scan j u.up u.pair u.low u.gap
+    let i = c.upper.invariant.1 in let r = c.requires in
+    (next_row r.form r.sorted r.k_in i.scan c.count_at-end.ensures.count i.place c.count_at.ensures.count
+    c.count_at-j.ensures.count c.upper-test.true c.if-count_at-k.true).scan
 
 pub lower-requires-clause-held : goal.lower-requires-clause-held
 lower-requires-clause-held g c =
-    let i = c.upper.invariant.1 in let r = c.requires in let m = c.upper.invariant.0 in let t = c.upper.next.items in let k = c.args.k in
-    let n = c.args.size in let j = c.count_at-j.result in
+    let i = c.upper.invariant.1 in let r = c.requires in
+    let row = next_row r.form r.sorted r.k_in i.scan c.count_at-end.ensures.count i.place c.count_at.ensures.count
+    c.count_at-j.ensures.count c.upper-test.true c.if-count_at-k.true in
+    let n = c.args.size in let k = c.args.k in let j = c.count_at-j.result in
     let ap' = counts (map g.I.Index.value c.args.a_p.now) in let ai = counts (map g.I.Index.value c.args.a_i.now) in
-    let form = sorted_form n (map g.I.Index.value c.args.a_p.now) (map g.I.Index.value c.args.a_i.now) r.form r.sorted in
-    let below = row_below c.count_at.ensures.count c.count_at-j.ensures.count c.if-count_at-k.true in
-    let u = upper_next n ap' ai form t k m r.k_in i.scan c.count_at-end.result c.upper.place j c.count_at-end.ensures.count i.place
-    c.count_at-j.ensures.count c.upper-test.true below in
-    let new = upper_new n ap' ai form t k m r.k_in i.scan j u.up u.pair u.low u.gap in
-    let arcs = arcs_of (edges_until (is_entry n ap' ai) k m) in (
-      (arcs ++ (j, k) ∷ []) ++ (k, j) ∷ [],
-      subst (λ s. g.V.Visitor.holds (count_graph n ap' ai) s ((arcs ++ (j, k) ∷ []) ++ (k, j) ∷ []) c.arc-in-upper.new.self)
-          (upper_after n ap' ai form t k m r.k_in i.scan j u.up u.pair u.low u.gap)
-          (c.arc-in-upper.ensures.held (count_graph n ap' ai) (with_arc (met n ap' ai t k m) j k) (arcs ++ (j, k) ∷ [])
-          (c.arc.ensures.held (count_graph n ap' ai) (met n ap' ai t k m) arcs i.held new.0) new.1),
+    let arcs = (arcs_of (edges_until (is_entry n ap' ai) k c.upper.invariant.0) ++ (j, k) ∷ []) ++ (k, j) ∷ [] in (
+      arcs,
+      subst (λ s. g.V.Visitor.holds (count_graph n ap' ai) s arcs c.arc-in-upper.new.self) row.after
+          (c.arc-in-upper.ensures.held _ _ _ (c.arc.ensures.held _ _ _ i.held row.new.0) row.new.1),
     )
 
 pub upper-preserved : goal.upper-preserved
 upper-preserved g c =
-    let i = c.upper.invariant.1 in let r = c.requires in let m = c.upper.invariant.0 in let t = c.upper.next.items in let k = c.args.k in
+    let i = c.upper.invariant.1 in let r = c.requires in let m = c.upper.invariant.0 in let k = c.args.k in
     let n = c.args.size in let j = c.count_at-j.result in
     let ap' = counts (map g.I.Index.value c.args.a_p.now) in let ai = counts (map g.I.Index.value c.args.a_i.now) in
     let form = sorted_form n (map g.I.Index.value c.args.a_p.now) (map g.I.Index.value c.args.a_i.now) r.form r.sorted in
-    let below = row_below c.count_at.ensures.count c.count_at-j.ensures.count c.if-count_at-k.true in
-    let u = upper_next n ap' ai form t k m r.k_in i.scan c.count_at-end.result c.upper.place j c.count_at-end.ensures.count i.place
-    c.count_at-j.ensures.count c.upper-test.true below in
-    let new = upper_new n ap' ai form t k m r.k_in i.scan j u.up u.pair u.low u.gap in
-    let arcs = arcs_of (edges_until (is_entry n ap' ai) k m) in
-    let e = c.lower.ensures in (
+    let row = next_row r.form r.sorted r.k_in i.scan c.count_at-end.ensures.count i.place c.count_at.ensures.count
+    c.count_at-j.ensures.count c.upper-test.true c.if-count_at-k.true in
+    let arcs = (arcs_of (edges_until (is_entry n ap' ai) k m) ++ (j, k) ∷ []) ++ (k, j) ∷ [] in
+    let u = row.upper in let e = c.lower.ensures in (
       j + 1,
       record {
         place = reading_next n ap' ai form k (get_or ap' k 0) c.count_at-end.result k m c.upper.place j r.k_in (le_refl (get_or ap' k 0))
-            c.count_at-end.ensures.count i.place c.count_at-j.ensures.count c.upper-test.true below;
+            c.count_at-end.ensures.count i.place c.count_at-j.ensures.count c.upper-test.true u.up;
         room = e.room ∙ i.room;
         kept = e.kept ∙ c.arc-in-upper.ensures.kept ∙ c.arc.ensures.kept ∙ i.kept;
         scan = e.scan;
         held = subst (λ l. g.V.Visitor.holds (count_graph n ap' ai) (met n ap' ai c.lower.new.next.items k (j + 1)) l c.lower.new.visitor)
             (until_next (is_entry n ap' ai) k m j u.low u.gap u.pair)
-            (e.held ((arcs ++ (j, k) ∷ []) ++ (k, j) ∷ [])
-            (subst (λ s. g.V.Visitor.holds (count_graph n ap' ai) s ((arcs ++ (j, k) ∷ []) ++ (k, j) ∷ []) c.arc-in-upper.new.self)
-            (upper_after n ap' ai form t k m r.k_in i.scan j u.up u.pair u.low u.gap)
-            (c.arc-in-upper.ensures.held (count_graph n ap' ai) (with_arc (met n ap' ai t k m) j k) (arcs ++ (j, k) ∷ [])
-            (c.arc.ensures.held (count_graph n ap' ai) (met n ap' ai t k m) arcs i.held new.0) new.1)));
+            (e.held arcs (subst (λ s. g.V.Visitor.holds (count_graph n ap' ai) s arcs c.arc-in-upper.new.self) row.after
+            (c.arc-in-upper.ensures.held _ _ _ (c.arc.ensures.held _ _ _ i.held row.new.0) row.new.1)));
       },
     )
 
