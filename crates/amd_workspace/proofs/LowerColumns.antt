@@ -1,5 +1,5 @@
 -- A column of a pattern without an entry above the diagonal: its rows below the diagonal are a stretch of the row indices.
-use Rattle.std.proofs.Common.{◌≡◌, ◌≢◌, ◌<◌, ◌≤◌, ◌+◌, ◌-◌, inl, inr, ℕ, ℤ, zero, suc, true, List, [], ◌∷◌, ◌++◌, pos}
+use Rattle.std.proofs.Common.{◌≡◌, ◌≢◌, ◌<◌, ◌≤◌, ◌+◌, ◌-◌, ◌^◌, inl, inr, ℕ, ℤ, zero, suc, true, List, [], ◌∷◌, ◌++◌, pos}
 use Rattle.std.proofs.Common.{arith, refl, ap, sym, ◌∙◌, length, get_or, take, drop, append_assoc}
 use Rattle.std.proofs.Common.{le_refl, map, length-drop, length-take-le}
 use Rattle.std.specs.Prelude.{slice_range}
@@ -8,11 +8,12 @@ use Rattle.std.proofs.lemmas.Bool.{false_from_ne_true, not-true}
 use Rattle.std.proofs.lemmas.List.{append-nil, at_drop_more}
 use Rattle.std.proofs.lemmas.List.{get_or-drop, take_more}
 use Rattle.amd_model.specs.Below.{list_below}
-use Rattle.amd_model.specs.Input.Columns.{IsColumnForm, IsSorted}
+use Rattle.std.specs.Int.{FitsUnsignedBits}
+use Rattle.amd_model.specs.Input.Columns.{at, IsColumnForm, IsSorted}
 use Rattle.amd_model.specs.Input.Pattern.{is_pair}
 use Rattle.amd_model.proofs.Counting.Below.{clash}
 use Rattle.amd_types.specs.Counts.{counts, is_entry}
-use Rattle.amd_edges.proofs.Forms.{IsSortedForm, same_pair, sorted_form}
+use Rattle.amd_edges.proofs.Forms.{IsSortedForm, row_read, same_pair, sorted_form}
 use Rattle.amd_edges.proofs.Orders.{list_gap}
 use Rattle.amd_edges.proofs.Places.{entry_from, entry_gives}
 use Rattle.amd_edges.proofs.Reading.{IsReading, reading_next}
@@ -167,3 +168,11 @@ module _ (n : ℕ) (ap' ai : List ℕ) (form : IsSortedForm n ap' ai) (j first s
       words_next (map pos (take (p - first) (drop first ai))) (take (p - first) (drop first ai)) row refl
       ∙ ap (map pos) (ap (λ x. take (p - first) (drop first ai) ++ x ∷ []) (sym last) ∙ sym (take_more (drop first ai) (p - first) 0 long)
       ∙ ap (λ k. take k (drop first ai)) (sym d))
+
+-- the first row of a column that has one can be read
+pub first_read : {A : Type 0} (value : A → ℤ) (pointers rows : List A) (n : ℕ) →
+    IsColumnForm (pos n) n (map value pointers) (map value rows) → IsSorted n (map value pointers) (map value rows) → (j first stop : ℕ) →
+    j < n → first ≡ get_or (counts (map value pointers)) j 0 → stop ≡ get_or (counts (map value pointers)) (j + 1) 0 → first ≢ stop →
+    n < 2 ^ 64 → (first < length rows) × FitsUnsignedBits 64 (at (map value rows) first)
+first_read value pointers rows n form sorted j first stop h a b ne small = row_read value pointers rows n form j first stop h b
+    (first_before n (map value pointers) (map value rows) form j h sorted first stop a b ne) small

@@ -1,36 +1,24 @@
 -- The rows before the diagonal, one after another.
-use Rattle.std.proofs.Common.{◌+◌, ◌<◌, ◌^◌, ◌++◌, ◌∷◌, [], arith, rules, map, get_or, pos, ap, sym, ◌∙◌, refl, subst}
-use Rattle.std.proofs.Common.{le_refl, length, append_assoc, w64}
+use Rattle.std.proofs.Common.{◌+◌, ◌<◌, ◌^◌, ◌++◌, ◌∷◌, [], arith, rules, map, get_or, pos, ap, sym, ◌∙◌, refl}
+use Rattle.std.proofs.Common.{le_refl, length, append_assoc, w64, le_of_lt}
 use Rattle.std.proofs.lemmas.Int.{to_z_pos}
 use Rattle.std.proofs.lemmas.List.{length-map, length-append, append-nil}
 use Rattle.amd_model.specs.Below.{count_below, list_below}
 use Rattle.amd_types.specs.Counts.{counts, is_entry}
-use Rattle.amd_edges.proofs.Forms.{pointer_fits, row_fits, place_in, sorted_form}
-use Rattle.amd_edges.proofs.Reading.{reading_start, reading_next, row_below, before_end}
+use Rattle.amd_edges.proofs.Forms.{sorted_form, pointer_read, row_read}
+use Rattle.amd_edges.proofs.Reading.{reading_start, reading_next, row_below}
 use Rattle.amd_workspace.proofs.SymmetricLists.{own}
 use Rattle.amd_workspace.proofs.Copied.{left_of, others_before, others_more, others_room, row_small, same_other}
 use Rattle.amd_workspace.proofs.Layings.{words_next}
 use Rattle.amd_workspace.proofs.copying.push_before.Goals as goal
 
-pub count_at-stop-requires-clause-within : goal.count_at-stop-requires-clause-within
-count_at-stop-requires-clause-within g c =
-    let enough = c.requires.form.enough in let long = length-map c.args.a_p.now g.I.Index.value in let row = c.requires.row in
-    omega (arith, enough, long, row)
+pub count_at-stop-requires : goal.count_at-stop-requires
+count_at-stop-requires g c = let p = pointer_read g.I.Index.value c.args.a_p.now c.args.a_i.now c.args.size c.requires.form (c.args.i + 1)
+    (let l = c.requires.row in omega (arith, l)) (omega (arith, c.well_formed)) in record { within = p.0; fits = p.1 }
 
-pub count_at-stop-requires-clause-fits : goal.count_at-stop-requires-clause-fits
-count_at-stop-requires-clause-fits g c = pointer_fits c.args.size (map g.I.Index.value c.args.a_p.now)
-    (map g.I.Index.value c.args.a_i.now) c.requires.form (c.args.i + 1) (let l = c.requires.row in omega (arith, l))
-    (subst (λ x. x < 2 ^ 64) (sym (length-map c.args.a_i.now g.I.Index.value)) (omega (arith, c.well_formed)))
-
-pub count_at-place-requires-clause-within : goal.count_at-place-requires-clause-within
-count_at-place-requires-clause-within g c =
-    let enough = c.requires.form.enough in let long = length-map c.args.a_p.now g.I.Index.value in let row = c.requires.row in
-    omega (arith, enough, long, row)
-
-pub count_at-place-requires-clause-fits : goal.count_at-place-requires-clause-fits
-count_at-place-requires-clause-fits g c = pointer_fits c.args.size (map g.I.Index.value c.args.a_p.now)
-    (map g.I.Index.value c.args.a_i.now) c.requires.form c.args.i (let l = c.requires.row in omega (arith, l))
-    (subst (λ x. x < 2 ^ 64) (sym (length-map c.args.a_i.now g.I.Index.value)) (omega (arith, c.well_formed)))
+pub count_at-place-requires : goal.count_at-place-requires
+count_at-place-requires g c = let p = pointer_read g.I.Index.value c.args.a_p.now c.args.a_i.now c.args.size c.requires.form c.args.i
+    (le_of_lt c.requires.row) (omega (arith, c.well_formed)) in record { within = p.0; fits = p.1 }
 
 pub rows-init : goal.rows-init
 unfolding list_below
@@ -48,23 +36,16 @@ rows-init g c =
       },
     )
 
-pub count_at-requires-clause-within : goal.count_at-requires-clause-within
-count_at-requires-clause-within g c = place_in g.I.Index.value c.args.a_i.now c.args.size (map g.I.Index.value c.args.a_p.now)
-    c.requires.form c.args.i c.rows.place c.count_at-stop.result c.requires.row c.count_at-stop.ensures.count c.rows-test.true
+pub count_at-requires : goal.count_at-requires
+count_at-requires g c = let p = row_read g.I.Index.value c.args.a_p.now c.args.a_i.now c.args.size c.requires.form c.args.i c.rows.place
+    c.count_at-stop.result c.requires.row c.count_at-stop.ensures.count c.rows-test.true c.ranges.size.fits in
+    record { within = p.0; fits = p.1 }
 
-pub count_at-requires-clause-fits : goal.count_at-requires-clause-fits
-count_at-requires-clause-fits g c = row_fits c.args.size (map g.I.Index.value c.args.a_p.now) (map g.I.Index.value c.args.a_i.now)
-    c.requires.form c.args.i c.rows.place c.requires.row (before_end c.count_at-stop.ensures.count c.rows-test.true)
-    c.ranges.size.fits
-
-pub count_at-requires-in-rows-clause-within : goal.count_at-requires-in-rows-clause-within
-count_at-requires-in-rows-clause-within g c = place_in g.I.Index.value c.args.a_i.now c.args.size (map g.I.Index.value c.args.a_p.now)
-    c.requires.form c.args.i c.rows.place c.count_at-stop.result c.requires.row c.count_at-stop.ensures.count c.rows-test.true
-
-pub count_at-requires-in-rows-clause-fits : goal.count_at-requires-in-rows-clause-fits
-count_at-requires-in-rows-clause-fits g c = row_fits c.args.size (map g.I.Index.value c.args.a_p.now)
-    (map g.I.Index.value c.args.a_i.now) c.requires.form c.args.i c.rows.place c.requires.row
-    (before_end c.count_at-stop.ensures.count c.rows-test.true) c.ranges.size.fits
+pub count_at-requires-in-rows : goal.count_at-requires-in-rows
+count_at-requires-in-rows g c =
+    let p = row_read g.I.Index.value c.args.a_p.now c.args.a_i.now c.args.size c.requires.form
+    c.args.i c.rows.place c.count_at-stop.result c.requires.row c.count_at-stop.ensures.count c.rows-test.true c.ranges.size.fits in
+    record { within = p.0; fits = p.1 }
 
 -- the row that is read, which is before the diagonal
 pub overflow_cast-count_at : goal.overflow_cast-count_at

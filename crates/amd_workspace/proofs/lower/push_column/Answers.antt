@@ -1,22 +1,16 @@
 -- the goals of lower::push_column.
-use Rattle.std.proofs.Common.{◌≡◌, ◌+◌, ◌-◌, ◌<◌, ◌^◌, ◌++◌, ◌∷◌, [], arith, rules, map, take, drop, pos, ap, sym, ◌∙◌, subst}
+use Rattle.std.proofs.Common.{◌≡◌, ◌+◌, ◌-◌, ◌<◌, ◌^◌, ◌++◌, ◌∷◌, [], arith, rules, map, take, drop, pos, ap, sym, ◌∙◌}
 use Rattle.std.proofs.Common.{append_assoc, length, w64}
 use Rattle.std.proofs.lemmas.Int.{to_z_pos}
 use Rattle.std.proofs.lemmas.List.{length-map, length-append, length-take, append-nil}
 use Rattle.amd_types.specs.Counts.{counts}
-use Rattle.amd_edges.proofs.Forms.{pointer_fits, row_fits, place_in, sorted_form}
+use Rattle.amd_edges.proofs.Forms.{sorted_form, pointer_read, row_read}
 use Rattle.amd_workspace.proofs.LowerColumns.{column_row, stretch_push}
 use Rattle.amd_workspace.proofs.lower.push_column.Goals as goal
 
-pub count_at-stop-requires-clause-within : goal.count_at-stop-requires-clause-within
-count_at-stop-requires-clause-within g c =
-    let enough = c.requires.form.enough in let long = length-map c.args.a_p.now g.I.Index.value in let row = c.requires.row in
-    omega (arith, enough, long, row)
-
-pub count_at-stop-requires-clause-fits : goal.count_at-stop-requires-clause-fits
-count_at-stop-requires-clause-fits g c = pointer_fits c.args.size (map g.I.Index.value c.args.a_p.now)
-    (map g.I.Index.value c.args.a_i.now) c.requires.form (c.args.j + 1) (let l = c.requires.row in omega (arith, l))
-    (subst (λ x. x < 2 ^ 64) (sym (length-map c.args.a_i.now g.I.Index.value)) (omega (arith, c.well_formed)))
+pub count_at-stop-requires : goal.count_at-stop-requires
+count_at-stop-requires g c = let p = pointer_read g.I.Index.value c.args.a_p.now c.args.a_i.now c.args.size c.requires.form (c.args.j + 1)
+    (let l = c.requires.row in omega (arith, l)) (omega (arith, c.well_formed)) in record { within = p.0; fits = p.1 }
 
 pub places-init : goal.places-init
 places-init g c =
@@ -28,14 +22,10 @@ places-init g c =
           ∙ ap (λ k. items ++ map pos (take k (drop first (counts (map g.I.Index.value c.args.a_i.now))))) (sym none);
     }
 
-pub count_at-requires-clause-within : goal.count_at-requires-clause-within
-count_at-requires-clause-within g c = place_in g.I.Index.value c.args.a_i.now c.args.size (map g.I.Index.value c.args.a_p.now)
-    c.requires.form c.args.j c.places.place c.count_at-stop.result c.requires.row c.count_at-stop.ensures.count c.places-test.true
-
-pub count_at-requires-clause-fits : goal.count_at-requires-clause-fits
-count_at-requires-clause-fits g c = row_fits c.args.size (map g.I.Index.value c.args.a_p.now) (map g.I.Index.value c.args.a_i.now)
-    c.requires.form c.args.j c.places.place c.requires.row
-    (let t = c.places-test.true in let e = c.count_at-stop.ensures.count in omega (arith, t, e)) c.ranges.size.fits
+pub count_at-requires : goal.count_at-requires
+count_at-requires g c = let p = row_read g.I.Index.value c.args.a_p.now c.args.a_i.now c.args.size c.requires.form c.args.j c.places.place
+    c.count_at-stop.result c.requires.row c.count_at-stop.ensures.count c.places-test.true c.ranges.size.fits in
+    record { within = p.0; fits = p.1 }
 
 pub overflow_cast-count_at : goal.overflow_cast-count_at
 overflow_cast-count_at g c =

@@ -1,11 +1,11 @@
 -- the goals of lower::push_heads.
-use Rattle.std.proofs.Common.{◌≡◌, ◌+◌, ◌<◌, ◌^◌, ◌-◌, ◌∷◌, [], inl, inr, ℕ, ℤ, List, arith, refl, map, sym, subst, ap, ◌∙◌, length}
+use Rattle.std.proofs.Common.{◌≡◌, ◌+◌, ◌-◌, ◌∷◌, [], inl, inr, ℕ, ℤ, List, arith, refl, map, ap, ◌∙◌, length}
 use Rattle.std.proofs.lemmas.Bool.{cases_lt}
-use Rattle.std.proofs.lemmas.List.{get_or_append_left, get_or_push, length-append, length-map}
+use Rattle.std.proofs.lemmas.List.{get_or_append_left, get_or_push, length-append}
 use Rattle.amd_model.specs.Below.{list_below, sum_below}
 use Rattle.amd_model.specs.Input.Pattern.{graph_of}
 use Rattle.amd_edges.specs.Visits.{start_of}
-use Rattle.amd_edges.proofs.Forms.{pointer_fits}
+use Rattle.amd_edges.proofs.Forms.{pointer_read}
 use Rattle.amd_words.specs.Words.{num}
 use Rattle.amd_workspace.specs.Lower.{earlier_of, own_from, own_of, own_start}
 use Rattle.amd_workspace.proofs.LowerColumns.{slice_long}
@@ -31,15 +31,9 @@ overflow_add-end g c =
     let d = list_room c.args.size (map g.I.Index.value c.args.a_p.now) (map g.I.Index.value c.args.a_i.now) c.requires.lower
     c.args.degrees.now c.requires.degrees c.columns.j c.columns.end c.columns-test.true c.columns.invariant.end in omega (arith, d, total)
 
-pub count_at-requires-clause-within : goal.count_at-requires-clause-within
-count_at-requires-clause-within g c =
-    let enough = c.requires.form.enough in let long = length-map c.args.a_p.now g.I.Index.value in let row = c.columns-test.true in
-    omega (arith, enough, long, row)
-
-pub count_at-requires-clause-fits : goal.count_at-requires-clause-fits
-count_at-requires-clause-fits g c = pointer_fits c.args.size (map g.I.Index.value c.args.a_p.now)
-    (map g.I.Index.value c.args.a_i.now) c.requires.form (c.columns.j + 1) (let l = c.columns-test.true in omega (arith, l))
-    (subst (λ x. x < 2 ^ 64) (sym (length-map c.args.a_i.now g.I.Index.value)) (omega (arith, c.well_formed)))
+pub count_at-requires : goal.count_at-requires
+count_at-requires g c = let p = pointer_read g.I.Index.value c.args.a_p.now c.args.a_i.now c.args.size c.requires.form (c.columns.j + 1)
+    (let l = c.columns-test.true in omega (arith, l)) (omega (arith, c.well_formed)) in record { within = p.0; fits = p.1 }
 
 pub offset_bounds-degrees-j : goal.offset_bounds-degrees-j
 unfolding graph_of

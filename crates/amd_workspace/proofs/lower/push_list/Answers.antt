@@ -1,21 +1,15 @@
 -- the goals of lower::push_list.
-use Rattle.std.proofs.Common.{◌+◌, ◌<◌, ◌^◌, ◌-◌, ◌++◌, arith, map, sym, subst, ap, ◌∙◌, pos, length}
+use Rattle.std.proofs.Common.{◌+◌, ◌-◌, ◌++◌, arith, map, sym, ap, ◌∙◌, pos, length}
 use Rattle.std.specs.Prelude.{replicate}
-use Rattle.std.proofs.lemmas.List.{length-map, length-append, length-replicate}
-use Rattle.amd_edges.proofs.Forms.{pointer_fits}
+use Rattle.std.proofs.lemmas.List.{length-append, length-replicate}
+use Rattle.amd_edges.proofs.Forms.{pointer_read}
 use Rattle.amd_workspace.specs.Lower.{own_of}
 use Rattle.amd_workspace.proofs.LowerColumns.{slice_long}
 use Rattle.amd_workspace.proofs.lower.push_list.Goals as goal
 
-pub count_at-requires-clause-within : goal.count_at-requires-clause-within
-count_at-requires-clause-within g c =
-    let enough = c.requires.form.enough in let long = length-map c.args.a_p.now g.I.Index.value in let row = c.requires.row in
-    omega (arith, enough, long, row)
-
-pub count_at-requires-clause-fits : goal.count_at-requires-clause-fits
-count_at-requires-clause-fits g c = pointer_fits c.args.size (map g.I.Index.value c.args.a_p.now)
-    (map g.I.Index.value c.args.a_i.now) c.requires.form (c.args.j + 1) (let l = c.requires.row in omega (arith, l))
-    (subst (λ x. x < 2 ^ 64) (sym (length-map c.args.a_i.now g.I.Index.value)) (omega (arith, c.well_formed)))
+pub count_at-requires : goal.count_at-requires
+count_at-requires g c = let p = pointer_read g.I.Index.value c.args.a_p.now c.args.a_i.now c.args.size c.requires.form (c.args.j + 1)
+    (let l = c.requires.row in omega (arith, l)) (omega (arith, c.well_formed)) in record { within = p.0; fits = p.1 }
 
 pub overflow_sub-degree : goal.overflow_sub-degree
 overflow_sub-degree g c =
