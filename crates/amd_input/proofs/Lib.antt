@@ -7,5 +7,6 @@ pub mod RowMarks
 pub mod ColumnCounts
 pub mod PrefixSums
 pub mod ColumnLists
+pub mod RowReads
 pub mod RowForms
 pub mod MirroredRows
