@@ -1,13 +1,14 @@
 -- What the error of a reader says of the lines that it read.
 use Rattle.std.proofs.Common.{◌≡◌, ◌≢◌, ℕ, List, [], ◌∷◌, ◌++◌, sym, ap, ◌∙◌, subst}
-use Rattle.std.proofs.Common.{Option, Some, None, append-nil, append_assoc}
-use Rattle.std.specs.Prelude.{IfSome}
+use Rattle.std.proofs.Common.{Option, Some, None, append-nil, append_assoc, Result, Ok, Err, refl}
+use Rattle.std.specs.Prelude.{IfSome, IfErr, IsErrAnd}
 use Rattle.amd_lines.specs.Lines.{BeginsWith, line_number, TakesLines, TakesTelling, TakesNotes, FailsAt, rest_of, percent}
 use Rattle.amd_lines.proofs.LineLemmas.{known-append, number-append}
 use Rattle.amd_market.specs.Faults.{named_line}
 use Rattle.amd_market.specs.Faults.{IsToldBehind, last, end, reading, IsTold, IsUnread, Blames}
 use Rattle.amd_market.specs.Faults.{HasHeaderFault, HasUnknownFault}
 use Rattle.amd_market.specs.Faults.{HasBannerFault, HasKindFault, HasWordFault, header_words, banner_word, object_word, low}
+use Rattle.amd_market.specs.Faults.{LineHas, EndHas}
 use Rattle.amd_market.specs.Headers.{format_text}
 use Rattle.amd_market.specs.Files.{FailsFor, NamesFault}
 use Rattle.amd_lines.specs.declared.lines.LineReader.{LineReader}
@@ -124,3 +125,17 @@ pub no-kind : (f : ReadFault) (line : List ℕ) (ws us ts : List (List ℕ)) (g 
 no-kind fault.Field line ws us ts g h k m bad = (g, (ws, (h ∙ ap (λ z. banner_word ∷ z) (k ∙ ap (λ z. object_word ∷ z) m), bad)))
 no-kind fault.Symmetry line ws us ts g h k m bad = (g, (ws, (h ∙ ap (λ z. banner_word ∷ z) (k ∙ ap (λ z. object_word ∷ z) m), bad)))
 no-kind f line ws us ts g h k m bad = absurd bad
+
+-- what is true of an error is true of the one that is handed on in its place
+pub handed-on : {T E : Type 0} {x : E} (Q : E → Type 0) (r : Result T E) → IsErrAnd r (λ e. e ≡ x) → Q x → IfErr r Q
+handed-on Q (Ok v) h q = absurd h
+handed-on Q (Err e) h q = subst Q (sym h) q
+
+module _ {R Z : Type 0} {remaining : R → Option (List ℕ)} {a b : LineReader R Z} {e : ReadError} {f : ReadFault} where
+  -- a fault of the words of the line that says something
+  pub for-words : {line : List ℕ} → TakesTelling percent remaining a b line → IsTold b.lines f e → LineHas f line → FailsFor remaining a e
+  for-words {line} takes told has = for-telling remaining a b line e f takes told (last [] line refl has)
+
+  -- a fault of a text that ends where a line was to come
+  pub for-missing : TakesNotes percent remaining a b → IsTold b.lines f e → EndHas f → FailsFor remaining a e
+  for-missing takes told has = for-notes remaining a b e f takes told (end has refl)

@@ -12,15 +12,17 @@ use Rattle.amd_market.specs.Boeing.{SpellsBoeing}
 use Rattle.amd_market.specs.Faults.{HasHeaderFault}
 use Rattle.amd_lines.specs.Lines.{BeginsWith, line_number, TakesLines, TakesTelling, TakesNotes, FailsAt, telling, rest_of, percent}
 use Rattle.amd_lines.proofs.LineLemmas.{end-append, takes-append, takes-none, telling-both}
-use Rattle.amd_market.specs.Faults.{named_line}
+use Rattle.amd_market.specs.Faults.{named_line, reading, IsTold, IsOfReading}
 use Rattle.amd_market.specs.Columns.{HoldsOnce}
-use Rattle.amd_market.specs.Files.{TakesEntries, TakesBody, SpellsBody, SpellsFile, market, boeing, NamesLine}
+use Rattle.amd_market.specs.Files.{TakesEntries, TakesBody, SpellsBody, SpellsFile, market, boeing, NamesLine, FailsFor}
 use Rattle.amd_market.proofs.EntryLemmas.{Inside, entries-more, all-inside}
 use Rattle.amd_market.specs.declared.headers.Format.{Format}
 use Rattle.amd_market.specs.declared.headers.Format.TheVariants.{Coordinate, Array}
 use Rattle.amd_market.specs.declared.headers.Header.{Header}
 use Rattle.amd_market.specs.declared.faults.ReadFault.TheVariants as fault
 use Rattle.amd_lines.specs.declared.lines.LineReader.{LineReader}
+use Rattle.amd_market.proofs.FaultLemmas.{for-behind, for-telling}
+use Rattle.amd_market.specs.declared.faults.ReadFault.{ReadFault}
 use Rattle.amd_market.specs.declared.faults.ReadError.{ReadError}
 
 -- no entry was read yet
@@ -55,6 +57,21 @@ entries-next remaining a b c header n k ps qs line e h t one more = record {
       ∙ sym (flat_map-append (pairs_of header.symmetry) h.entries (e ∷ []) ∙
       ap (λ z. flat_map (pairs_of header.symmetry) h.entries ++ z) (append-nil (pairs_of header.symmetry e)));
 }
+
+module _ {R Z : Type 0} {remaining : R → Option (List ℕ)} {a b : LineReader R Z} {header : Header} {n k : ℕ} {ps : List (ℕ × ℕ)}
+    (read : TakesEntries remaining a b header n k ps) where
+  -- an error behind the entries
+  pub entries-behind : {e : ReadError} → FailsFor remaining b e → FailsFor remaining a e
+  entries-behind {e} fails = for-behind remaining a b read.lines e read.takes fails
+
+  module _ {c : LineReader R Z} {entry : ℕ × ℕ}
+      (next : (line : List ℕ) × TakesTelling percent remaining b c line × SpellsEntry header.field n line entry) where
+    -- a fault of reading behind one entry more
+    pub entries-stopped : {e : ReadError} {f : ReadFault} → IsTold c.lines f e → IsOfReading f → FailsFor remaining a e
+    entries-stopped {e} {f} told is = entries-behind (for-telling remaining b c next.0 e f next.1 told (reading is))
+
+    pub entries-and : {qs : List (ℕ × ℕ)} → qs ≡ ps ++ pairs_of header.symmetry entry → TakesEntries remaining a c header n (k + 1) qs
+    entries-and {qs} more = entries-next remaining a b c header n k ps qs next.0 entry read next.1 next.2 more
 
 -- the pairs that were read lie in the matrix
 pub pairs-inside : {R Z : Type 0} (remaining : R → Option (List ℕ)) (a b : LineReader R Z) (header : Header) (n k : ℕ) (ps : List (ℕ × ℕ))
