@@ -8,13 +8,9 @@ use Rattle.amd_plain.proofs.marks.clear_all.Goals as goal
 
 pub loop-j-preserved : goal.loop-j-preserved
 loop-j-preserved g c =
-    let i : ℕ = c.loop-j.j-index in
-    let list : List ℕ = c.args.list.now in
-    let marks = c.loop-j.marks.items in
-    let here : i < length list = c.loop-j-test.true in
-    let size = c.loop-j.invariant.size in
-    let small : get_or list i 0 < length marks = lt_of_lt_of_le (c.requires.range i 0 here) (le_of_eq (sym size)) in
-    record {
+    let i : ℕ = c.loop-j.j-index in let list : List ℕ = c.args.list.now in let marks = c.loop-j.marks.items in
+    let here : i < length list = c.loop-j-test.true in let size = c.loop-j.invariant.size in
+    let small : get_or list i 0 < length marks = lt_of_lt_of_le (c.requires.range i 0 here) (le_of_eq (sym size)) in record {
       size = length-set marks (get_or list i 0) false ∙ size;
       cleared = λ j. clears_next marks (get_or list i 0) j (drop (i + 1) list) small ∙
           sym (at_drop_more (λ xs. mark_at c.loop-j.marks.items j && not (has xs j)) list i 0 here) ∙ c.loop-j.invariant.cleared j;

@@ -7,13 +7,9 @@ use Rattle.amd_plain.proofs.marks.mark_all.Goals as goal
 
 pub loop-j-preserved : goal.loop-j-preserved
 loop-j-preserved g c =
-    let i : ℕ = c.loop-j.j-index in
-    let list : List ℕ = c.args.list.now in
-    let marks = c.loop-j.marks.items in
-    let here : i < length list = c.loop-j-test.true in
-    let size = c.loop-j.invariant.size in
-    let small : get_or list i 0 < length marks = lt_of_lt_of_le (c.requires.range i 0 here) (le_of_eq (sym size)) in
-    record {
+    let i : ℕ = c.loop-j.j-index in let list : List ℕ = c.args.list.now in let marks = c.loop-j.marks.items in
+    let here : i < length list = c.loop-j-test.true in let size = c.loop-j.invariant.size in
+    let small : get_or list i 0 < length marks = lt_of_lt_of_le (c.requires.range i 0 here) (le_of_eq (sym size)) in record {
       size = length-set marks (get_or list i 0) true ∙ size;
       marked = λ j. marks_next marks (get_or list i 0) j (drop (i + 1) list) small ∙
           sym (at_drop_more (λ xs. mark_at c.loop-j.marks.items j || has xs j) list i 0 here) ∙ c.loop-j.invariant.marked j;
