@@ -1,5 +1,6 @@
 -- Lemmas on the rows outside a front, and on the lists of its classes once they are renewed.
 pub mod Counting
+pub mod WordReads
 pub mod Leaving
 pub mod RenewedFronts
 pub mod Retiring
