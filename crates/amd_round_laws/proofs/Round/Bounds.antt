@@ -7,12 +7,10 @@ use Rattle.amd_model.specs.Graph.{Graph}
 use Rattle.amd_model.specs.Figures.{cut}
 use Rattle.amd_model.specs.State.{State}
 use Rattle.amd_model.specs.Quotient.{QuotientGraph, has, gathered, kept_elements, kept_variables, border_of}
-use Rattle.amd_model.specs.Quotient.{made, new_size, outside, left, new_bound, round}
-use Rattle.amd_round_laws.specs.Keeps.{ViewStands}
+use Rattle.amd_model.specs.Quotient.{new_size, outside, left, new_bound, round}
 use Rattle.amd_round_laws.specs.Views.{View}
 use Rattle.amd_round_laws.proofs.Lists.Named.{sum_named}
-use Rattle.amd_round_laws.proofs.Rounding.{Rounding}
-use Rattle.amd_round_laws.proofs.Round.Turn.{Found, Turn, front_placed, in_made, lists_after, made_front, row_small}
+use Rattle.amd_round_laws.proofs.Round.Turn.{Turn, front_placed, in_made, made_front, row_small, parts}
 use Rattle.amd_round_laws.proofs.Round.Sizes.{new_class_size, outside_size, placed_cases, size_kept, size_made}
 use Rattle.amd_round_laws.proofs.Round.NextLists.{apart, kept_outside}
 
@@ -24,26 +22,8 @@ min_cut a x l = omega (arith, l)
 module _ {g : Graph} {dense : ℕ → Bool} {aggressive : Bool} {w v : View} {t : QuotientGraph} {s : State}
     (turn : Turn g dense aggressive w v t s)
   where
-    abbrev st : ViewStands g dense w t s
-    st = turn.before
-
-    abbrev r : Rounding aggressive w v
-    r = turn.wrote
-
-    abbrev f : Found aggressive w v t turn.wrote
-    f = turn.found
-
-    abbrev L : List ℕ
-    L = gathered t turn.wrote.c
-
-    abbrev R : List ℕ
-    R = border_of aggressive t turn.wrote.c (gathered t turn.wrote.c)
-
-    abbrev M : List ℕ
-    M = made aggressive t turn.wrote.c (gathered t turn.wrote.c)
-
-    abbrev new_lists : QuotientGraph
-    new_lists = lists_after turn
+    open turn use {before as st, wrote as r, found as f}
+    open parts turn use {L, R, M, new_lists}
 
     module _ (few : g.size < 2 ^ 64) (border_is : r.border ≡ sum_by t.size (border_of aggressive t r.c (gathered t r.c)))
         (live_is : v.live ≡ left aggressive t r.c (gathered t r.c)) (live_small : v.live ≤ g.size) where

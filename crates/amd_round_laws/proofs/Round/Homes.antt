@@ -1,5 +1,5 @@
 -- Where a row is after a round, by where it was.
-use Rattle.std.proofs.Common.{ℕ, Bool, true, false, List, ◌≡◌, ◌∙◌, ◌&&◌, ◌||◌}
+use Rattle.std.proofs.Common.{ℕ, Bool, true, false, ◌≡◌, ◌∙◌, ◌&&◌, ◌||◌}
 use Rattle.std.proofs.Common.{cond, ap, sym, refl, inl, inr}
 use Rattle.std.specs.Prelude.{◌==◌, ◌⊎◌}
 use Rattle.std.proofs.Math.Bool.{and-false}
@@ -7,38 +7,18 @@ use Rattle.std.proofs.lemmas.Bool.{cases_Bool, cases_eq, cond-true, cond-false, 
 use Rattle.std.proofs.lemmas.Bool.{and_left, eq-eqb, ne_eqb}
 use Rattle.amd_model.specs.Graph.{Graph}
 use Rattle.amd_model.specs.State.{State, Home, Last, Live, Gone}
-use Rattle.amd_model.specs.Quotient.{QuotientGraph, has, gathered, mass, border_of}
-use Rattle.amd_model.specs.Quotient.{represents, made, new_home, round}
+use Rattle.amd_model.specs.Quotient.{QuotientGraph, has, mass}
+use Rattle.amd_model.specs.Quotient.{represents, new_home, round}
 use Rattle.amd_model.proofs.Quotient.Sums.{home_cases}
-use Rattle.amd_round_laws.specs.Keeps.{ViewStands}
 use Rattle.amd_round_laws.specs.Views.{View}
-use Rattle.amd_round_laws.proofs.Rounding.{Rounding}
-use Rattle.amd_round_laws.proofs.Round.Turn.{Found, Turn, class_of, front_placed, in_left, lists_after, made_front, made_rest, not_c}
+use Rattle.amd_round_laws.proofs.Round.Turn.{Turn, class_of, front_placed, in_left, made_front, made_rest, not_c, parts}
 use Rattle.amd_round_laws.proofs.Round.Turn.{outside_rest, rest_front, rest_keeps}
 
 module _ {g : Graph} {dense : ℕ → Bool} {aggressive : Bool} {w v : View} {t : QuotientGraph} {s : State}
     (turn : Turn g dense aggressive w v t s)
   where
-    abbrev st : ViewStands g dense w t s
-    st = turn.before
-
-    abbrev r : Rounding aggressive w v
-    r = turn.wrote
-
-    abbrev f : Found aggressive w v t turn.wrote
-    f = turn.found
-
-    abbrev L : List ℕ
-    L = gathered t turn.wrote.c
-
-    abbrev R : List ℕ
-    R = border_of aggressive t turn.wrote.c (gathered t turn.wrote.c)
-
-    abbrev M : List ℕ
-    M = made aggressive t turn.wrote.c (gathered t turn.wrote.c)
-
-    abbrev new_lists : QuotientGraph
-    new_lists = lists_after turn
+    open turn use {before as st, wrote as r, found as f}
+    open parts turn use {L, R, M, new_lists}
 
     home_of : (i : ℕ) → has t.placed i ≡ true → t.home i ≡ Live i
     home_of i h = st.fits.home i ∙ class_of turn i h

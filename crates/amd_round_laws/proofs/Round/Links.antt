@@ -1,43 +1,27 @@
 -- After a round the links of rows still lead to where the rows are, and come to an end.
-use Rattle.std.proofs.Common.{ℕ, suc, Bool, true, Option, None, Some, List, ◌≡◌, ◌≢◌, ◌≤◌, ◌<◌, ◌∙◌, ◌&&◌}
+use Rattle.std.proofs.Common.{ℕ, suc, Bool, true, Option, None, Some, ◌≡◌, ◌≢◌, ◌≤◌, ◌<◌, ◌∙◌, ◌&&◌}
 use Rattle.std.proofs.Common.{not, cond, ap, sym, refl, subst, inl, inr, arith}
 use Rattle.std.specs.Prelude.{is_none, ◌==◌, ◌⊎◌}
 use Rattle.std.proofs.lemmas.Bool.{cases_Bool, cases_eq, cond-true, cond-false, and_from}
 use Rattle.std.proofs.lemmas.Bool.{and_parts, and_left, eq-eqb, ne_eqb, not-true, not_from_false}
 use Rattle.amd_model.specs.Graph.{Graph}
 use Rattle.amd_model.specs.State.{State, Last, Live, Gone}
-use Rattle.amd_model.specs.Quotient.{QuotientGraph, has, gathered, mass as mass_listed, border_of}
+use Rattle.amd_model.specs.Quotient.{QuotientGraph, has, mass as mass_listed}
 use Rattle.amd_model.specs.Quotient.{represents}
 use Rattle.amd_model.proofs.Counting.Below.{clash}
 use Rattle.amd_round_laws.specs.Rounds.{keeps_nothing as mass_viewed}
-use Rattle.amd_round_laws.specs.Keeps.{LinksLead, ViewStands}
+use Rattle.amd_round_laws.specs.Keeps.{LinksLead}
 use Rattle.amd_round_laws.specs.Views.{View}
-use Rattle.amd_round_laws.proofs.Rounding.{Rounding}
-use Rattle.amd_round_laws.proofs.Round.Turn.{Found, Turn, front_placed, in_front, in_left, in_rest, lists_after, made_front, none_kept}
-use Rattle.amd_round_laws.proofs.Round.Turn.{not_pivot, row_small}
+use Rattle.amd_round_laws.proofs.Round.Turn.{Turn, front_placed, in_front, in_left, in_rest, made_front, none_kept}
+use Rattle.amd_round_laws.proofs.Round.Turn.{not_pivot, row_small, parts}
 use Rattle.amd_round_laws.proofs.Round.Homes.{done_home, made_home, moved, moved_gone, moved_last, moved_other, new_home_is, pivot_home}
 use Rattle.amd_round_laws.proofs.Round.Homes.{rest_home, was_gone, was_last, was_live}
 
 module _ {g : Graph} {dense : ℕ → Bool} {aggressive : Bool} {w v : View} {t : QuotientGraph} {s : State}
     (turn : Turn g dense aggressive w v t s)
   where
-    abbrev st : ViewStands g dense w t s
-    st = turn.before
-
-    abbrev r : Rounding aggressive w v
-    r = turn.wrote
-
-    abbrev f : Found aggressive w v t turn.wrote
-    f = turn.found
-
-    abbrev L : List ℕ
-    L = gathered t turn.wrote.c
-
-    abbrev R : List ℕ
-    R = border_of aggressive t turn.wrote.c (gathered t turn.wrote.c)
-
-    abbrev new_lists : QuotientGraph
-    new_lists = lists_after turn
+    open turn use {before as st, wrote as r, found as f}
+    open parts turn use {L, R, new_lists}
 
     abbrev merges : ℕ → Bool
     merges x = has R x && not (represents aggressive t r.c L x == x)

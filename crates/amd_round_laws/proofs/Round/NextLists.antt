@@ -6,20 +6,18 @@ use Rattle.std.proofs.lemmas.Bool.{cases_Bool, cond-true, cond-false, or_parts, 
 use Rattle.std.proofs.lemmas.Bool.{eqb-true, not-true}
 use Rattle.amd_model.specs.Graph.{Graph}
 use Rattle.amd_model.specs.State.{State}
-use Rattle.amd_model.specs.Quotient.{QuotientGraph, has, is_empty, turned, gathered, absorbed, kept_elements, kept_variables}
-use Rattle.amd_model.specs.Quotient.{made, ends, round}
+use Rattle.amd_model.specs.Quotient.{QuotientGraph, has, is_empty, turned, absorbed, kept_elements, kept_variables}
+use Rattle.amd_model.specs.Quotient.{ends, round}
 use Rattle.amd_model.proofs.States.Words.{neighbours_gives, holds_gives}
 use Rattle.amd_model.proofs.Quotient.Lists.{has_turned, some_of}
 use Rattle.amd_model.proofs.Listings.Words.{has_filter as filter_gives}
 use Rattle.amd_model.proofs.Counting.Below.{clash}
 use Rattle.amd_round_laws.specs.Views.{live_of}
 use Rattle.amd_round_laws.specs.Rounds.{IsApart}
-use Rattle.amd_round_laws.specs.Keeps.{ViewStands}
 use Rattle.amd_round_laws.specs.Views.{View}
 use Rattle.amd_round_laws.proofs.Lists.Named.{filter_all, not_empty}
-use Rattle.amd_round_laws.proofs.Rounding.{Rounding}
-use Rattle.amd_round_laws.proofs.Round.Turn.{Found, Turn, class_of, front_placed, in_front, in_made, lists_after, made_front}
-use Rattle.amd_round_laws.proofs.Round.Turn.{placed_of}
+use Rattle.amd_round_laws.proofs.Round.Turn.{Turn, class_of, front_placed, in_front, in_made, made_front}
+use Rattle.amd_round_laws.proofs.Round.Turn.{placed_of, parts}
 use Rattle.amd_round_laws.proofs.Round.Sizes.{class_size, live_new, made_placed, new_live, new_placed, not_ends, placed_cases}
 
 -- a list that has something left had something
@@ -29,23 +27,8 @@ had_some xs p h = let x = some_of (filter p xs) h in not_empty xs x.0 (filter_gi
 module _ {g : Graph} {dense : ℕ → Bool} {aggressive : Bool} {w v : View} {t : QuotientGraph} {s : State}
     (turn : Turn g dense aggressive w v t s)
   where
-    abbrev st : ViewStands g dense w t s
-    st = turn.before
-
-    abbrev r : Rounding aggressive w v
-    r = turn.wrote
-
-    abbrev f : Found aggressive w v t turn.wrote
-    f = turn.found
-
-    abbrev L : List ℕ
-    L = gathered t turn.wrote.c
-
-    abbrev M : List ℕ
-    M = made aggressive t turn.wrote.c (gathered t turn.wrote.c)
-
-    abbrev new_lists : QuotientGraph
-    new_lists = lists_after turn
+    open turn use {before as st, wrote as r, found as f}
+    open parts turn use {L, M, new_lists}
 
     -- and they have the rows that they had
     pub kept_outside : (i : ℕ) → has L i ≡ true → (j : ℕ) → has (kept_variables aggressive t r.c L i) j ≡ true → (has t.placed j ≡ true)

@@ -13,8 +13,7 @@ use Rattle.amd_model.proofs.Quotient.Round.Rows.{placed_small}
 use Rattle.amd_round_laws.proofs.Round.Fronts.{border_is as border_rows, live_left as live_after, live_less, live_is as live_sum}
 use Rattle.amd_round_laws.proofs.Round.Fronts.{joined as joined_after, no_parent as no_parent_after, fronts_kept}
 use Rattle.amd_round_laws.proofs.Lists.Named.{not_empty}
-use Rattle.amd_round_laws.proofs.Rounding.{Rounding}
-use Rattle.amd_round_laws.proofs.Round.Turn.{Found, Turn, lists_after, model, new_fits, new_sound, state_after, step}
+use Rattle.amd_round_laws.proofs.Round.Turn.{Turn, model, new_fits, new_sound, step, parts}
 use Rattle.amd_round_laws.proofs.Round.Sizes.{size_kept, size_none}
 use Rattle.amd_round_laws.proofs.Round.NextLists.{elements_kept, members_kept, variables_kept}
 use Rattle.amd_round_laws.proofs.Round.Links.{links_kept}
@@ -24,20 +23,8 @@ use Rattle.amd_round_laws.proofs.Round.Bounds.{bound_kept, least_kept, small_kep
 module _ {g : Graph} {dense : ℕ → Bool} {aggressive : Bool} {w v : View} {t : QuotientGraph} {s : State}
     (turn : Turn g dense aggressive w v t s)
   where
-    abbrev st : ViewStands g dense w t s
-    st = turn.before
-
-    abbrev r : Rounding aggressive w v
-    r = turn.wrote
-
-    abbrev f : Found aggressive w v t turn.wrote
-    f = turn.found
-
-    abbrev new_state : State
-    new_state = state_after turn
-
-    abbrev new_lists : QuotientGraph
-    new_lists = lists_after turn
+    open turn use {before as st, wrote as r, found as f}
+    open parts turn use {new_state, new_lists}
 
     -- the record stands for the next lists, and for the state that the (step turn) leads to
     module _ (few : g.size < 2 ^ 64) where

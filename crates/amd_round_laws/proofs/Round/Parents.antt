@@ -1,5 +1,5 @@
 -- After a round the parents of elements are those of the rules.
-use Rattle.std.proofs.Common.{ℕ, Bool, true, false, None, Some, List, ◌≡◌, ◌∙◌, ◌&&◌}
+use Rattle.std.proofs.Common.{ℕ, Bool, true, false, None, Some, ◌≡◌, ◌∙◌, ◌&&◌}
 use Rattle.std.proofs.Common.{cond, ap, sym, inl, inr}
 use Rattle.std.specs.Prelude.{◌==◌}
 use Rattle.std.proofs.lemmas.Bool.{cases_Bool, cases_eq, cond-true, cond-false, or_cases}
@@ -7,32 +7,18 @@ use Rattle.std.proofs.lemmas.Bool.{and_parts, eq-eqb, ne_eqb}
 use Rattle.amd_model.specs.Graph.{Graph}
 use Rattle.amd_model.specs.State.{State, front, holds, stands, inside}
 use Rattle.amd_model.specs.Step.{absorbed}
-use Rattle.amd_model.specs.Quotient.{QuotientGraph, gathered, absorbed as absorbed_listed}
+use Rattle.amd_model.specs.Quotient.{QuotientGraph, absorbed as absorbed_listed}
 use Rattle.amd_model.specs.Quotient.{round}
 use Rattle.amd_model.proofs.States.Words.{live_from, holds_gives, stands_gives}
 use Rattle.amd_model.proofs.Quotient.Round.Front.{absorbed_is}
-use Rattle.amd_round_laws.specs.Keeps.{ViewStands}
 use Rattle.amd_round_laws.specs.Views.{View}
-use Rattle.amd_round_laws.proofs.Rounding.{Rounding}
-use Rattle.amd_round_laws.proofs.Round.Turn.{Found, Turn, class_of, lists_after, model}
+use Rattle.amd_round_laws.proofs.Round.Turn.{Turn, class_of, model, parts}
 
 module _ {g : Graph} {dense : ℕ → Bool} {aggressive : Bool} {w v : View} {t : QuotientGraph} {s : State}
     (turn : Turn g dense aggressive w v t s)
   where
-    abbrev st : ViewStands g dense w t s
-    st = turn.before
-
-    abbrev r : Rounding aggressive w v
-    r = turn.wrote
-
-    abbrev f : Found aggressive w v t turn.wrote
-    f = turn.found
-
-    abbrev L : List ℕ
-    L = gathered t turn.wrote.c
-
-    abbrev new_lists : QuotientGraph
-    new_lists = lists_after turn
+    open turn use {before as st, wrote as r, found as f}
+    open parts turn use {L, new_lists}
 
     taken_is : (e : ℕ) → absorbed_listed aggressive t r.c L e ≡ absorbed g aggressive s r.c e
     taken_is e = absorbed_is (model turn) e

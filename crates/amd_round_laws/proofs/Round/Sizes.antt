@@ -8,59 +8,24 @@ use Rattle.std.proofs.lemmas.Bool.{and_parts, and_left, eq-eqb, ne_eqb, lt-ltb, 
 use Rattle.std.specs.Cmp.{both_ways}
 use Rattle.amd_model.specs.Graph.{Graph}
 use Rattle.amd_model.specs.State.{State}
-use Rattle.amd_model.specs.Quotient.{QuotientGraph, has, gathered, mass as mass_listed, border_of}
-use Rattle.amd_model.specs.Quotient.{represents, made, ends, new_size, round}
+use Rattle.amd_model.specs.Quotient.{QuotientGraph, has, mass as mass_listed}
+use Rattle.amd_model.specs.Quotient.{represents, ends, new_size, round}
 use Rattle.amd_model.proofs.Quotient.Lists.{has_append, has_filter}
 use Rattle.amd_model.proofs.Listings.Words.{has_filter as filter_gives, has_right}
 use Rattle.amd_model.proofs.Counting.Below.{clash}
 use Rattle.amd_round_laws.specs.Views.{live_of}
 use Rattle.amd_round_laws.specs.Rounds.{keeps_nothing as mass_viewed}
-use Rattle.amd_round_laws.specs.Keeps.{ViewStands}
 use Rattle.amd_round_laws.specs.Views.{View}
 use Rattle.amd_round_laws.proofs.Lists.Named.{filter_named, sum_named, filter_both}
-use Rattle.amd_round_laws.proofs.Rounding.{Rounding}
 use Rattle.amd_round_laws.proofs.Fronts.Gathered.{placed_rows}
-use Rattle.amd_round_laws.proofs.Round.Turn.{
-  Found,
-  Turn,
-  front_placed,
-  in_front,
-  in_left,
-  in_rest,
-  lists_after,
-  made_front,
-  made_rest,
-  new_fits,
-}
+use Rattle.amd_round_laws.proofs.Round.Turn.{parts, Turn, front_placed, in_front, in_left, in_rest, made_front, made_rest, new_fits}
 use Rattle.amd_round_laws.proofs.Round.Turn.{new_sound, none_kept, not_c, outside_rest, rest_front, rest_keeps, rest_made}
-use Rattle.amd_round_laws.proofs.Round.Turn.{state_after}
 
 module _ {g : Graph} {dense : ℕ → Bool} {aggressive : Bool} {w v : View} {t : QuotientGraph} {s : State}
     (turn : Turn g dense aggressive w v t s)
   where
-    abbrev st : ViewStands g dense w t s
-    st = turn.before
-
-    abbrev r : Rounding aggressive w v
-    r = turn.wrote
-
-    abbrev f : Found aggressive w v t turn.wrote
-    f = turn.found
-
-    abbrev L : List ℕ
-    L = gathered t turn.wrote.c
-
-    abbrev R : List ℕ
-    R = border_of aggressive t turn.wrote.c (gathered t turn.wrote.c)
-
-    abbrev M : List ℕ
-    M = made aggressive t turn.wrote.c (gathered t turn.wrote.c)
-
-    abbrev new_state : State
-    new_state = state_after turn
-
-    abbrev new_lists : QuotientGraph
-    new_lists = lists_after turn
+    open turn use {before as st, wrote as r, found as f}
+    open parts turn use {L, R, M, new_state, new_lists}
 
     retired_rest : (j : ℕ) → has R j ≡ true → r.retired j ≡ t.size j
     retired_rest j h = r.retired_is j

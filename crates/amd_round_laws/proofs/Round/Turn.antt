@@ -70,23 +70,7 @@ pub record Turn (g : Graph) (dense : ℕ → Bool) (aggressive : Bool) (w v : Vi
 module _ {g : Graph} {dense : ℕ → Bool} {aggressive : Bool} {w v : View} {t : QuotientGraph} {s : State}
     (turn : Turn g dense aggressive w v t s)
   where
-    abbrev st : ViewStands g dense w t s
-    st = turn.before
-
-    abbrev r : Rounding aggressive w v
-    r = turn.wrote
-
-    abbrev f : Found aggressive w v t turn.wrote
-    f = turn.found
-
-    abbrev L : List ℕ
-    L = gathered t turn.wrote.c
-
-    abbrev R : List ℕ
-    R = border_of aggressive t turn.wrote.c (gathered t turn.wrote.c)
-
-    abbrev M : List ℕ
-    M = made aggressive t turn.wrote.c (gathered t turn.wrote.c)
+    open turn use {before as st, wrote as r, found as f}
 
     pub class_of : (i : ℕ) → has t.placed i ≡ true → s.home i ≡ Live i
     class_of i h = class_gives i (s.home i) (sym (st.fits.placed i) ∙ h)
@@ -103,6 +87,18 @@ module _ {g : Graph} {dense : ℕ → Bool} {aggressive : Bool} {w v : View} {t 
 
     abbrev pub lists_after : QuotientGraph
     lists_after = round aggressive t r.c (gathered t r.c)
+
+    -- the front, what is left of it, the classes made of that, and the lists and the state after the round
+    abbrev pub parts : record { L : List ℕ; R : List ℕ; M : List ℕ; new_lists : QuotientGraph; new_state : State }
+    parts = record {
+      L = gathered t turn.wrote.c;
+      R = border_of aggressive t turn.wrote.c (gathered t turn.wrote.c);
+      M = made aggressive t turn.wrote.c (gathered t turn.wrote.c);
+      new_lists = lists_after;
+      new_state = state_after;
+    }
+
+    open parts use {L, R, M}
 
     pub step : StepAt g aggressive r.c s state_after
     step = step_after model
