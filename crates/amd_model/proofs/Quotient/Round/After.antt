@@ -35,6 +35,10 @@ module _ {g : Graph} {aggressive : Bool} {t : QuotientGraph} {s : State} {c : �
   abbrev pub lists_after : QuotientGraph
   lists_after = round aggressive t c L
 
+  -- the front of the round, and the state, the step and the lists that come of it
+  abbrev pub parts : record { L : List ℕ; new : State; step : StepAt g aggressive c s state_after; now : QuotientGraph }
+  parts = record { L = L; new = state_after; step = step_after; now = lists_after }
+
   pub fate_of : (v : ℕ) → Fate g laws aggressive c s state_after sound step_after v
   fate_of v = fate g laws aggressive c s state_after sound step_after v
 

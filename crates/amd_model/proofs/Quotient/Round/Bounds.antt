@@ -7,7 +7,7 @@ use Rattle.std.specs.Cmp.{both_ways}
 use Rattle.amd_model.specs.Below.{any_below, count_below, sum_below}
 use Rattle.amd_model.specs.Graph.{Graph}
 use Rattle.amd_model.specs.State.{State, Live, live, in_class, stands, holds, front}
-use Rattle.amd_model.specs.Step.{StepAt, other, outer, border_of, outside, beyond, new_bound}
+use Rattle.amd_model.specs.Step.{other, outer, border_of, outside, beyond, new_bound}
 use Rattle.amd_model.specs.Quotient.{QuotientGraph, has, new_size, outside as outside_listed, left, new_bound as new_bound_listed, round}
 use Rattle.amd_model.proofs.Counting.Below.{any_gives, any_from, sum_same, count_same, count_split, clash}
 use Rattle.amd_model.proofs.States.Words.{class_gives, class_from, live_gives, holds_gives, neighbours_gives, live_from}
@@ -17,29 +17,18 @@ use Rattle.amd_model.proofs.States.NewParts.{holds_new}
 use Rattle.amd_model.proofs.States.Steps.{outer_parts, other_gives}
 use Rattle.amd_model.proofs.Quotient.Sums.{named, named_gives, named_from, class_sum, sum_over}
 use Rattle.amd_model.proofs.Quotient.Lists.{has_filter, once_filter}
-use Rattle.amd_model.proofs.Quotient.Round.RoundAt.{RoundAt, front_list, border_list, made_list, elements_kept, variables_kept}
+use Rattle.amd_model.proofs.Quotient.Round.RoundAt.{RoundAt, border_list, made_list, elements_kept, variables_kept}
 use Rattle.amd_model.proofs.Quotient.Round.RoundAt.{representative}
 use Rattle.amd_model.proofs.Quotient.Round.Front.{row_front}
 use Rattle.amd_model.proofs.Quotient.Round.Kept.{elements_left, variables_left, variables_kept_once, elements_kept_once}
-use Rattle.amd_model.proofs.Quotient.Round.After.{state_after, step_after, lists_after, fate_of, class_before, moved_to, made_from}
+use Rattle.amd_model.proofs.Quotient.Round.After.{parts, fate_of, class_before, moved_to, made_from}
 use Rattle.amd_model.proofs.Quotient.Round.After.{border_front, not_made}
 use Rattle.amd_model.proofs.Quotient.Round.NextLists.{other_apart}
 use Rattle.amd_model.proofs.Quotient.Round.Sizes.{border_named, border_sum, size_is}
 
 module _ {g : Graph} {aggressive : Bool} {t : QuotientGraph} {s : State} {c : ℕ} (this : RoundAt g aggressive t s c) where
   open this use {laws, sound, fits}
-
-  abbrev L : List ℕ
-  L = front_list this
-
-  abbrev new : State
-  new = state_after this
-
-  abbrev step : StepAt g aggressive c s (state_after this)
-  step = step_after this
-
-  abbrev now : QuotientGraph
-  now = lists_after this
+  open parts this use {L, new, step, now}
 
   -- the rows of an element outside L
   beyond_is : (e : ℕ) → stands g s e ≡ true → sum_by t.size (filter (λ j. not (has L j)) (t.members e)) ≡ beyond g s c e

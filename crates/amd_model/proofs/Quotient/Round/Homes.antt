@@ -1,5 +1,5 @@
 -- Where rows are after a round, and the parents of elements.
-use Rattle.std.proofs.Common.{ℕ, Bool, true, false, ◌≡◌, ◌≢◌, ◌&&◌, ◌||◌, not, cond, ◌⊎◌, inl, inr, refl, sym, ◌∙◌, ap, List}
+use Rattle.std.proofs.Common.{ℕ, Bool, true, false, ◌≡◌, ◌≢◌, ◌&&◌, ◌||◌, not, cond, ◌⊎◌, inl, inr, refl, sym, ◌∙◌, ap}
 use Rattle.std.specs.Prelude.{◌==◌, None, Some}
 use Rattle.std.proofs.lemmas.Bool.{cases_Bool, and_parts, and_from, or_left, or_right, or_from, eq-eqb, ne_eqb, cond-true, cond-false}
 use Rattle.std.proofs.lemmas.Bool.{not-true, and_left, and_right}
@@ -13,24 +13,16 @@ use Rattle.amd_model.proofs.States.SoundStep.{goes, moves, stays}
 use Rattle.amd_model.proofs.States.Steps.{mass_gives, block_cases, border_whole}
 use Rattle.amd_model.proofs.Quotient.Sums.{home_cases}
 use Rattle.amd_model.proofs.Quotient.Lists.{has_filter}
-use Rattle.amd_model.proofs.Quotient.Round.RoundAt.{RoundAt, front_list, border_list, representative, keeps_none, pivot_live}
+use Rattle.amd_model.proofs.Quotient.Round.RoundAt.{RoundAt, border_list, representative, keeps_none, pivot_live}
 use Rattle.amd_model.proofs.Quotient.Round.Front.{class_front, row_front, absorbed_is}
 use Rattle.amd_model.proofs.Quotient.Round.Kept.{mass_is}
 use Rattle.amd_model.proofs.Quotient.Round.Border.{border_is}
-use Rattle.amd_model.proofs.Quotient.Round.After.{state_after, lists_after, fate_of, moved_to, border_front}
+use Rattle.amd_model.proofs.Quotient.Round.After.{parts, state_after, fate_of, moved_to, border_front}
 use Rattle.amd_model.proofs.Counting.Below.{clash}
 
 module _ {g : Graph} {aggressive : Bool} {t : QuotientGraph} {s : State} {c : ℕ} (this : RoundAt g aggressive t s c) where
   open this use {laws, sound, fits}
-
-  abbrev L : List ℕ
-  L = front_list this
-
-  abbrev new : State
-  new = state_after this
-
-  abbrev now : QuotientGraph
-  now = lists_after this
+  open parts this use {L, new, now}
 
   pub parent_after : (e : ℕ) → now.parent e ≡ new.parent e
   unfolding round state_after next_state unbounded

@@ -7,7 +7,7 @@ use Rattle.std.proofs.lemmas.Bool.{and_cases, cond_both}
 use Rattle.std.specs.Cmp.{both_ways}
 use Rattle.amd_model.specs.Graph.{Graph}
 use Rattle.amd_model.specs.State.{State, Live, is_class, holds, neighbours}
-use Rattle.amd_model.specs.Step.{StepAt, absorbed, other, outer, border_of}
+use Rattle.amd_model.specs.Step.{absorbed, other, outer, border_of}
 use Rattle.amd_model.specs.Quotient.{QuotientGraph, has, turned, kept_elements, kept_variables, border_of as border_of_listed, made, round}
 use Rattle.amd_model.specs.Quotient.{Once}
 use Rattle.amd_model.proofs.States.Words.{class_gives, class_from, holds_gives, neighbours_gives}
@@ -16,28 +16,17 @@ use Rattle.amd_model.proofs.States.SoundStep.{other_not_pivot}
 use Rattle.amd_model.proofs.States.NewParts.{holds_new, neighbours_new}
 use Rattle.amd_model.proofs.States.Steps.{outer_parts, outer_from, other_gives, other_from, absorbed_border, no_border}
 use Rattle.amd_model.proofs.Quotient.Lists.{has_append, has_turned, has_filter, once_append, once_filter, once_turned}
-use Rattle.amd_model.proofs.Quotient.Round.RoundAt.{RoundAt, front_list, border_list, made_list, elements_kept, variables_kept}
+use Rattle.amd_model.proofs.Quotient.Round.RoundAt.{RoundAt, border_list, made_list, elements_kept, variables_kept}
 use Rattle.amd_model.proofs.Quotient.Round.RoundAt.{representative, keeps_none, taken, ended, outside_pivot}
 use Rattle.amd_model.proofs.Quotient.Round.Front.{class_front, front_once, absorbed_is}
 use Rattle.amd_model.proofs.Quotient.Round.Kept.{elements_left, variables_left}
-use Rattle.amd_model.proofs.Quotient.Round.After.{state_after, step_after, lists_after, class_before, made_from, made_class, border_front}
+use Rattle.amd_model.proofs.Quotient.Round.After.{parts, class_before, made_from, made_class, border_front}
 use Rattle.amd_model.proofs.Quotient.Round.After.{out_of, kept_class, class_not_ended, not_ended_class, not_made}
 use Rattle.amd_model.proofs.Counting.Below.{clash}
 
 module _ {g : Graph} {aggressive : Bool} {t : QuotientGraph} {s : State} {c : ℕ} (this : RoundAt g aggressive t s c) where
   open this use {laws, sound, fits}
-
-  abbrev L : List ℕ
-  L = front_list this
-
-  abbrev new : State
-  new = state_after this
-
-  abbrev step : StepAt g aggressive c s (state_after this)
-  step = step_after this
-
-  abbrev now : QuotientGraph
-  now = lists_after this
+  open parts this use {L, new, step, now}
 
   pub placed_after : (i : ℕ) → has now.placed i ≡ is_class new i
   unfolding round

@@ -1,13 +1,13 @@
 -- The rows of a round: of the front, the block, the border, and those that are left.
 use Rattle.std.proofs.Common.{ℕ, Bool, ◌≡◌, ◌≢◌, ◌<◌, ◌≤◌, ◌+◌, ◌-◌, ◌&&◌, not, inl, inr}
-use Rattle.std.proofs.Common.{sym, ◌∙◌, arith, List}
+use Rattle.std.proofs.Common.{sym, ◌∙◌, arith}
 use Rattle.std.specs.Prelude.{sum_by}
 use Rattle.std.specs.Cmp.{both_ways}
 use Rattle.std.proofs.lemmas.Bool.{cases_Bool, and_parts, and_from, not_from_false}
 use Rattle.amd_model.specs.Below.{count_below}
 use Rattle.amd_model.specs.Graph.{Graph}
 use Rattle.amd_model.specs.State.{State, Gone, live, in_class, in_block, front}
-use Rattle.amd_model.specs.Step.{StepAt, block, border_of}
+use Rattle.amd_model.specs.Step.{block, border_of}
 use Rattle.amd_model.specs.Sound.{IsSound}
 use Rattle.amd_model.specs.Quotient.{QuotientGraph, Fits, left}
 use Rattle.amd_model.proofs.Counting.Below.{clash, count_same, count_split, count_mono, count_most, count_pos}
@@ -17,9 +17,9 @@ use Rattle.amd_model.proofs.States.Steps.{block_pivot}
 use Rattle.amd_model.proofs.States.SoundStep.{step_sound}
 use Rattle.amd_model.proofs.States.StepFronts.{block_new, border_new, block_parts, live_parts}
 use Rattle.amd_model.proofs.Quotient.Sums.{named, named_gives, named_from, class_sum}
-use Rattle.amd_model.proofs.Quotient.Round.RoundAt.{RoundAt, front_list, border_list, pivot_live}
+use Rattle.amd_model.proofs.Quotient.Round.RoundAt.{RoundAt, border_list, pivot_live}
 use Rattle.amd_model.proofs.Quotient.Round.Front.{front_class, row_front, front_once}
-use Rattle.amd_model.proofs.Quotient.Round.After.{state_after, step_after, lists_after}
+use Rattle.amd_model.proofs.Quotient.Round.After.{parts}
 use Rattle.amd_model.proofs.Quotient.Round.Sizes.{border_sum}
 use Rattle.amd_model.proofs.Quotient.Round.Bounds.{live_is}
 use Rattle.amd_model.proofs.Quotient.Round.IsStep.{fits_after}
@@ -39,18 +39,7 @@ module _ {g : Graph} {t : QuotientGraph} {s : State} (sound : IsSound g s) (fits
 
 module _ {g : Graph} {aggressive : Bool} {t : QuotientGraph} {s : State} {c : ℕ} (this : RoundAt g aggressive t s c) where
   open this use {laws, sound, fits}
-
-  abbrev L : List ℕ
-  L = front_list this
-
-  abbrev new : State
-  new = state_after this
-
-  abbrev step : StepAt g aggressive c s (state_after this)
-  step = step_after this
-
-  abbrev now : QuotientGraph
-  now = lists_after this
+  open parts this use {L, new, step, now}
 
   pub size_rows : t.size c ≡ count_below g.size (in_class s c)
   size_rows = fits.size c (pivot_live this)

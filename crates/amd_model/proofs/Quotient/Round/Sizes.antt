@@ -6,7 +6,7 @@ use Rattle.std.specs.Cmp.{both_ways}
 use Rattle.amd_model.specs.Below.{count_below}
 use Rattle.amd_model.specs.Graph.{Graph}
 use Rattle.amd_model.specs.State.{State, Live, in_class}
-use Rattle.amd_model.specs.Step.{StepAt, border_of}
+use Rattle.amd_model.specs.Step.{border_of}
 use Rattle.amd_model.specs.Quotient.{QuotientGraph, has, border_of as border_of_listed, new_size, round, Once}
 use Rattle.amd_model.proofs.Counting.Below.{count_same, clash}
 use Rattle.amd_model.proofs.States.Words.{class_gives, class_from, live_gives}
@@ -14,27 +14,16 @@ use Rattle.amd_model.proofs.States.Sound.{front_live}
 use Rattle.amd_model.proofs.States.SoundStep.{goes, moves, stays, class_border}
 use Rattle.amd_model.proofs.Quotient.Sums.{named, named_gives, named_from, class_sum}
 use Rattle.amd_model.proofs.Quotient.Lists.{has_filter, once_filter}
-use Rattle.amd_model.proofs.Quotient.Round.RoundAt.{RoundAt, front_list, border_list, made_list, representative, keeps_none}
+use Rattle.amd_model.proofs.Quotient.Round.RoundAt.{RoundAt, border_list, made_list, representative, keeps_none}
 use Rattle.amd_model.proofs.Quotient.Round.Front.{row_front, front_once}
 use Rattle.amd_model.proofs.Quotient.Round.Border.{border_is, border_class}
-use Rattle.amd_model.proofs.Quotient.Round.After.{state_after, step_after, lists_after, fate_of, class_before, moved_to, made_from}
+use Rattle.amd_model.proofs.Quotient.Round.After.{parts, fate_of, class_before, moved_to, made_from}
 use Rattle.amd_model.proofs.Quotient.Round.After.{border_front, out_of, not_made}
 use Rattle.amd_model.proofs.Quotient.Round.Homes.{class_on_border, row_on_border}
 
 module _ {g : Graph} {aggressive : Bool} {t : QuotientGraph} {s : State} {c : ℕ} (this : RoundAt g aggressive t s c) where
   open this use {laws, sound, fits}
-
-  abbrev L : List ℕ
-  L = front_list this
-
-  abbrev new : State
-  new = state_after this
-
-  abbrev step : StepAt g aggressive c s (state_after this)
-  step = step_after this
-
-  abbrev now : QuotientGraph
-  now = lists_after this
+  open parts this use {L, new, step, now}
 
   -- the rows of S
   pub border_named : (v : ℕ) → named (border_list this) (s.home v) ≡ border_of g aggressive s c v
