@@ -2,6 +2,7 @@ pub mod Places
 pub mod Forms
 pub mod Reading
 pub mod Scans
+pub mod NextRows
 pub mod Uppers
 pub mod Ends
 pub mod Arcs

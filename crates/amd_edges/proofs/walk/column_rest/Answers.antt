@@ -1,6 +1,6 @@
 -- The lower entries that were not read yet reach to the end of the column, and each row is below the size.
 use Rattle.std.proofs.Common.{◌≡◌, ◌+◌, ◌<◌, ◌≤◌, ◌++◌, ◌^◌, suc, arith, map}
-use Rattle.std.proofs.Common.{get_or, set, ap, sym, refl, ◌∙◌, subst, subst₂, le_refl, le_of_eq, lt_irrefl, le_trans}
+use Rattle.std.proofs.Common.{get_or, set, ap, sym, refl, ◌∙◌, subst, subst₂, le_refl, le_of_eq, lt_irrefl, le_trans, ℕ, List}
 use Rattle.std.proofs.lemmas.List.{length-map}
 use Rattle.std.proofs.lemmas.Grind.{get_or_default_zero}
 use Rattle.amd_types.specs.Counts.{counts, count_graph, is_entry}
@@ -8,8 +8,9 @@ use Rattle.amd_edges.specs.Visits.{arcs_of}
 use Rattle.amd_edges.specs.Walk.{IsScan, met}
 use Rattle.amd_edges.proofs.Orders.{met_above, above_start, above_push, above_end}
 use Rattle.amd_edges.proofs.Forms.{pointer_fits, row_fits, place_in, sorted_form}
-use Rattle.amd_edges.proofs.Reading.{row_from, before_end, past_end, reading_start, reading_next, reading_behind, row_in}
-use Rattle.amd_edges.proofs.Scans.{met_still, lower_new, lower_after, lower_end, lower_behind}
+use Rattle.amd_edges.proofs.Reading.{row_from, before_end, past_end, reading_start, reading_next, reading_behind, row_in, IsReading}
+use Rattle.amd_edges.proofs.Scans.{met_still, lower_end, lower_behind}
+use Rattle.amd_edges.proofs.NextRows.{next_row}
 use Rattle.amd_edges.proofs.walk.column_rest.Goals as goal
 
 pub count_at-end-requires-clause-fits : goal.count_at-end-requires-clause-fits
@@ -47,15 +48,12 @@ rows-init g c =
 
 pub edge-mark-requires : goal.edge-mark-requires
 edge-mark-requires g c =
-    let v = c.rows.invariant.1 in let i = v.place in let r = c.requires in
-    let n = c.args.size in let j = c.args.j in let q = c.rows.place in let t = c.args.next.now.items in
-    let ap' = counts (map g.I.Index.value c.args.a_p.now) in let ai = counts (map g.I.Index.value c.args.a_i.now) in
-    let form = sorted_form n (map g.I.Index.value c.args.a_p.now) (map g.I.Index.value c.args.a_i.now) r.form r.sorted in
-    let row = c.count_at.result in let same = c.count_at.ensures.count in
-    let inside = before_end c.count_at-end.ensures.count c.rows-test.true in
-    let below = row_in form r.scan r.row r.row i.from inside same in
-    let new = lower_new n ap' ai form t n j q r.scan r.row (le_refl n) i.from row same inside below in
-    (_, _, _, v.held _ r.held.1, new)
+    let v = c.rows.invariant.1 in let r = c.requires in let same = c.count_at.ensures.count in
+    let form = sorted_form c.args.size (map g.I.Index.value c.args.a_p.now) (map g.I.Index.value c.args.a_i.now) r.form r.sorted in
+    let below = row_in form r.scan r.row r.row v.place.from (before_end c.count_at-end.ensures.count c.rows-test.true) same in
+    let next = next_row r.form r.sorted r.row (le_refl c.args.size) r.scan c.count_at-end.ensures.count v.place same same
+    c.rows-test.true below in
+    (_, _, _, v.held _ r.held.1, next.new)
 
 pub rows-preserved : goal.rows-preserved
 rows-preserved g c =
@@ -64,22 +62,23 @@ rows-preserved g c =
     let ap' = counts (map g.I.Index.value c.args.a_p.now) in let ai = counts (map g.I.Index.value c.args.a_i.now) in
     let form = sorted_form n (map g.I.Index.value c.args.a_p.now) (map g.I.Index.value c.args.a_i.now) r.form r.sorted in
     let row = c.count_at.result in let same = c.count_at.ensures.count in
-    let inside = before_end c.count_at-end.ensures.count c.rows-test.true in
-    let below = row_in form r.scan r.row r.row i.from inside same in
-    let new = lower_new n ap' ai form t n j q r.scan r.row (le_refl n) i.from row same inside below in
-    let after = lower_after n ap' ai form t n j q r.scan r.row (le_refl n) i.from row same inside below in
-    let least = row_from (sym same) (i.left q (le_refl q) c.rows-test.true) in (
+    let below = row_in form r.scan r.row r.row i.from (before_end c.count_at-end.ensures.count c.rows-test.true) same in
+    let next = next_row r.form r.sorted r.row (le_refl n) r.scan c.count_at-end.ensures.count i same same c.rows-test.true below in (
       row + 1,
       record {
         place = reading_next n ap' ai form j (get_or t j 0) c.count_at-end.result n b q row r.row (r.scan.start j r.row r.row)
             c.count_at-end.ensures.count i same c.rows-test.true below;
         kept = c.edge-mark.ensures.kept ∙ v.kept;
-        held = λ arcs h. subst₂ (λ s l. g.V.Visitor.runs (count_graph n ap' ai) s l j c.edge-mark.result c.edge-mark.new.self) after
-            (above_push n ap' ai form t n j q r.scan r.row (le_refl n) i.from b i.read row same inside least arcs)
+        held = λ arcs h. subst₂ (λ s l. g.V.Visitor.runs (count_graph n ap' ai) s l j c.edge-mark.result c.edge-mark.new.self) next.after
+            (above_push n ap' ai form t n j q r.scan r.row (le_refl n) i.from b i.read row same next.inside next.least arcs)
             (c.edge-mark.ensures.held (count_graph n ap' ai) (met n ap' ai (set t j q) n (j + 1))
-            (arcs ++ arcs_of (met_above (is_entry n ap' ai) n j b)) (v.held arcs h) new);
+            (arcs ++ arcs_of (met_above (is_entry n ap' ai) n j b)) (v.held arcs h) next.new);
       },
     )
+
+-- a place that is not before the end of what was to be read is that end
+reading_end : {ai : List ℕ} {start end k m p : ℕ} → IsReading ai start end k m p → end ≤ p → p ≡ end
+reading_end so past = let to = so.to in omega (arith, past, to)
 
 pub returns-clause-scan : goal.returns-clause-scan
 returns-clause-scan g c =
@@ -87,9 +86,7 @@ returns-clause-scan g c =
     let n = c.args.size in let j = c.args.j in let q = c.rows.place in let t = c.args.next.now.items in
     let ap' = counts (map g.I.Index.value c.args.a_p.now) in let ai = counts (map g.I.Index.value c.args.a_i.now) in
     let form = sorted_form n (map g.I.Index.value c.args.a_p.now) (map g.I.Index.value c.args.a_i.now) r.form r.sorted in
-    let ends = c.count_at-end.ensures.count in
-    let past : c.count_at-end.result ≤ q = (let a = c.rows-test.false in omega (arith, a)) in
-    let end : q ≡ c.count_at-end.result = (let to = i.to in omega (arith, past, to)) in
+    let ends = c.count_at-end.ensures.count in let past = c.rows-test.false in let end = reading_end i past in
     subst (λ x. IsScan n ap' ai (set t j x) n (j + 1)) end
     (lower_end n ap' ai form t n j q r.scan r.row (le_refl n) i.from (le_trans i.to (le_of_eq ends)) (λ x. absurd (lt_irrefl n x))
     (reading_behind i)
@@ -101,9 +98,7 @@ returns-clause-held g c =
     let n = c.args.size in let j = c.args.j in let q = c.rows.place in let t = c.args.next.now.items in
     let ap' = counts (map g.I.Index.value c.args.a_p.now) in let ai = counts (map g.I.Index.value c.args.a_i.now) in
     let form = sorted_form n (map g.I.Index.value c.args.a_p.now) (map g.I.Index.value c.args.a_i.now) r.form r.sorted in
-    let ends = c.count_at-end.ensures.count in
-    let past : c.count_at-end.result ≤ q = (let a = c.rows-test.false in omega (arith, a)) in
-    let end : q ≡ c.count_at-end.result = (let to = i.to in omega (arith, past, to)) in
+    let ends = c.count_at-end.ensures.count in let past = c.rows-test.false in let end = reading_end i past in
     let left = lower_behind n ap' ai form t n j q r.scan r.row (le_refl n) i.from n (λ inside. absurd (past_end ends past inside)) in
     let all = above_end n ap' ai form t n j q r.scan r.row (le_refl n) i.from b i.read i.low left in
     λ arcs h. subst₂ (λ x l. g.V.Visitor.holds (count_graph n ap' ai) (met n ap' ai (set t j x) n (j + 1)) l c.end.new.self)

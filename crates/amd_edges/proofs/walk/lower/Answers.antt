@@ -1,17 +1,17 @@
-use Rattle.std.proofs.Common.{◌≡◌, ◌+◌, ◌<◌, ◌≤◌, ◌++◌, ◌^◌, ℕ, ℤ, List, suc, pos, arith, map}
-use Rattle.std.proofs.Common.{get_or, set, ap, sym, refl, ◌∙◌, subst, subst₂, le_refl, le_trans}
+use Rattle.std.proofs.Common.{◌≡◌, ◌+◌, ◌<◌, ◌≤◌, ◌++◌, ◌^◌, ℕ, suc, arith, map}
+use Rattle.std.proofs.Common.{get_or, set, ap, sym, refl, ◌∙◌, subst, subst₂, le_trans}
 use Rattle.std.proofs.Common.{le_of_eq, lt_of_lt_of_le}
 use Rattle.std.proofs.lemmas.List.{length-map}
 use Rattle.std.proofs.lemmas.Grind.{get_or_default_zero}
-use Rattle.amd_model.specs.Input.Columns.{IsColumnForm, IsSorted}
 use Rattle.amd_types.specs.Counts.{counts, count_graph, is_entry}
-use Rattle.amd_edges.specs.Visits.{arcs_of, with_arc, IsNewEdge}
+use Rattle.amd_edges.specs.Visits.{arcs_of}
 use Rattle.amd_edges.specs.Walk.{IsScan, met}
 use Rattle.amd_edges.proofs.Orders.{met_above, above_start, above_push, above_end}
 use Rattle.amd_edges.proofs.Forms.{pointer_fits, row_fits, place_in, sorted_form}
-use Rattle.amd_edges.proofs.Reading.{row_below, row_from, before_end, past_end}
-use Rattle.amd_edges.proofs.Reading.{IsReading, reading_start, reading_next, reading_behind, reading_behind_next}
-use Rattle.amd_edges.proofs.Scans.{met_still, lower_new, lower_after, lower_mirror, lower_end, lower_behind, lower_next}
+use Rattle.amd_edges.proofs.Reading.{row_from, before_end, past_end}
+use Rattle.amd_edges.proofs.Reading.{reading_start, reading_next, reading_behind, reading_behind_next}
+use Rattle.amd_edges.proofs.Scans.{met_still, lower_mirror, lower_end, lower_behind, lower_next}
+use Rattle.amd_edges.proofs.NextRows.{next_row}
 use Rattle.amd_edges.proofs.walk.lower.Goals as goal
 use Rattle.amd_edges.proofs.walk.lower.Goals.{then-place-end+then-count_at-k-2, else-place-end}
 use Rattle.amd_edges.proofs.walk.lower.Goals.{else-place-end-via-then-place-end+else-count_at-k-2, else-place-end-via-else-place-end}
@@ -77,29 +77,6 @@ rows-init g c =
 
 pub begin-mark-requires : goal.begin-mark-requires
 begin-mark-requires g c = let r = c.requires in (_, _, r.held.0, r.held.1, lt_of_lt_of_le r.before r.k_in)
-
--- the next row above k: its edge is new, it is met with it, and no row between was left out
-record IsNextRow (n : ℕ) (ap' ai t : List ℕ) (k j q b row : ℕ) : Type 0 where
-  below : row < k
-  new : IsNewEdge (count_graph n ap' ai) (met n ap' ai (set t j q) k (j + 1)) row j
-  after : with_arc (with_arc (met n ap' ai (set t j q) k (j + 1)) row j) j row ≡ met n ap' ai (set t j (q + 1)) k (j + 1)
-  inside : q < get_or ap' (j + 1) 0
-  least : b ≤ row
-
--- the row at the place, read twice, is the next one
-module _ {n k j b end q first row : ℕ} {ap' ai : List ℤ} {t : List ℕ} (form : IsColumnForm (pos n) n ap' ai) (sorted : IsSorted n ap' ai)
-    (before : j < k) (k_in : k ≤ n) (scan : IsScan n (counts ap') (counts ai) t k j) (end_is : end ≡ get_or (counts ap') (j + 1) 0)
-    (so : IsReading (counts ai) (get_or t j 0) end k b q) (first_is : first ≡ get_or (counts ai) q 0)
-    (is : row ≡ get_or (counts ai) q 0) (inside : q < end) (below : first < k) where
-  next_row : IsNextRow n (counts ap') (counts ai) t k j q b row
-  next_row = let rising = sorted_form n ap' ai form sorted in let to = before_end end_is inside in
-      let low = row_below first_is is below in record {
-        below = low;
-        new = lower_new n (counts ap') (counts ai) rising t k j q scan before k_in so.from row is to low;
-        after = lower_after n (counts ap') (counts ai) rising t k j q scan before k_in so.from row is to low;
-        inside = to;
-        least = row_from (sym is) (so.left q (le_refl q) inside);
-      }
 
 pub edge-mark-requires : goal.edge-mark-requires
 edge-mark-requires g c =
