@@ -58,6 +58,12 @@ appended next lent_next iw lent_iw new_iw i j count next_is iw_is new long =
     (new ∙ ap (λ xs. set lent_iw (get_or xs i 0) (pos j)) next_is ∙ ap (λ xs. set xs (get_or next i 0) (pos j)) iw_is)
     (length-set iw (get_or next i 0) (pos j) ∙ long)
 
+-- the places of a vector, when that behind a list moved on
+pub moved_on : (next lent new : List ℕ) (i count : ℕ) → lent ≡ next → new ≡ set lent i (get_or lent i 0 + 1) → length next ≡ count →
+    take count (new ++ drop (length new) next) ≡ set next i (get_or next i 0 + 1)
+moved_on next lent new i count same is long = written new (set next i (get_or next i 0 + 1)) (drop (length new) next) count
+    (is ∙ ap (λ xs. set xs i (get_or xs i 0 + 1)) same) (length-set next i (get_or next i 0 + 1) ∙ long)
+
 pub row_word : (n : ℕ) (x : ℤ) (j : ℕ) → x ≡ pos j → j < n → (is_place x ≡ true) × (place x < n)
 unfolding is_place place
 row_word n x j e l = rw e (refl, l)

@@ -1,8 +1,9 @@
 -- the goals of lower::push_column.
 use Rattle.std.proofs.Common.{◌≡◌, ◌+◌, ◌-◌, ◌<◌, ◌^◌, ◌++◌, ◌∷◌, [], arith, rules, map, take, drop, pos, ap, sym, ◌∙◌}
-use Rattle.std.proofs.Common.{append_assoc, length, w64}
+use Rattle.std.proofs.Common.{append_assoc, length, w64, ◌≤◌, ℕ, ℤ, List, get_or}
 use Rattle.std.proofs.lemmas.Int.{to_z_pos}
 use Rattle.std.proofs.lemmas.List.{length-map, length-append, length-take, append-nil}
+use Rattle.amd_model.specs.Input.Columns.{IsColumnForm, IsSorted}
 use Rattle.amd_types.specs.Counts.{counts}
 use Rattle.amd_edges.proofs.Forms.{sorted_form, pointer_read, row_read}
 use Rattle.amd_workspace.proofs.LowerColumns.{column_row, stretch_push}
@@ -27,24 +28,24 @@ count_at-requires g c = let p = row_read g.I.Index.value c.args.a_p.now c.args.a
     c.count_at-stop.result c.requires.row c.count_at-stop.ensures.count c.places-test.true c.ranges.size.fits in
     record { within = p.0; fits = p.1 }
 
+-- the row at the place is one of the matrix
+small_row : {n j first stop p row : ℕ} {ap' ai : List ℤ} → IsColumnForm (pos n) n ap' ai → IsSorted n ap' ai → j < n →
+    get_or (counts ap') j 0 ≤ first → first ≤ p → p < stop → stop ≡ get_or (counts ap') (j + 1) 0 → row ≡ get_or (counts ai) p 0 → row < n
+small_row {n} {j} {first} {stop} {p} {row} {ap'} {ai} form sorted j_in from low inside stop_is is =
+    column_row n (counts ap') (counts ai) (sorted_form n ap' ai form sorted) j first stop p row j_in from low inside stop_is is
+
 pub overflow_cast-count_at : goal.overflow_cast-count_at
 overflow_cast-count_at g c =
-    let ap' = map g.I.Index.value c.args.a_p.now in let ai = map g.I.Index.value c.args.a_i.now in
-    let small = column_row c.args.size (counts ap') (counts ai)
-    (sorted_form c.args.size ap' ai c.requires.form c.requires.sorted) c.args.j c.args.first c.count_at-stop.result c.places.place
-    c.count_at.result c.requires.row c.requires.from c.places.invariant.from c.places-test.true c.count_at-stop.ensures.count
+    let r = c.requires in let fits = r.fits in let n = g.met.S.Signed.narrow in
+    let small = small_row r.form r.sorted r.row r.from c.places.invariant.from c.places-test.true c.count_at-stop.ensures.count
     c.count_at.ensures.count in
-    let fits = c.requires.fits in let n = g.met.S.Signed.narrow in
     let low : c.count_at.result < 2 ^ 63 = omega (arith, small, fits, n) in search rules
 
 pub word_of-requires : goal.word_of-requires
 word_of-requires g c =
-    let ap' = map g.I.Index.value c.args.a_p.now in let ai = map g.I.Index.value c.args.a_i.now in
-    let small = column_row c.args.size (counts ap') (counts ai)
-    (sorted_form c.args.size ap' ai c.requires.form c.requires.sorted) c.args.j c.args.first c.count_at-stop.result c.places.place
-    c.count_at.result c.requires.row c.requires.from c.places.invariant.from c.places-test.true c.count_at-stop.ensures.count
+    let r = c.requires in let fits = r.fits in let n = g.met.S.Signed.narrow in
+    let small = small_row r.form r.sorted r.row r.from c.places.invariant.from c.places-test.true c.count_at-stop.ensures.count
     c.count_at.ensures.count in
-    let fits = c.requires.fits in let n = g.met.S.Signed.narrow in
     let low : c.count_at.result < 2 ^ 63 = omega (arith, small, fits, n) in
     let is = ap lib.IntN.nat_abs (to_z_pos w64 c.count_at.result low) in omega (arith, is, small, fits)
 
@@ -52,10 +53,9 @@ pub places-preserved : goal.places-preserved
 places-preserved g c =
     let ap' = map g.I.Index.value c.args.a_p.now in let ai = map g.I.Index.value c.args.a_i.now in
     let form = sorted_form c.args.size ap' ai c.requires.form c.requires.sorted in
-    let small = column_row c.args.size (counts ap') (counts ai) form c.args.j c.args.first c.count_at-stop.result c.places.place
-    c.count_at.result c.requires.row c.requires.from c.places.invariant.from c.places-test.true c.count_at-stop.ensures.count
+    let r = c.requires in let fits = r.fits in let n = g.met.S.Signed.narrow in
+    let small = small_row r.form r.sorted r.row r.from c.places.invariant.from c.places-test.true c.count_at-stop.ensures.count
     c.count_at.ensures.count in
-    let fits = c.requires.fits in let n = g.met.S.Signed.narrow in
     let low : c.count_at.result < 2 ^ 63 = omega (arith, small, fits, n) in
     let i = c.places.invariant in let e = c.push_reserved.ensures in let old = c.args.iw.now.items in
     let row = c.count_at.result in let t = c.places-test.true in

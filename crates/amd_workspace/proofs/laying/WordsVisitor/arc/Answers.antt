@@ -1,6 +1,6 @@
-use Rattle.std.proofs.Common.{◌+◌, arith, refl, ap, ◌∙◌, length, get_or, set, drop, pos}
+use Rattle.std.proofs.Common.{arith, refl, ap, ◌∙◌, length, get_or, pos}
 use Rattle.std.proofs.lemmas.List.{length-set}
-use Rattle.amd_workspace.proofs.Layings.{appended, lay_in, lays_more, written}
+use Rattle.amd_workspace.proofs.Layings.{appended, lay_in, lays_more, moved_on}
 use Rattle.amd_workspace.proofs.laying.WordsVisitor.arc.Goals as goal
 
 pub append-requires-clause-inside : goal.append-requires-clause-inside
@@ -20,10 +20,8 @@ append-requires-clause-fits g c =
 pub returns-clause-held : goal.returns-clause-held
 returns-clause-held g c = λ gr seen arcs h new.
     let l = c.args.self.now in let place = get_or l.next.items c.args.i 0 in
-    let next_is = written c.append.new.next (set l.next.items c.args.i (place + 1))
-    (drop (length c.append.new.next) l.next.items) l.next.len
-    (c.append.ensures.ends ∙ ap (λ xs. set xs c.args.i (get_or xs c.args.i 0 + 1)) c.deref_mut.ensures.value)
-    (let a = length-set l.next.items c.args.i (place + 1) in let b = l.next.ok.0 in omega (arith, a, b)) in
+    let next_is = moved_on l.next.items c.deref_mut.result.now c.append.new.next c.args.i l.next.len c.deref_mut.ensures.value
+    c.append.ensures.ends (let b = l.next.ok.0 in omega (arith, b)) in
     let iw_is = appended l.next.items c.deref_mut.result.now l.iw.items c.deref_mut-2.result.now c.append.new.iw c.args.i c.args.j l.iw.len
     c.deref_mut.ensures.value c.deref_mut-2.ensures.value c.append.ensures.words (let b = l.iw.ok.0 in omega (arith, b)) in
     rw (next_is, iw_is) (lays_more gr seen arcs c.args.i c.args.j new _ _ l.next.items l.iw.items h place refl)

@@ -1,6 +1,6 @@
 use Rattle.std.proofs.Common.{◌+◌, ◌++◌, arith, refl, ap, ◌∙◌, length, get_or, set, take, drop, pos}
 use Rattle.std.proofs.lemmas.List.{length-set}
-use Rattle.amd_workspace.proofs.Layings.{appended, other_in, own_in, run_long, run_more, written}
+use Rattle.amd_workspace.proofs.Layings.{appended, other_in, own_in, run_long, run_more, written, moved_on}
 use Rattle.amd_workspace.proofs.laying.WordsVisitor.edge.Goals as goal
 
 pub append-requires-clause-inside : goal.append-requires-clause-inside
@@ -42,10 +42,8 @@ overflow_add-result g c =
 pub returns-clause-held : goal.returns-clause-held
 returns-clause-held g c = λ gr seen arcs h new.
     let l = c.args.self.now in let place = get_or l.next.items c.args.i 0 in
-    let next_is = written c.append.new.next (set l.next.items c.args.i (place + 1))
-    (drop (length c.append.new.next) l.next.items) l.next.len
-    (c.append.ensures.ends ∙ ap (λ xs. set xs c.args.i (get_or xs c.args.i 0 + 1)) c.deref_mut.ensures.value)
-    (let a = length-set l.next.items c.args.i (place + 1) in let b = l.next.ok.0 in omega (arith, a, b)) in
+    let next_is = moved_on l.next.items c.deref_mut.result.now c.append.new.next c.args.i l.next.len c.deref_mut.ensures.value
+    c.append.ensures.ends (let b = l.next.ok.0 in omega (arith, b)) in
     let first = appended l.next.items c.deref_mut.result.now l.iw.items c.deref_mut-2.result.now c.append.new.iw c.args.i c.args.j l.iw.len
     c.deref_mut.ensures.value c.deref_mut-2.ensures.value c.append.ensures.words (let b = l.iw.ok.0 in omega (arith, b)) in
     let words = set (set l.iw.items place (pos c.args.j)) c.args.mark (pos c.args.i) in
