@@ -1,13 +1,14 @@
 -- Links that come to an end: how many lead on from a row.
-use Rattle.std.proofs.Common.{ℕ, zero, suc, ◌≡◌, ◌<◌, ◌≤◌, ◌&&◌, ◌⊎◌, not, cond, inl, inr, refl, sym, ◌∙◌, ap, arith}
+use Rattle.std.proofs.Common.{ℕ, zero, suc, ◌≡◌, ◌≢◌, ◌<◌, ◌≤◌, ◌&&◌, ◌⊎◌, not, cond, inl, inr, refl, sym, ◌∙◌, ap, arith}
 use Rattle.std.proofs.Common.{Option, None, Some}
 use Rattle.std.specs.Prelude.{nat_lt, ◌==◌}
-use Rattle.std.proofs.lemmas.Bool.{cases_lt, lt-ltb, ltb-true, ne_eqb, and_from, not_from_false}
+use Rattle.std.proofs.lemmas.Bool.{cases_eq, cases_lt, lt-ltb, ltb-true, ne_eqb, and_from, not_from_false}
 use Rattle.amd_model.specs.Below.{count_below}
+use Rattle.amd_model.specs.State.{Home}
 use Rattle.amd_model.proofs.Counting.Below.{count_mono}
 use Rattle.amd_model.proofs.Counting.Pigeonhole.{count_all}
 use Rattle.amd_model.proofs.Counting.Points.{count_drop}
-use Rattle.amd_round_laws.specs.Keeps.{LinksEnd}
+use Rattle.amd_round_laws.specs.Keeps.{LinksEnd, LinksLead}
 
 -- one more than f of what a link names
 pub one_after : (ℕ → ℕ) → Option ℕ → ℕ
@@ -31,6 +32,53 @@ step_none links k v q = ap (one_after (steps links k)) q
 pub cases_link : (o : Option ℕ) → (o ≡ None) ⊎ ((u : ℕ) × (o ≡ Some u))
 cases_link None = inl refl
 cases_link (Some u) = inr (u, refl)
+
+-- a row that has a link, linked straight to a root
+module _ (old new : ℕ → Option ℕ) (row next root : ℕ) (on : old row ≡ Some next) (here : new row ≡ Some root)
+    (other : (r : ℕ) → r ≢ row → new r ≡ old r) where
+  -- where the link changes, the row had one before
+  pub none_before : (r : ℕ) → new r ≡ None → old r ≡ None
+  none_before r q = elim (cases_eq r row) [
+    | inl same ↦ absurd (let x : Some root ≡ None = sym here ∙ ap new (sym same) ∙ q in cc)
+    | inr ne ↦ sym (other r ne) ∙ q
+  ]
+
+  none_after : (r : ℕ) → old r ≡ None → new r ≡ None
+  none_after r q = elim (cases_eq r row) [
+    | inl same ↦ absurd (let x : Some next ≡ None = sym on ∙ ap old (sym same) ∙ q in cc)
+    | inr ne ↦ other r ne ∙ q
+  ]
+
+  leads_to : (v u : ℕ) → v ≡ row → new v ≡ Some u → root ≡ u
+  leads_to v u same h = let x : Some root ≡ Some u = sym here ∙ ap new (sym same) ∙ h in cc
+
+  -- is led as before
+  pub led_straight : (n m : ℕ) (home : ℕ → Home) → n ≤ m → root < m → old root ≡ None → home row ≡ home root → LinksLead n old home →
+      LinksLead m new home
+  led_straight n m home more small end q led = record {
+    linked = λ v u h. elim (cases_eq v row) [
+      | inl same ↦ ap home same ∙ q ∙ ap home (leads_to v u same h)
+      | inr ne ↦ led.linked v u (sym (other v ne) ∙ h)
+    ];
+    alone = λ v h. led.alone v (none_before v h);
+    free = λ v h. none_after v (led.free v h);
+    last = λ v h. none_after v (led.last v h);
+    rank = led.rank;
+    top = led.top;
+    end = record {
+      rise = λ v u h. elim (cases_eq v row) [
+        | inl same ↦ (let y = leads_to v u same h in let low = led.end.below row next on in let high = led.end.ends root end in
+            let a : led.rank v ≡ led.rank row = ap led.rank same in let b : led.rank root ≡ led.rank u = ap led.rank y in
+            (omega (arith, low, high, a, b), omega (arith, small, y)))
+        | inr ne ↦ (let r = led.end.rise v u (sym (other v ne) ∙ h) in (r.0, omega (arith, r.1, more)))
+      ];
+      ends = λ v h. led.end.ends v (none_before v h);
+      below = λ v u h. elim (cases_eq v row) [
+        | inl same ↦ (let low = led.end.below row next on in let a : led.rank v ≡ led.rank row = ap led.rank same in omega (arith, low, a))
+        | inr ne ↦ led.end.below v u (sym (other v ne) ∙ h)
+      ];
+    };
+  }
 
 -- links that were not counted to the last are all of them
 stable : (links : ℕ → Option ℕ) (k v : ℕ) → steps links k v < k → steps links (suc k) v ≡ steps links k v

@@ -1,6 +1,6 @@
 -- The links of rows at the end of an elimination: what a word says of them, where they lead, and a row linked straight to its element.
 use Rattle.std.proofs.Common.{ℕ, zero, suc, ℤ, pos, negsuc, Bool, true, false, ◌≡◌, ◌≢◌, ◌<◌, ◌≤◌, ◌+◌, ◌⊎◌, cond, inl, inr, refl, sym}
-use Rattle.std.proofs.Common.{◌∙◌, ap, arith, List, length, None, Some, get_or}
+use Rattle.std.proofs.Common.{◌∙◌, ap, arith, List, length, None, Some, get_or, le_refl}
 use Rattle.std.specs.Prelude.{nat_lt}
 use Rattle.std.proofs.Math.ListN.{set}
 use Rattle.std.proofs.lemmas.List.{length-set, get_or-set_same, get_or-set_other, get_or_past, get_or_default}
@@ -10,7 +10,7 @@ use Rattle.amd_types.specs.Links.{named}
 use Rattle.amd_words.specs.Words.{word, size_of, rows_in, is_place, place, in_front, is_negative}
 use Rattle.amd_round_laws.specs.Keeps.{LinksLead}
 use Rattle.amd_listing.specs.Ended.{row_link, LinksAre}
-use Rattle.amd_listing.proofs.LinkSteps.{cases_link}
+use Rattle.amd_listing.proofs.LinkSteps.{cases_link, led_straight, none_before}
 
 -- what has a number of rows is a row
 pub sized_small : (nv : List ℤ) (v : ℕ) → 0 < size_of nv v → v < length nv
@@ -155,48 +155,6 @@ module _ (n : ℕ) (link nv : List ℤ) (row next root : ℕ) (small : row < len
   pub other : (r : ℕ) → r ≢ row → row_link (set link row (pos root)) nv r ≡ row_link link nv r
   other r ne = ap (λ z. cond (nat_lt 0 (size_of nv r)) None (named z)) (get_or-set_other link row r (pos root) (negsuc 0) ne)
 
-  none_before : (r : ℕ) → row_link (set link row (pos root)) nv r ≡ None → row_link link nv r ≡ None
-  none_before r q = elim (cases_eq r row) [
-    | inl same ↦ absurd (let x : Some root ≡ None = sym here ∙ ap (row_link (set link row (pos root)) nv) (sym same) ∙ q in cc)
-    | inr ne ↦ sym (other r ne) ∙ q
-  ]
-
-  none_after : (r : ℕ) → row_link link nv r ≡ None → row_link (set link row (pos root)) nv r ≡ None
-  none_after r q = elim (cases_eq r row) [
-    | inl same ↦ absurd (let x : Some next ≡ None = sym on ∙ ap (row_link link nv) (sym same) ∙ q in cc)
-    | inr ne ↦ other r ne ∙ q
-  ]
-
-  led_straight : (home : ℕ → Home) → LinksLead n (row_link link nv) home → home row ≡ home root →
-      LinksLead n (row_link (set link row (pos root)) nv) home
-  led_straight home led q = record {
-    linked = λ v u h. elim (cases_eq v row) [
-      | inl same ↦ (let x : Some root ≡ Some u = sym here ∙ ap (row_link (set link row (pos root)) nv) (sym same) ∙ h in
-          let y : root ≡ u = cc in ap home same ∙ q ∙ ap home y)
-      | inr ne ↦ led.linked v u (sym (other v ne) ∙ h)
-    ];
-    alone = λ v h. led.alone v (none_before v h);
-    free = λ v h. none_after v (led.free v h);
-    last = λ v h. none_after v (led.last v h);
-    rank = led.rank;
-    top = led.top;
-    end = record {
-      rise = λ v u h. elim (cases_eq v row) [
-        | inl same ↦ (let x : Some root ≡ Some u = sym here ∙ ap (row_link (set link row (pos root)) nv) (sym same) ∙ h in
-            let y : root ≡ u = cc in
-            let low = led.end.below row next on in let high = led.end.ends root (element_alone link nv root some) in
-            let a : led.rank v ≡ led.rank row = ap led.rank same in let b : led.rank root ≡ led.rank u = ap led.rank y in
-            (omega (arith, low, high, a, b), omega (arith, root_small, y)))
-        | inr ne ↦ led.end.rise v u (sym (other v ne) ∙ h)
-      ];
-      ends = λ v h. led.end.ends v (none_before v h);
-      below = λ v u h. elim (cases_eq v row) [
-        | inl same ↦ (let low = led.end.below row next on in let a : led.rank v ≡ led.rank row = ap led.rank same in omega (arith, low, a))
-        | inr ne ↦ led.end.below v u (sym (other v ne) ∙ h)
-      ];
-    };
-  }
-
   -- is led as before
   pub straight : (home : ℕ → Home) → LinksAre n link nv home → home row ≡ Gone root → LinksAre n (set link row (pos root)) nv home
   straight home are q = record {
@@ -204,6 +162,8 @@ module _ (n : ℕ) (link nv : List ℤ) (row next root : ℕ) (small : row < len
     nv_long = are.nv_long;
     counts = are.counts;
     elements = are.elements;
-    others = λ v z h. are.others v z (none_before v h);
-    leads = led_straight home are.leads (q ∙ sym (are.elements root some));
+    others = λ v z h. are.others v z
+        (none_before (row_link link nv) (row_link (set link row (pos root)) nv) row next root on here other v h);
+    leads = led_straight (row_link link nv) (row_link (set link row (pos root)) nv) row next root on here other n n home (le_refl n)
+        root_small (element_alone link nv root some) (q ∙ sym (are.elements root some)) are.leads;
   }
