@@ -19,13 +19,14 @@ module _ (n : ℕ) (ap' ai : List ℤ) (lower : IsLower n ap' ai) (degrees : Lis
       (has_columns n ap' ai lower degrees a b next items counts (omega (arith, long, enough)) small (omega (arith, long, fits)) next_long
       starts held)
 
-  -- and after the second one
-  module _ (new : List ℤ) (count : ℕ) (counted : length items ≡ count) (kept : length new ≡ length lent) where
-    back : take count (new ++ drop (length new) items) ≡ new
-    back = written new new (drop (length new) items) count refl (kept ∙ ap length value ∙ counted)
+-- and after the second one, taken back
+module _ (new : List ℤ) {items lent : List ℤ} {count : ℕ} (value : lent ≡ items) (counted : count ≡ length items)
+    (kept : length new ≡ length lent) where
+  back : take count (new ++ drop (length new) items) ≡ new
+  back = written new new (drop (length new) items) count refl (kept ∙ ap length value ∙ sym counted)
 
-    back_long : length (take count (new ++ drop (length new) items)) ≡ room
-    back_long = ap length back ∙ kept ∙ ap length value ∙ long
+  back_long : {room : ℕ} → length items ≡ room → length (take count (new ++ drop (length new) items)) ≡ room
+  back_long long = ap length back ∙ kept ∙ ap length value ∙ long
 
 pub spread_all-requires-clause-laid : goal.spread_all-requires-clause-laid
 spread_all-requires-clause-laid g c = let r = c.requires in let p = c.push_lists in
@@ -34,28 +35,17 @@ spread_all-requires-clause-laid g c = let r = c.requires in let p = c.push_lists
     r.degrees r.room r.fits.0 r.fits.1 r.long r.starts p.ensures.long p.ensures.own c.deref_mut.ensures.value
 
 pub returns-clause-long : goal.returns-clause-long
-returns-clause-long g c = let r = c.requires in let p = c.push_lists in
-    let ap' = map g.I.Index.value c.args.a_p.now in let ai = map g.I.Index.value c.args.a_i.now in
-    back_long c.args.size ap' ai r.lower c.args.degrees.now g.S.Signed.MOST g.U.Unsigned.MOST c.args.room c.args.next.now p.new.iw.items
-    c.deref_mut.result.now r.degrees
-    r.room r.fits.0 r.fits.1 r.long r.starts p.ensures.long p.ensures.own c.deref_mut.ensures.value c.spread_all.new.iw p.new.iw.len
-    (let b = p.new.iw.ok.0 in omega (arith, b)) c.spread_all.ensures.long
+returns-clause-long g c = let p = c.push_lists in
+    back_long c.spread_all.new.iw c.deref_mut.ensures.value p.new.iw.ok.0 c.spread_all.ensures.long p.ensures.long
 
 pub returns-clause-words : goal.returns-clause-words
-returns-clause-words g c = let r = c.requires in let p = c.push_lists in
-    let ap' = map g.I.Index.value c.args.a_p.now in let ai = map g.I.Index.value c.args.a_i.now in
-    let same = back c.args.size ap' ai r.lower c.args.degrees.now g.S.Signed.MOST g.U.Unsigned.MOST c.args.room c.args.next.now
-    p.new.iw.items c.deref_mut.result.now r.degrees
-    r.room r.fits.0 r.fits.1 r.long r.starts p.ensures.long p.ensures.own c.deref_mut.ensures.value c.spread_all.new.iw p.new.iw.len
-    (let b = p.new.iw.ok.0 in omega (arith, b)) c.spread_all.ensures.long in
+returns-clause-words g c =
+    let same = back c.spread_all.new.iw c.deref_mut.ensures.value c.push_lists.new.iw.ok.0 c.spread_all.ensures.long in
     subst (HoldRows c.args.size) (sym same) c.spread_all.ensures.lists.0
 
 pub returns-clause-lists : goal.returns-clause-lists
-returns-clause-lists g c = λ i l. let r = c.requires in let p = c.push_lists in
+returns-clause-lists g c = λ i l.
+    let same = back c.spread_all.new.iw c.deref_mut.ensures.value c.push_lists.new.iw.ok.0 c.spread_all.ensures.long in
     let ap' = map g.I.Index.value c.args.a_p.now in let ai = map g.I.Index.value c.args.a_i.now in
-    let same = back c.args.size ap' ai r.lower c.args.degrees.now g.S.Signed.MOST g.U.Unsigned.MOST c.args.room c.args.next.now
-    p.new.iw.items c.deref_mut.result.now r.degrees
-    r.room r.fits.0 r.fits.1 r.long r.starts p.ensures.long p.ensures.own c.deref_mut.ensures.value c.spread_all.new.iw p.new.iw.len
-    (let b = p.new.iw.ok.0 in omega (arith, b)) c.spread_all.ensures.long in
     ap (λ xs. rows xs (own_start c.args.size ap' ai i) (num c.args.degrees.now i)) same
     ∙ c.spread_all.ensures.lists.1 i l
