@@ -4,11 +4,10 @@ use Rattle.std.proofs.Common.{◌∙◌, ap, arith, List, length, None, Some, ge
 use Rattle.std.specs.Prelude.{nat_lt}
 use Rattle.std.proofs.Math.ListN.{set}
 use Rattle.std.proofs.lemmas.List.{length-set, get_or-set_same, get_or-set_other, get_or_past, get_or_default}
-use Rattle.std.proofs.lemmas.Bool.{cases_eq, cases_lt, true≢false, lt-ltb}
+use Rattle.std.proofs.lemmas.Bool.{cases_lt, true≢false, lt-ltb}
 use Rattle.amd_model.specs.State.{Home, Last, Gone, gone_at}
 use Rattle.amd_types.specs.Links.{named}
 use Rattle.amd_words.specs.Words.{word, size_of, rows_in, is_place, place, in_front, is_negative}
-use Rattle.amd_round_laws.specs.Keeps.{LinksLead}
 use Rattle.amd_listing.specs.Ended.{row_link, LinksAre}
 use Rattle.amd_listing.proofs.LinkSteps.{cases_link, led_straight, none_before}
 

@@ -1,4 +1,4 @@
-use Rattle.std.proofs.Common.{◌+◌, ◌++◌, arith, refl, ap, ◌∙◌, length, get_or, set, take, drop, pos}
+use Rattle.std.proofs.Common.{◌++◌, arith, refl, ap, ◌∙◌, length, get_or, set, take, drop, pos}
 use Rattle.std.proofs.lemmas.List.{length-set}
 use Rattle.amd_workspace.proofs.Layings.{appended, other_in, own_in, run_long, run_more, written, moved_on}
 use Rattle.amd_workspace.proofs.laying.WordsVisitor.edge.Goals as goal
