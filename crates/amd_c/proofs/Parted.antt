@@ -2,11 +2,11 @@
 use Rattle.std.proofs.Common.{ℕ, ◌<◌, ◌⊎◌, inl, inr, arith, List, length}
 use Rattle.std.specs.Prelude.{slice_index, unsigned_abs, Option}
 use Rattle.amd_model.proofs.Patterns.DegreeSums.{pattern_graph}
-use Rattle.amd_symbolic.specs.Partitions.{IsPartitionOf, Matrix, order_of}
+use Rattle.amd_symbolic.specs.Partitions.{IsPartitionOf, OrderedMatrix, order_of}
 use Rattle.amd_symbolic.proofs.SupernodeRoom.{room-of}
 use Rattle.amd_c.specs.Supernodal.{Blocks, PassesPlaces}
 
-pub passes : (m : Matrix) (first owner ptr : List ℕ) (parent : List (Option ℕ)) (starts earlier : List ℕ) →
+pub passes : (m : OrderedMatrix) (first owner ptr : List ℕ) (parent : List (Option ℕ)) (starts earlier : List ℕ) →
     IsPartitionOf m first owner ptr parent starts earlier → (a : Blocks) →
     (length a.parent < length parent) ⊎ (length a.rows < slice_index ptr (length parent)) →
     PassesPlaces m.size m.pointers m.indices m.list a

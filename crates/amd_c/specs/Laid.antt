@@ -20,8 +20,8 @@ pub record Eliminated : Type 0 where
   pub e_len : List ℤ
   pub statistics : Statistics
 
-abbrev pub eliminated : List ℤ → List ℤ → List ℤ → List ℤ → Statistics → Eliminated
-eliminated nv p q e_len statistics = record { nv = nv; p = p; q = q; e_len = e_len; statistics = statistics }
+abbrev pub elimination : List ℤ → List ℤ → List ℤ → List ℤ → Statistics → Eliminated
+elimination nv p q e_len statistics = record { nv = nv; p = p; q = q; e_len = e_len; statistics = statistics }
 
 -- there is a place for each of n rows
 abbrev pub HasPlacesFor : ℕ → Eliminated → Type 0

@@ -9,7 +9,7 @@ ghost use Rattle.amd_c.specs.Calls.{ClassifiesInput, OrdersInto, memory};
 ghost use Rattle.amd_c.specs.Columns.{ColumnsInto, arrays};
 ghost use Rattle.amd_c.specs.Counting.{CountsInto, tallies};
 ghost use Rattle.amd_c.specs.Forests.{PostorderInto};
-ghost use Rattle.amd_c.specs.Laid.{EliminatesInto, HasPlacesFor, eliminated};
+ghost use Rattle.amd_c.specs.Laid.{EliminatesInto, HasPlacesFor, elimination};
 ghost use Rattle.amd_c.specs.Patterns.{DegreesInto, RowFormInto, counted, row_arrays};
 ghost use Rattle.amd_c.specs.Supernodal.{SizesInto, SupernodesInto, blocks};
 
@@ -352,10 +352,10 @@ pub extern "C" fn rimopaku_amd_2_i32(
     requires narrow { (length len.now + 2 < 2 ^ 31) × (length iw.now + length len.now < 2 ^ 31) }
     requires laid { IsLaidOut (length len.now) iw.now pe.old len.now (length iw.now) }
     requires graph { (g : Graph) × (lists : ℕ → List ℕ) × LaysGraph g lists iw.now pe.old len.now }
-    requires places { HasPlacesFor (length len.now) (eliminated nv.old p.old p_inv.old e_len.old statistics.old) }
+    requires places { HasPlacesFor (length len.now) (elimination nv.old p.old p_inv.old e_len.old statistics.old) }
     ensures leaves { EliminatesInto parameters.now iw.now pe.old len.now pe.new
-        (eliminated nv.old p.old p_inv.old e_len.old statistics.old)
-        (eliminated nv.new p.new p_inv.new e_len.new statistics.new) result }
+        (elimination nv.old p.old p_inv.old e_len.old statistics.old)
+        (elimination nv.new p.new p_inv.new e_len.new statistics.new) result }
     ensures kept { result ≡ negsuc 0 → pe.new ≡ pe.old }
 {
     let status = eliminate_narrow(

@@ -9,7 +9,7 @@ ghost use Rattle.amd_c.specs.Calls.{ClassifiesInput, OrdersInto, memory};
 ghost use Rattle.amd_c.specs.Columns.{ColumnsInto, arrays};
 ghost use Rattle.amd_c.specs.Counting.{CountsInto, tallies};
 ghost use Rattle.amd_c.specs.Forests.{PostorderInto};
-ghost use Rattle.amd_c.specs.Laid.{EliminatesInto, HasPlacesFor, eliminated};
+ghost use Rattle.amd_c.specs.Laid.{EliminatesInto, HasPlacesFor, elimination};
 ghost use Rattle.amd_c.specs.Patterns.{DegreesInto, RowFormInto, counted, row_arrays};
 ghost use Rattle.amd_c.specs.Supernodal.{SizesInto, SupernodesInto, blocks};
 
@@ -353,10 +353,10 @@ pub extern "C" fn rimopaku_amd_2_i64(
     requires laid { IsLaidOut (length len.old) iw.old pe.old len.old pfree }
     requires graph { (g : Graph) × (lists : ℕ → List ℕ) × LaysGraph g lists iw.old pe.old len.old }
     requires room { pfree + length len.old ≤ length iw.old }
-    requires places { HasPlacesFor (length len.old) (eliminated nv.old p.old p_inv.old e_len.old statistics.old) }
+    requires places { HasPlacesFor (length len.old) (elimination nv.old p.old p_inv.old e_len.old statistics.old) }
     ensures { EliminatesInto parameters.now iw.old pe.old len.old pe.new
-        (eliminated nv.old p.old p_inv.old e_len.old statistics.old)
-        (eliminated nv.new p.new p_inv.new e_len.new statistics.new) result }
+        (elimination nv.old p.old p_inv.old e_len.old statistics.old)
+        (elimination nv.new p.new p_inv.new e_len.new statistics.new) result }
 {
     let status = eliminate_into(
         alloc, n, pe, iw, len, pfree, parameters, nv, p_inv, p, e_len, statistics,

@@ -5,7 +5,7 @@ ghost use Rattle.std.specs.Prelude.{◌≡◌, ◌<◌, ◌≤◌, ◌+◌, ℕ,
 ghost use Rattle.amd_model.specs.Graph.{Graph};
 ghost use Rattle.amd_workspace.specs.Laying.{IsLaidOut};
 ghost use Rattle.amd_engine.specs.InPlace.{LaysGraph};
-ghost use Rattle.amd_c.specs.Laid.{HasPlacesFor, LeavesElimination, eliminated};
+ghost use Rattle.amd_c.specs.Laid.{HasPlacesFor, LeavesElimination, elimination};
 
 use crate::records::{Parameters, Statistics, statistics_of};
 use amd_engine::amd_2::amd_2;
@@ -48,10 +48,10 @@ pub fn eliminate_into<I: PrimInt>(
     requires graph { (g : Graph) × (lists : ℕ → List ℕ) × LaysGraph g lists iw.old pe.old len.old }
     requires room { pfree + length len.old ≤ length iw.old }
     requires places { HasPlacesFor (length len.old)
-        (eliminated (map I.value nv.old) (map I.value p.old) (map I.value p_inv.old) e_len.old statistics.old) }
+        (elimination (map I.value nv.old) (map I.value p.old) (map I.value p_inv.old) e_len.old statistics.old) }
     ensures { LeavesElimination parameters.now iw.old pe.old len.old pe.new
-        (eliminated (map I.value nv.old) (map I.value p.old) (map I.value p_inv.old) e_len.old statistics.old)
-        (eliminated (map I.value nv.new) (map I.value p.new) (map I.value p_inv.new) e_len.new statistics.new) result }
+        (elimination (map I.value nv.old) (map I.value p.old) (map I.value p_inv.old) e_len.old statistics.old)
+        (elimination (map I.value nv.new) (map I.value p.new) (map I.value p_inv.new) e_len.new statistics.new) result }
 {
     let control = Control {
         dense: parameters.dense,

@@ -6,7 +6,7 @@ ghost use Rattle.amd_model.specs.Graph.{Graph};
 ghost use Rattle.amd_words.specs.Words.{is_place, word};
 ghost use Rattle.amd_workspace.specs.Laying.{IsLaidOut};
 ghost use Rattle.amd_engine.specs.InPlace.{AnswersInPlace, LaysGraph};
-ghost use Rattle.amd_c.specs.Laid.{HasPlacesFor, LeavesElimination, eliminated};
+ghost use Rattle.amd_c.specs.Laid.{HasPlacesFor, LeavesElimination, elimination};
 
 use crate::records::{Parameters, Statistics, statistics_of};
 use amd_engine::amd_2::amd_2_from;
@@ -170,10 +170,10 @@ pub fn eliminate_narrow(
     requires narrow { (length len.now + 2 < 2 ^ 31) × (length iw.now + length len.now < 2 ^ 31) }
     requires laid { IsLaidOut (length len.now) iw.now pe.old len.now (length iw.now) }
     requires graph { (g : Graph) × (lists : ℕ → List ℕ) × LaysGraph g lists iw.now pe.old len.now }
-    requires places { HasPlacesFor (length len.now) (eliminated nv.old p.old p_inv.old e_len.old statistics.old) }
+    requires places { HasPlacesFor (length len.now) (elimination nv.old p.old p_inv.old e_len.old statistics.old) }
     ensures leaves { LeavesElimination parameters.now iw.now pe.old len.now pe.new
-        (eliminated nv.old p.old p_inv.old e_len.old statistics.old)
-        (eliminated nv.new p.new p_inv.new e_len.new statistics.new) result }
+        (elimination nv.old p.old p_inv.old e_len.old statistics.old)
+        (elimination nv.new p.new p_inv.new e_len.new statistics.new) result }
     ensures kept { result ≡ Status.OutOfMemory → pe.new ≡ pe.old }
 {
     let control = Control {

@@ -3,7 +3,7 @@
 // there is a fault. Called by `int32` and `int64`.
 
 ghost use Rattle.std.specs.Prelude.{◌≡◌, ◌↔◌, IsTrue, map};
-ghost use Rattle.amd_symbolic.specs.Partitions.{Matrix, matrix};
+ghost use Rattle.amd_symbolic.specs.Partitions.{OrderedMatrix, ordered_matrix};
 ghost use Rattle.amd_c.specs.Supernodal.{HasBlockPlaces, LeavesSizes, LeavesSupernodes, blocks};
 
 use crate::factors::{has_numbers, has_parents, write_first_numbers, write_first_parents};
@@ -63,9 +63,9 @@ fn matrix_supernodes_into<I: PrimInt>(
     rows: &mut [I],
     parent: &mut [I],
 ) -> Result<(), Fault>
-    ghost m: { Matrix }
+    ghost m: { OrderedMatrix }
     requires fits { I.fits (I.value n) }
-    requires matrix { m ≡ matrix (I.value n) (map I.value a_p.now) (map I.value a_i.now) (map I.value p.now) }
+    requires matrix { m ≡ ordered_matrix (I.value n) (map I.value a_p.now) (map I.value a_i.now) (map I.value p.now) }
     ensures { LeavesSupernodes m.size m.pointers m.indices m.list
         (blocks (map I.value first.old) (map I.value ptr.old) (map I.value rows.old) (map I.value parent.old))
         (blocks (map I.value first.new) (map I.value ptr.new) (map I.value rows.new) (map I.value parent.new)) result }

@@ -8,7 +8,7 @@ ghost use Rattle.amd_market.specs.Pairs.{pairs_in, AreFor};
 
 use crate::columns::{columns_of, keyed_columns};
 use crate::headers::Symmetry;
-use crate::keys::key_of;
+use crate::keys::pair_key;
 use std::alloc::{AllocError, Allocator};
 
 /// The pattern of a square matrix in column form.
@@ -68,9 +68,9 @@ pub(crate) fn add_keys<A: Allocator>(
     ensures { OnOk result (pairs_of_keys keys.new.items ≡ pairs_of_keys keys.old.items ++ pairs_of symmetry entry) }
 {
     let (row, column) = entry;
-    keys.push(key_of((row, column)))?;
+    keys.push(pair_key((row, column)))?;
     if symmetry.is_mirrored() && row != column {
-        keys.push(key_of((column, row)))?;
+        keys.push(pair_key((column, row)))?;
     }
     Ok(())
 }

@@ -10,7 +10,7 @@ use Rattle.std.proofs.Math.Nat.{lt_of_mul-lt-mul_right}
 use Rattle.std.proofs.lemmas.List.Elements.{Contains-append_left, Contains-push, Contains-push_cases}
 use Rattle.amd_report.specs.declared.grids.Grid.{Grid}
 use Rattle.amd_report.specs.Patterns.{column_rows}
-use Rattle.amd_report.specs.Grids.{AddsPlace, Covers, SameCells, ShowsPlaces, cell_of, column_places, places_up_to}
+use Rattle.amd_report.specs.Grids.{AddsPlace, HasCells, SameCells, ShowsPlaces, cell_of, places_in_column, places_up_to}
 
 -- a place of so many rows has a cell in a square whose lines cover them
 pub cell-inside : (rows step side row column : ℕ) → 0 < step → rows ≤ side * step → row < rows → column < rows
@@ -50,16 +50,16 @@ shows-next g h places p s a = record {
 
 -- one row of a column more
 pub column-next : {A : Type 0} (f g h : Grid A) (rows : List ℕ) (column k x : ℕ) → k < length rows
-    → ((places : List (ℕ × ℕ)) → ShowsPlaces f places → ShowsPlaces g (places ++ column_places column (take k rows)))
+    → ((places : List (ℕ × ℕ)) → ShowsPlaces f places → ShowsPlaces g (places ++ places_in_column column (take k rows)))
     → AddsPlace g h (get_or rows k x, column) → (places : List (ℕ × ℕ)) → ShowsPlaces f places
-    → ShowsPlaces h (places ++ column_places column (take (k + 1) rows))
+    → ShowsPlaces h (places ++ places_in_column column (take (k + 1) rows))
 column-next f g h rows column k x inside so_far one places s =
     let row : ℕ = get_or rows k x in
-    let more : column_places column (take (k + 1) rows) ≡ column_places column (take k rows) ++ (row, column) ∷ [] =
-    ap (column_places column) (take_more rows k x inside) ∙ map-append (λ r. (r, column)) (take k rows) (row ∷ []) in
+    let more : places_in_column column (take (k + 1) rows) ≡ places_in_column column (take k rows) ++ (row, column) ∷ [] =
+    ap (places_in_column column) (take_more rows k x inside) ∙ map-append (λ r. (r, column)) (take k rows) (row ∷ []) in
     subst (λ z. ShowsPlaces h (places ++ z)) (sym more)
-    (subst (ShowsPlaces h) (append_assoc places (column_places column (take k rows)) ((row, column) ∷ []))
-    (shows-next g h (places ++ column_places column (take k rows)) (row, column) (so_far places s) one))
+    (subst (ShowsPlaces h) (append_assoc places (places_in_column column (take k rows)) ((row, column) ∷ []))
+    (shows-next g h (places ++ places_in_column column (take k rows)) (row, column) (so_far places s) one))
 
 -- the same cells, after two steps
 pub cells-then : {A : Type 0} (f g h : Grid A) → SameCells f g → SameCells g h → SameCells f h
@@ -71,7 +71,7 @@ cells-then f g h s t = record {
 
 -- a square whose lines cover the rows, with a cell for each of two lines
 pub covers-from : {A : Type 0} (g : Grid A) (rows : ℕ) → 0 < g.step → rows ≤ g.side * g.step
-    → length g.counts.items ≡ g.side * g.side → Covers g rows
+    → length g.counts.items ≡ g.side * g.side → HasCells g rows
 covers-from g rows p covers cells row column r c =
     let one : max g.step 1 ≡ g.step = omega (arith, p) in
     subst (λ z. row / z * g.side + column / z < length g.counts.items) (sym one)
@@ -90,7 +90,7 @@ lines-within rows width step w is below =
     omega (arith, lt_of_mul-lt-mul_right step product)
 
 -- other marks cover as many rows
-pub covers-same : {A : Type 0} (g h : Grid A) (n : ℕ) → SameCells g h → Covers g n → Covers h n
+pub covers-same : {A : Type 0} (g h : Grid A) (n : ℕ) → SameCells g h → HasCells g n → HasCells h n
 covers-same g h n s covers row column r c =
     subst (λ z. cell_of h (row, column) < z) (sym s.cells)
     (subst (λ z. z < length g.counts.items) (sym (same-cell g h (row, column) s)) (covers row column r c))
@@ -98,9 +98,9 @@ covers-same g h n s covers row column r c =
 -- the entries of one column more
 pub places-next : {A : Type 0} (g h : Grid A) (ap_ ai rows : List ℕ) (k : ℕ) → rows ≡ column_rows ap_ ai k
     → ShowsPlaces g (places_up_to ap_ ai k)
-    → ((places : List (ℕ × ℕ)) → ShowsPlaces g places → ShowsPlaces h (places ++ column_places k rows))
+    → ((places : List (ℕ × ℕ)) → ShowsPlaces g places → ShowsPlaces h (places ++ places_in_column k rows))
     → ShowsPlaces h (places_up_to ap_ ai (k + 1))
 places-next g h ap_ ai rows k r so_far one =
     let step : k + 1 ≡ suc k = omega arith in
     subst (λ m. ShowsPlaces h (places_up_to ap_ ai m)) (sym step)
-    (subst (λ z. ShowsPlaces h (places_up_to ap_ ai k ++ column_places k z)) r (one (places_up_to ap_ ai k) so_far))
+    (subst (λ z. ShowsPlaces h (places_up_to ap_ ai k ++ places_in_column k z)) r (one (places_up_to ap_ ai k) so_far))

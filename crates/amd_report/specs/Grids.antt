@@ -9,8 +9,8 @@ abbrev pub cell_of : {A : Type 0} → Grid A → ℕ × ℕ → ℕ
 cell_of g p = p.0 / max g.step 1 * g.side + p.1 / max g.step 1
 
 -- each place of n rows and columns has a cell
-abbrev pub Covers : {A : Type 0} → Grid A → ℕ → Type 0
-Covers g n = (row column : ℕ) → row < n → column < n → cell_of g (row, column) < length g.counts.items
+abbrev pub HasCells : {A : Type 0} → Grid A → ℕ → Type 0
+HasCells g n = (row column : ℕ) → row < n → column < n → cell_of g (row, column) < length g.counts.items
 
 -- the cells are the same, whatever marks they have
 pub record SameCells {A : Type 0} (old new : Grid A) : Type 0 where
@@ -36,18 +36,18 @@ abbrev pub ShowsMarks : List ℕ → List ℕ → Type 0
 ShowsMarks counts levels = (cell : ℕ) → (slice_index levels cell ≡ 0) ↔ (slice_index counts cell ≡ 0)
 
 -- the places of some rows of a column
-abbrev pub column_places : ℕ → List ℕ → List (ℕ × ℕ)
-column_places column rows = map (λ row. (row, column)) rows
+abbrev pub places_in_column : ℕ → List ℕ → List (ℕ × ℕ)
+places_in_column column rows = map (λ row. (row, column)) rows
 
 -- the places of the entries of the first k columns
 abbrev pub places_up_to : List ℕ → List ℕ → ℕ → List (ℕ × ℕ)
 places_up_to ap ai zero = []
-places_up_to ap ai (suc k) = places_up_to ap ai k ++ column_places k (column_rows ap ai k)
+places_up_to ap ai (suc k) = places_up_to ap ai k ++ places_in_column k (column_rows ap ai k)
 
 -- of the cells of a square over a matrix with n rows exactly those are drawn, with a level that is not 0, that its
 -- entries fall into
 pub record DrawsEntries (A : Type 0) (n : ℕ) (ap ai levels : List ℕ) : Type 0 where
   pub square : Grid A
-  pub covers : Covers square n
+  pub covers : HasCells square n
   pub shows : ShowsPlaces square (places_up_to ap ai n)
   pub drawn : ShowsMarks square.counts.items levels

@@ -3,8 +3,8 @@
 // `picture` of the crate `amd_command`.
 
 ghost use Rattle.std.specs.Prelude.{◌≡◌, ◌≢◌, ◌↔◌, ◌++◌, ◌<◌, ℕ, List, [], IfOk, length, slice_index};
-ghost use Rattle.amd_report.specs.Grids.{AddsPlace, Covers, DrawsEntries, SameCells, ShowsMarks, ShowsPlaces};
-ghost use Rattle.amd_report.specs.Grids.{column_places, places_up_to};
+ghost use Rattle.amd_report.specs.Grids.{AddsPlace, HasCells, DrawsEntries, SameCells, ShowsMarks, ShowsPlaces};
+ghost use Rattle.amd_report.specs.Grids.{places_in_column, places_up_to};
 
 use crate::pattern::rows_of;
 use amd_market::reader::Matrix;
@@ -46,7 +46,7 @@ fn one_more(counts: &mut [u64], cell: usize)
 impl<A: Allocator> Grid<A> {
     /// A square without marks, for a matrix with so many rows.
     pub fn new(alloc: A, rows: usize) -> Result<Grid<A>, AllocError>
-        ensures covers { IfOk result (λ g. Covers g rows) }
+        ensures covers { IfOk result (λ g. HasCells g rows) }
         ensures blank { IfOk result (λ g. ShowsPlaces g []) }
     {
         let step = rows.div_ceil(SIDE).max(1);
@@ -79,7 +79,7 @@ impl<A: Allocator> Grid<A> {
     fn mark_column(&mut self, rows: &[usize], column: usize)
         ensures same { SameCells self.old self.new }
         ensures shows { (places : List (ℕ × ℕ)) → ShowsPlaces self.old places →
-            ShowsPlaces self.new (places ++ column_places column rows.now) }
+            ShowsPlaces self.new (places ++ places_in_column column rows.now) }
     {
         'rows: for &row in rows {
             self.mark(row, column);
@@ -117,7 +117,7 @@ impl<A: Allocator> Grid<A> {
 
 /// A square in which the entries of a matrix are marked.
 fn entries_grid<A: Allocator + Copy>(alloc: A, matrix: &Matrix<A>) -> Result<Grid<A>, AllocError>
-    ensures covers { IfOk result (λ g. Covers g matrix.now.n) }
+    ensures covers { IfOk result (λ g. HasCells g matrix.now.n) }
     ensures shows { IfOk result (λ g.
         ShowsPlaces g (places_up_to matrix.now.a_p.items matrix.now.a_i.items matrix.now.n)) }
 {

@@ -10,7 +10,7 @@ use Rattle.amd_model.proofs.Counting.Places.{contains_has, place_of}
 use Rattle.amd_symbolic.specs.Neighbours.{AreEarlier}
 use Rattle.amd_symbolic.specs.Orders.{Order}
 use Rattle.amd_symbolic.specs.Trees.{Entry, IsParent, Over, itself, up}
-use Rattle.amd_symbolic.specs.Walks.{TellParents, TellsParent}
+use Rattle.amd_symbolic.specs.Walks.{TellParents, TellsParentSoFar}
 use Rattle.amd_symbolic.proofs.TreePaths.{entry_in_subtree, over_most, parent_of, subtree_entry}
 use Rattle.amd_symbolic.specs.Ancestors.{Climbing, IsDone, Ready}
 
@@ -56,7 +56,7 @@ module _ (o : Order) (laws : IsGraph o.graph) (i : ℕ) (n : i < length o.rows) 
   told parent t l m itself e = absurd (omega (arith, l))
   told parent t {r} {y} l m (up {parent = q} h b) e =
       let c = over_most o.graph o.rows laws b in
-      subst (TellsParent o i r) e (t.each r (omega (arith, l, m, n))) q (omega (arith, c, m)) h.entry
+      subst (TellsParentSoFar o i r) e (t.each r (omega (arith, l, m, n))) q (omega (arith, c, m)) h.entry
 
   module _ (k : ℕ) (parent : List (Option ℕ)) (ancestor : List ℕ) (c : Climbing o i k parent ancestor) (ne : k ≢ i) where
     pub low : k < i
@@ -149,7 +149,7 @@ module _ (o : Order) (laws : IsGraph o.graph) (i : ℕ) (n : i < length o.rows) 
       is-parent = record {
         entry = entry;
         first = λ m x. elim (cases_lt m i) [
-          | inl l ↦ absurd (subst (TellsParent o i k) none (c.tells.each k (let h = low in omega (arith, h, n))) m l x)
+          | inl l ↦ absurd (subst (TellsParentSoFar o i k) none (c.tells.each k (let h = low in omega (arith, h, n))) m l x)
           | inr l ↦ l
         ];
       }
@@ -185,9 +185,9 @@ module _ (o : Order) (laws : IsGraph o.graph) (i : ℕ) (n : i < length o.rows) 
         tells = record {
           room = length-set parent k (Some i) ∙ c.tells.room;
           each = λ m l. elim (cases_eq m k) [
-            | inl same ↦ subst (λ v. TellsParent o i v (slice_index_or parent' v None)) (sym same) (subst (TellsParent o i k)
+            | inl same ↦ subst (λ v. TellsParentSoFar o i v (slice_index_or parent' v None)) (sym same) (subst (TellsParentSoFar o i k)
                 (sym parent-k) is-parent)
-            | inr other ↦ subst (TellsParent o i m) (sym (parent-other m other)) (c.tells.each m l)
+            | inr other ↦ subst (TellsParentSoFar o i m) (sym (parent-other m other)) (c.tells.each m l)
           ];
         };
         room = length-set ancestor k i ∙ c.room;
@@ -236,7 +236,7 @@ module _ (o : Order) (laws : IsGraph o.graph) (i : ℕ) (n : i < length o.rows) 
   parents-told parent ancestor earlier are c done =
       record { room = c.tells.room; each = λ m l. tell m (slice_index_or parent m None) refl (c.tells.each m l) }
     where
-      tell : (m : ℕ) (v : Option ℕ) → slice_index_or parent m None ≡ v → TellsParent o i m v → TellsParent o (i + 1) m v
+      tell : (m : ℕ) (v : Option ℕ) → slice_index_or parent m None ≡ v → TellsParentSoFar o i m v → TellsParentSoFar o (i + 1) m v
       tell m None e t = λ x l h. elim (cases_lt x i) [
         | inl low ↦ t x low h
         | inr high ↦ (

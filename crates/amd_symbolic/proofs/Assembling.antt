@@ -6,7 +6,7 @@ use Rattle.amd_model.specs.Graph.{IsGraph}
 use Rattle.amd_symbolic.specs.Orders.{Order}
 use Rattle.amd_symbolic.specs.Trees.{IsParent, Over}
 use Rattle.amd_symbolic.specs.Trees as trees
-use Rattle.amd_symbolic.specs.Walks.{TellParents, TellsParent}
+use Rattle.amd_symbolic.specs.Walks.{TellParents, TellsParentSoFar}
 use Rattle.amd_symbolic.proofs.TreePaths.{entry_in_subtree, subtree_entry}
 use Rattle.amd_symbolic.specs.Ranks.{Above, GoesToParents, GoesUp, Measured, Ranked}
 use Rattle.amd_symbolic.specs.Ranks as ranks
@@ -28,7 +28,7 @@ module _ (o : Order) (laws : IsGraph o.graph) (parent : List (Option ℕ)) (up :
   pub places : length up ≡ length o.rows
   places = goes.room ∙ tells.room
 
-  up-by : (k : ℕ) (v : Option ℕ) → k < length up → TellsParent o (length o.rows) k v → UpBy o k (unwrap_or v (length up)) (length up) v
+  up-by : (k : ℕ) (v : Option ℕ) → k < length up → TellsParentSoFar o (length o.rows) k v → UpBy o k (unwrap_or v (length up)) (length up) v
   up-by k None l t = record {
     parent = λ ne. absurd (ne refl);
     is = λ q h. absurd (t q h.entry.1 h.entry);

@@ -1,11 +1,11 @@
 -- A matrix without rows has no supernodes.
 use Rattle.std.proofs.Common.{ℕ, ℤ, pos, ◌≡◌, refl, arith, List, [], ◌∷◌}
 use Rattle.std.specs.Prelude.{Option}
-use Rattle.amd_symbolic.specs.Partitions.{IsPartitionOf, matrix}
+use Rattle.amd_symbolic.specs.Partitions.{IsPartitionOf, ordered_matrix}
 
 pub no-partition : (ap' ai p : List ℤ) (first owner ptr : List ℕ) (parent : List (Option ℕ)) (starts earlier : List ℕ) → p ≡ [] →
     first ≡ 0 ∷ [] → owner ≡ [] → ptr ≡ 0 ∷ [] → parent ≡ [] → starts ≡ 0 ∷ [] → earlier ≡ [] →
-    IsPartitionOf (matrix (pos 0) ap' ai p) first owner ptr parent starts earlier
+    IsPartitionOf (ordered_matrix (pos 0) ap' ai p) first owner ptr parent starts earlier
 no-partition ap' ai p first owner ptr parent starts earlier none first-is owner-is ptr-is parent-is starts-is earlier-is =
     rw (none, first-is, owner-is, ptr-is, parent-is, starts-is, earlier-is) (record {
       form = λ some. absurd (some refl);

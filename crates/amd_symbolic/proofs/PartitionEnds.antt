@@ -2,11 +2,11 @@
 use Rattle.std.proofs.Common.{ℕ, ◌≡◌, ◌-◌, List, length, get_or, sym, ap, subst, ◌∙◌, arith}
 use Rattle.std.specs.Prelude.{Option, slice_index}
 use Rattle.std.proofs.lemmas.List.{get_or_read}
-use Rattle.amd_symbolic.specs.Partitions.{IsPartitionOf, Matrix}
+use Rattle.amd_symbolic.specs.Partitions.{IsPartitionOf, OrderedMatrix}
 
-module _ {m : Matrix} {first owner ptr : List ℕ} {parent : List (Option ℕ)} {starts earlier : List ℕ} where
+module _ {m : OrderedMatrix} {first owner ptr : List ℕ} {parent : List (Option ℕ)} {starts earlier : List ℕ} where
   -- so it is one of an equal matrix
-  pub partition_of : {other : Matrix} → m ≡ other → IsPartitionOf other first owner ptr parent starts earlier →
+  pub partition_of : {other : OrderedMatrix} → m ≡ other → IsPartitionOf other first owner ptr parent starts earlier →
       IsPartitionOf m first owner ptr parent starts earlier
   partition_of same p = subst (λ x. IsPartitionOf x first owner ptr parent starts earlier) (sym same) p
 

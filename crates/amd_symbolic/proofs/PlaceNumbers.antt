@@ -5,22 +5,22 @@ use Rattle.std.proofs.lemmas.List.{length-map, get_or-map, map-append, take-map,
 use Rattle.std.proofs.lemmas.List.Elements.{Contains-get_or}
 use Rattle.amd_model.specs.Input.Columns.{at}
 use Rattle.amd_types.specs.Counts.{counts}
-use Rattle.amd_symbolic.specs.Numbers.{AreCounts}
+use Rattle.amd_symbolic.specs.Numbers.{AreNonNegative}
 
 pub counts_back : (xs : List ℕ) → counts (map pos xs) ≡ xs
 counts_back [] = refl
 counts_back (x ∷ xs) = ap (λ ys. x ∷ ys) (counts_back xs)
 
-pub are_counts : (xs : List ℕ) → AreCounts (map pos xs)
+pub are_counts : (xs : List ℕ) → AreNonNegative (map pos xs)
 are_counts xs = ap (map pos) (counts_back xs)
 
 -- a number of a list of counts
-pub number_at : (zs : List ℤ) (k : ℕ) → AreCounts zs → k < length zs → at zs k ≡ pos (slice_index (counts zs) k)
+pub number_at : (zs : List ℤ) (k : ℕ) → AreNonNegative zs → k < length zs → at zs k ≡ pos (slice_index (counts zs) k)
 number_at zs k h l = ap (λ ys. at ys k) (sym h) ∙
     get_or-map pos (counts zs) k 0 (pos 0) (let n = length-map zs unsigned_abs in omega (arith, n, l))
 
 -- numbers that are these places are counts, and are them alone
-pub are_of : (zs : List ℤ) (xs : List ℕ) → zs ≡ map pos xs → AreCounts zs
+pub are_of : (zs : List ℤ) (xs : List ℕ) → zs ≡ map pos xs → AreNonNegative zs
 are_of zs xs e = ap (λ ys. map pos (counts ys)) e ∙ are_counts xs ∙ sym e
 
 pub counts_of : (zs : List ℤ) (xs : List ℕ) → zs ≡ map pos xs → counts zs ≡ xs
@@ -39,19 +39,19 @@ module _ {N : Type 0} (value : N → ℤ) where
   pub counts_range : (xs : List N) (i j : ℕ) → counts (map value (slice_range xs i j)) ≡ slice_range (counts (map value xs)) i j
   counts_range xs i j = counts_take (j - i) (drop i xs) ∙ ap (take (j - i)) (counts_drop i xs)
 
-  pub are_take : (n : ℕ) (xs : List N) → AreCounts (map value xs) → AreCounts (map value (take n xs))
+  pub are_take : (n : ℕ) (xs : List N) → AreNonNegative (map value xs) → AreNonNegative (map value (take n xs))
   are_take n xs h = are_of (map value (take n xs)) (take n (counts (map value xs)))
       (sym (take-map value n xs) ∙ ap (take n) (sym h) ∙ take-map pos n (counts (map value xs)))
 
-  pub are_drop : (n : ℕ) (xs : List N) → AreCounts (map value xs) → AreCounts (map value (drop n xs))
+  pub are_drop : (n : ℕ) (xs : List N) → AreNonNegative (map value xs) → AreNonNegative (map value (drop n xs))
   are_drop n xs h = are_of (map value (drop n xs)) (drop n (counts (map value xs)))
       (sym (drop-map value n xs) ∙ ap (drop n) (sym h) ∙ drop-map pos n (counts (map value xs)))
 
-  pub are_range : (xs : List N) (i j : ℕ) → AreCounts (map value xs) → AreCounts (map value (slice_range xs i j))
+  pub are_range : (xs : List N) (i j : ℕ) → AreNonNegative (map value xs) → AreNonNegative (map value (slice_range xs i j))
   are_range xs i j h = are_take (j - i) (drop i xs) (are_drop i xs h)
 
   -- what was written behind counts
-  pub are_append : (xs ys : List N) (ps : List ℕ) → AreCounts (map value xs) → map value ys ≡ map pos ps → AreCounts (map value (xs ++ ys))
+  pub are_append : (xs ys : List N) (ps : List ℕ) → AreNonNegative (map value xs) → map value ys ≡ map pos ps → AreNonNegative (map value (xs ++ ys))
   are_append xs ys ps h e = are_of (map value (xs ++ ys)) (counts (map value xs) ++ ps)
       (map-append value xs ys ∙ ap (λ zs. zs ++ map value ys) (sym h) ∙ ap (λ zs. map pos (counts (map value xs)) ++ zs) e
       ∙ sym (map-append pos (counts (map value xs)) ps))

@@ -10,7 +10,7 @@ use Rattle.amd_model.proofs.Counting.Places.{below_increasing, length_below, con
 use Rattle.amd_model.proofs.Listings.ReachTest.{columns, factor_of}
 use Rattle.amd_symbolic.specs.Columns.{first_of}
 use Rattle.amd_symbolic.specs.Orders.{Order}
-use Rattle.amd_symbolic.specs.Walks.{TellsParent, TellParents, CountEntries}
+use Rattle.amd_symbolic.specs.Walks.{TellsParentSoFar, TellParents, CountEntries}
 use Rattle.amd_symbolic.proofs.EntryTests.{test, test_entry, entry_test, counted_is}
 use Rattle.amd_symbolic.proofs.FactorOnce.{rising_same, first_least}
 use Rattle.amd_symbolic.specs.Sizes.{HoldSizes}
@@ -37,7 +37,7 @@ module _ (o : Order) (laws : IsGraph o.graph) where
   column_long k d l = ap length (column_is k d l) ∙ length_below (length o.rows) (test o k)
 
   -- the parent that all rows tell is the first entry
-  parent_is : (k : ℕ) (v : Option ℕ) (c : List ℕ) → IsColumn o.graph o.rows k c → TellsParent o (length o.rows) k v → v ≡ first_of c
+  parent_is : (k : ℕ) (v : Option ℕ) (c : List ℕ) → IsColumn o.graph o.rows k c → TellsParentSoFar o (length o.rows) k v → v ≡ first_of c
   parent_is k None [] c t = refl
   parent_is k None (x ∷ xs) c t = absurd (let e = (c.members x).0 (has_contains (x ∷ xs) x (has_head x x xs refl)) in t x e.1 e)
   parent_is k (Some q) [] c t = absurd (has_none q (contains_has [] q ((c.members q).1 t.entry)))

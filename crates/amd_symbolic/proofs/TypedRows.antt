@@ -6,7 +6,7 @@ use Rattle.std.proofs.Math.Nat.{mul-le-mul_right}
 use Rattle.std.proofs.lemmas.Int.{ints}
 use Rattle.std.proofs.lemmas.List.{map-set, length-map}
 use Rattle.amd_types.specs.Counts.{counts}
-use Rattle.amd_symbolic.specs.Partitions.{AreCounts}
+use Rattle.amd_symbolic.specs.Numbers.{AreNonNegative}
 
 module _ {X : Type 0} (value : X → ℤ) (rows : List X) (k j : ℕ) (number : X) (is : value number ≡ pos j) where
   -- a number more, as a count
@@ -14,7 +14,7 @@ module _ {X : Type 0} (value : X → ℤ) (rows : List X) (k j : ℕ) (number : 
   set-count = ap counts (map-set value rows k number) ∙ map-set unsigned_abs (map value rows) k (value number) ∙
       ap (λ z. set (counts (map value rows)) k (unsigned_abs z)) is
 
-  pub told-more : AreCounts (map value rows) → AreCounts (map value (set rows k number))
+  pub told-more : AreNonNegative (map value rows) → AreNonNegative (map value (set rows k number))
   told-more told = ap (map pos) set-count ∙ map-set pos (counts (map value rows)) k j ∙
       ap (λ zs. set zs k (pos j)) told ∙ ap (λ z. set (map value rows) k z) (sym is) ∙ sym (map-set value rows k number)
 
@@ -40,8 +40,8 @@ pub usize-fits : (z : ℤ) (n : ℕ) → z ≡ pos n → n < 2 ^ 64 → FitsUnsi
 usize-fits z n is few = subst (FitsUnsignedBits 64) (sym is) few
 
 -- numbers that were written from counts are counts
-pub told-from : (zs : List ℤ) (ns : List ℕ) → zs ≡ map pos ns → AreCounts zs
-told-from zs ns e = subst AreCounts (sym e) (ap (map pos) (back ns))
+pub told-from : (zs : List ℤ) (ns : List ℕ) → zs ≡ map pos ns → AreNonNegative zs
+told-from zs ns e = subst AreNonNegative (sym e) (ap (map pos) (back ns))
   where
     back : (ns : List ℕ) → counts (map pos ns) ≡ ns
     back [] = refl

@@ -5,9 +5,9 @@ use Rattle.amd_types.specs.Counts.{counts}
 use Rattle.amd_symbolic.specs.Gathering.{Completes, Filled}
 use Rattle.amd_symbolic.specs.Orders.{Order}
 
--- the numbers are counts
-abbrev pub AreCounts : List ℤ → Type 0
-AreCounts zs = map pos (counts zs) ≡ zs
+-- no number is negative
+abbrev pub AreNonNegative : List ℤ → Type 0
+AreNonNegative zs = map pos (counts zs) ≡ zs
 
 -- column k takes over the rows from place from on, before to, and the fresh rows are those that it has beside
 pub record Plans (o : Order) (k : ℕ) (ptr rows : List ℕ) (from to : ℕ) (fresh : List ℕ) : Type 0 where
@@ -20,5 +20,5 @@ pub record Plans (o : Order) (k : ℕ) (ptr rows : List ℕ) (from to : ℕ) (fr
 pub record FillsFront {N : Type 0} (value : N → ℤ) (o : Order) (k : ℕ) (ptr : List ℕ) (rows : List N)
     (parent link : List (Option ℕ)) (column : Option ℕ) (stamp : ℕ) (mark : List ℕ) : Type 0 where
   pub within : slice_index ptr k ≤ length rows
-  pub numbers : AreCounts (map value (take (slice_index ptr k) rows))
+  pub numbers : AreNonNegative (map value (take (slice_index ptr k) rows))
   pub filled : Filled o k ptr (counts (map value (take (slice_index ptr k) rows))) parent link column stamp mark

@@ -132,10 +132,6 @@ IsMarkedBy mark j s = slice_index mark s ≡ j + 1
 abbrev pub HasRow : Partition → List (List ℕ) → ℕ → ℕ → Type 0
 HasRow b columns j s = (s ≡ slice_index b.owner j) ⊎ ((s < slice_index b.owner j) × Contains (last_column b columns s) j)
 
--- the integers are counts
-abbrev pub AreCounts : List ℤ → Type 0
-AreCounts numbers = map pos (counts numbers) ≡ numbers
-
 -- row j climbs, and has come to supernode s, that of its own place where no climb is under way: what has its mark has
 -- the row written, and so have all that stand over it, but for what is to come
 pub record Climbs (b : Partition) (j s : ℕ) (next mark rows : List ℕ) : Type 0 where
@@ -154,22 +150,22 @@ pub record Climbs (b : Partition) (j s : ℕ) (next mark rows : List ℕ) : Type
       (q : ℕ) × (slice_index_or b.parent t None ≡ Some q) × (IsMarkedBy mark j q ⊎ (q ≡ s))
 
 -- a matrix with as many rows and columns, its pointers and its row indices, and a list of its rows
-pub record Matrix : Type 0 where
+pub record OrderedMatrix : Type 0 where
   pub size : ℤ
   pub pointers : List ℤ
   pub indices : List ℤ
   pub list : List ℤ
 
-abbrev pub matrix : ℤ → List ℤ → List ℤ → List ℤ → Matrix
-matrix size pointers indices list = record { size = size; pointers = pointers; indices = indices; list = list }
+abbrev pub ordered_matrix : ℤ → List ℤ → List ℤ → List ℤ → OrderedMatrix
+ordered_matrix size pointers indices list = record { size = size; pointers = pointers; indices = indices; list = list }
 
 -- its graph, and the order that the list tells
-abbrev pub order_of : Matrix → Order
+abbrev pub order_of : OrderedMatrix → Order
 order_of m = record { graph = graph_of (unsigned_abs m.size) m.pointers m.indices; rows = counts m.list }
 
 -- the supernodes of the factor of a matrix under the order that its list tells, but for the rows below the blocks, and
 -- the lists of the earlier neighbours; where there are rows the matrix is a column form
-pub record IsPartitionOf (m : Matrix) (first owner ptr : List ℕ) (parent : List (Option ℕ))
+pub record IsPartitionOf (m : OrderedMatrix) (first owner ptr : List ℕ) (parent : List (Option ℕ))
     (starts earlier : List ℕ) : Type 0 where
   pub form : m.size ≢ pos 0 → IsInput m.size m.size m.pointers m.indices
   pub size : m.size ≡ pos (length owner)

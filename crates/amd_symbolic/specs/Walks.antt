@@ -7,14 +7,14 @@ use Rattle.amd_symbolic.specs.Trees.{Entry, IsParent}
 
 -- what the rows before place j tell of the parent of place k: it has no entry before j, or this parent, which may lie
 -- behind j
-abbrev pub TellsParent : Order → ℕ → ℕ → Option ℕ → Type 0
-TellsParent o j k None = (m : ℕ) → m < j → Entry o.graph o.rows k m → ⊥
-TellsParent o j k (Some parent) = IsParent o.graph o.rows k parent
+abbrev pub TellsParentSoFar : Order → ℕ → ℕ → Option ℕ → Type 0
+TellsParentSoFar o j k None = (m : ℕ) → m < j → Entry o.graph o.rows k m → ⊥
+TellsParentSoFar o j k (Some parent) = IsParent o.graph o.rows k parent
 
 -- the parents, as far as the rows before place j tell them
 pub record TellParents (o : Order) (j : ℕ) (parent : List (Option ℕ)) : Type 0 where
   pub room : length parent ≡ length o.rows
-  pub each : (k : ℕ) → k < length o.rows → TellsParent o j k (slice_index_or parent k None)
+  pub each : (k : ℕ) → k < length o.rows → TellsParentSoFar o j k (slice_index_or parent k None)
 
 -- the column of place k has that many entries before place j
 pub record CountsEntry (o : Order) (j k count : ℕ) : Type 0 where

@@ -6,7 +6,8 @@ ghost use Rattle.std.specs.Prelude.{ℕ, ◌≡◌, ◌<◌, ◌+◌, ◌-◌, l
 ghost use Rattle.amd_model.specs.Graph.{IsGraph};
 ghost use Rattle.amd_types.specs.Counts.{counts};
 ghost use Rattle.amd_symbolic.specs.Neighbours.{AreEarlier, HasEarlier};
-ghost use Rattle.amd_symbolic.specs.Partitions.{AreCounts, Climbs, IsCut, IsMarkedBy, MarkedBefore, Partition};
+ghost use Rattle.amd_symbolic.specs.Numbers.{AreNonNegative};
+ghost use Rattle.amd_symbolic.specs.Partitions.{Climbs, IsCut, IsMarkedBy, MarkedBefore, Partition};
 ghost use Rattle.amd_symbolic.specs.Partitions.{WrittenTo};
 ghost use Rattle.amd_symbolic.specs.Supernodes.{HoldSupernodes};
 
@@ -16,7 +17,7 @@ use amd_types::index::Index;
 /// Writes 0 into each place.
 fn clear<I: Index>(numbers: &mut [I])
     ensures room { length numbers.new ≡ length numbers.old }
-    ensures told { AreCounts (map I.value numbers.new) }
+    ensures told { AreNonNegative (map I.value numbers.new) }
 {
     let zero = I::zero();
     'numbers: for k in 0..numbers.len() {
@@ -41,8 +42,8 @@ fn put_row<I: Index>(
     requires parents { parent.now ≡ b.parent }
     requires climbs { Climbs b j s next.old mark.old (counts (map I.value rows.old)) }
     requires new { ¬ (IsMarkedBy mark.old j s) }
-    requires told { AreCounts (map I.value rows.old) }
-    ensures told { AreCounts (map I.value rows.new) }
+    requires told { AreNonNegative (map I.value rows.old) }
+    ensures told { AreNonNegative (map I.value rows.new) }
     ensures climbs { Climbs b j result next.new mark.new (counts (map I.value rows.new)) }
     ensures higher { s < result }
     ensures marked { IsMarkedBy mark.new j s }
@@ -70,8 +71,8 @@ fn climb<I: Index>(
     requires parents { parent.now ≡ b.parent }
     requires number { I.value number ≡ pos j }
     requires climbs { Climbs b j from next.old mark.old (counts (map I.value rows.old)) }
-    requires told { AreCounts (map I.value rows.old) }
-    ensures told { AreCounts (map I.value rows.new) }
+    requires told { AreNonNegative (map I.value rows.old) }
+    ensures told { AreNonNegative (map I.value rows.new) }
     ensures climbs { Climbs b j (slice_index b.owner j) next.new mark.new (counts (map I.value rows.new)) }
     ensures marked { IsMarkedBy mark.new j from }
     ensures kept { (t : ℕ) → IsMarkedBy mark.old j t → IsMarkedBy mark.new j t }
@@ -102,8 +103,8 @@ fn add_row<I: Index>(
     requires earlier { AreEarlier b.order j earlier.now }
     requires written { WrittenTo b j next.old (counts (map I.value rows.old)) }
     requires marks { MarkedBefore b j mark.old }
-    requires told { AreCounts (map I.value rows.old) }
-    ensures told { AreCounts (map I.value rows.new) }
+    requires told { AreNonNegative (map I.value rows.old) }
+    ensures told { AreNonNegative (map I.value rows.new) }
     ensures written { WrittenTo b (j + 1) next.new (counts (map I.value rows.new)) }
     ensures marks { MarkedBefore b (j + 1) mark.new }
 {
@@ -144,7 +145,7 @@ pub fn fill_rows<I: Index>(
     requires marks { length mark.old + 1 ≡ length b.first }
     requires room { length rows.old ≡ slice_index b.ptr (length b.first - 1) }
     requires fits { I.fits (pos (length b.owner)) }
-    ensures told { AreCounts (map I.value rows.new) }
+    ensures told { AreNonNegative (map I.value rows.new) }
     ensures rows { HoldSupernodes b.order.graph b.order.rows b.first b.ptr (counts (map I.value rows.new)) b.parent }
 {
     next.copy_from_slice(&ptr[..first.len() - 1]);

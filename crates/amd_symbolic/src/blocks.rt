@@ -4,7 +4,8 @@
 
 ghost use Rattle.std.specs.Prelude.{◌≡◌, ◌+◌, ◌-◌, length, map, slice_index};
 ghost use Rattle.amd_types.specs.Counts.{counts};
-ghost use Rattle.amd_symbolic.specs.Partitions.{AreCounts, IsPartitionOf, Matrix};
+ghost use Rattle.amd_symbolic.specs.Numbers.{AreNonNegative};
+ghost use Rattle.amd_symbolic.specs.Partitions.{IsPartitionOf, OrderedMatrix};
 ghost use Rattle.amd_symbolic.specs.Supernodes.{IsSupernodesOf};
 
 use crate::below::fill_rows;
@@ -52,7 +53,7 @@ pub struct Partitioned<A: Allocator> {
 ///
 /// Source: Liu 1990; Liu, Ng and Peyton 1993.
 pub fn write_rows<I: Index, A: Allocator>(partition: Partitioned<A>, rows: &mut [I]) -> Cut<A>
-    ghost m: { Matrix }
+    ghost m: { OrderedMatrix }
     requires partition { IsPartitionOf m partition.cut.first.items partition.cut.owner.items partition.cut.ptr.items
         partition.cut.parent.items partition.lists.starts.items partition.lists.neighbours.items }
     requires next { length partition.next.items + 1 ≡ length partition.cut.first.items }
@@ -61,7 +62,7 @@ pub fn write_rows<I: Index, A: Allocator>(partition: Partitioned<A>, rows: &mut 
         slice_index partition.cut.ptr.items (length partition.cut.first.items - 1) }
     requires fits { I.fits m.size }
     ensures same { result ≡ partition.cut }
-    ensures told { AreCounts (map I.value rows.new) }
+    ensures told { AreNonNegative (map I.value rows.new) }
     ensures supernodes { IsSupernodesOf m.size m.pointers m.indices m.list partition.cut.first.items
         partition.cut.ptr.items (counts (map I.value rows.new)) partition.cut.parent.items }
 {

@@ -12,7 +12,7 @@ ghost use Rattle.amd_symbolic.specs.Orders.{Order};
 ghost use Rattle.amd_symbolic.specs.Gathering.{Column, Completes, HoldBefore, Inherits, IsChild, LinkChildren};
 ghost use Rattle.amd_symbolic.specs.Gathering.{Marks, MarksTell, TellFirst};
 ghost use Rattle.amd_symbolic.specs.Neighbours.{AreLater};
-ghost use Rattle.amd_symbolic.specs.Numbers.{AreCounts, Plans};
+ghost use Rattle.amd_symbolic.specs.Numbers.{AreNonNegative, Plans};
 ghost use Rattle.amd_symbolic.specs.Trees.{Entry};
 ghost use Rattle.amd_types.specs.Counts.{counts};
 
@@ -76,7 +76,7 @@ pub fn gather_children<N: Index>(
     requires place { c.place ≡ k }
     requires inside { c.place < length c.order.rows }
     requires links { LinkChildren c.order c.place link.now }
-    requires numbers { AreCounts (map N.value rows.now) }
+    requires numbers { AreNonNegative (map N.value rows.now) }
     requires columns { HoldBefore c.order c.place ptr.now (counts (map N.value rows.now)) }
     requires base { IsChild c base → (j : ℕ) → c.place < j → Entry c.order.graph c.order.rows base j →
         slice_index mark.old j ≡ stamp }
@@ -120,7 +120,7 @@ fn mark_base<N: Index>(
     ghost c: { Column }
     requires place { c.place ≡ k }
     requires inside { c.place < length c.order.rows }
-    requires numbers { AreCounts (map N.value rows.now) }
+    requires numbers { AreNonNegative (map N.value rows.now) }
     requires rows { c.inherited ≡ counts (map N.value rows.now) }
     requires inherits { Inherits c base }
     requires marks { MarksTell c.order c.place marked.column marked.stamp mark.old }
@@ -155,7 +155,7 @@ pub fn new_rows<N: Index>(
     requires place { c.place ≡ k }
     requires inside { c.place < length c.order.rows }
     requires links { LinkChildren c.order c.place link.now }
-    requires numbers { AreCounts (map N.value rows.now) }
+    requires numbers { AreNonNegative (map N.value rows.now) }
     requires columns { HoldBefore c.order c.place ptr.now (counts (map N.value rows.now)) }
     requires base { MatchOption base ((m : ℕ) → ¬ (IsChild c m)) (λ child. IsChild c child) }
     requires taken { c.inherited ≡ slice_range (counts (map N.value rows.now)) from to }
@@ -196,7 +196,7 @@ pub fn plan_column<N: Index>(
     requires place { k < length o.rows }
     requires neighbours { AreLater o k neighbours.now }
     requires links { LinkChildren o k link.now }
-    requires numbers { AreCounts (map N.value rows.now) }
+    requires numbers { AreNonNegative (map N.value rows.now) }
     requires columns { HoldBefore o k ptr.now (counts (map N.value rows.now)) }
     requires marks { MarksTell o k marked.column marked.stamp mark.old }
     requires fresh { length fresh.old ≡ length o.rows }
@@ -230,7 +230,7 @@ fn close_column<N: Index>(
     ghost o: { Order }
     requires laws { IsGraph o.graph }
     requires place { k < length o.rows }
-    requires numbers { AreCounts (map N.value rows.now) }
+    requires numbers { AreNonNegative (map N.value rows.now) }
     requires columns { HoldBefore o k ptr.old (counts (map N.value rows.now)) }
     requires parents { TellFirst o k ptr.old (counts (map N.value rows.now)) parent.old }
     requires links { LinkChildren o k link.old }
@@ -272,11 +272,11 @@ pub fn finish_column<N: Index>(
     requires plans { Plans o k ptr.old (counts (map N.value (take (slice_index ptr.old k) rows.old))) from to
         fresh.now }
     requires size { length rows.old ≡ slice_index ptr.old k + (to - from + length fresh.now) }
-    requires numbers { AreCounts (map N.value (take (slice_index ptr.old k) rows.old)) }
+    requires numbers { AreNonNegative (map N.value (take (slice_index ptr.old k) rows.old)) }
     requires columns { HoldBefore o k ptr.old (counts (map N.value (take (slice_index ptr.old k) rows.old))) }
     requires parents { TellFirst o k ptr.old (counts (map N.value (take (slice_index ptr.old k) rows.old))) parent.old }
     requires links { LinkChildren o k link.old }
-    ensures numbers { AreCounts (map N.value rows.new) }
+    ensures numbers { AreNonNegative (map N.value rows.new) }
     ensures columns { HoldBefore o (k + 1) ptr.new (counts (map N.value rows.new)) }
     ensures parents { TellFirst o (k + 1) ptr.new (counts (map N.value rows.new)) parent.new }
     ensures links { LinkChildren o (k + 1) link.new }

@@ -87,7 +87,7 @@ pub struct Sized<A: Allocator> {
 
 /// The lists for the work of a count, beside what it gives.
 #[derive(Drop)]
-struct Work<A: Allocator> {
+struct WorkLists<A: Allocator> {
     order: Vec<usize, A>,
     up: Vec<usize, A>,
     last: Vec<usize, A>,
@@ -103,7 +103,7 @@ struct Work<A: Allocator> {
 /// # Errors
 ///
 /// A refused request for memory.
-fn work_lists<A: Allocator + Copy>(alloc: A, ends: usize) -> Result<Work<A>, AllocError>
+fn work_lists<A: Allocator + Copy>(alloc: A, ends: usize) -> Result<WorkLists<A>, AllocError>
     ghost o: { Order }
     requires { ends ≡ length o.rows + 1 }
     ensures { IfOk result (λ w. WorkSizes o w.order.items w.up.items w.last.items w.size.items w.link.items w.rank.items
@@ -118,7 +118,7 @@ fn work_lists<A: Allocator + Copy>(alloc: A, ends: usize) -> Result<Work<A>, All
     let rank = vec![in alloc; 0; ends]?;
     let plus = vec![in alloc; 0; ends]?;
     let minus = vec![in alloc; 0; ends]?;
-    Ok(Work {
+    Ok(WorkLists {
         order,
         up,
         last,

@@ -3,14 +3,14 @@
 ghost use Rattle.std.specs.Prelude.{ℕ, ◌≡◌, ◌<◌, ◌≤◌, ◌+◌, Contains, length, map, slice_index, take};
 ghost use Rattle.amd_types.specs.Counts.{counts};
 ghost use Rattle.amd_symbolic.specs.Gathering.{Column, EntryOf, Marks};
-ghost use Rattle.amd_symbolic.specs.Numbers.{AreCounts};
+ghost use Rattle.amd_symbolic.specs.Numbers.{AreNonNegative};
 
 use crate::numbers::place_at;
 use amd_types::index::Index;
 
 /// Gives each of the rows this mark.
 pub fn mark_rows<N: Index>(rows: &[N], stamp: usize, mark: &mut [usize])
-    requires numbers { AreCounts (map N.value rows.now) }
+    requires numbers { AreNonNegative (map N.value rows.now) }
     requires within { (j : ℕ) → Contains (counts (map N.value rows.now)) j → j < length mark.old }
     ensures marked { (j : ℕ) → Contains (counts (map N.value rows.now)) j → slice_index mark.new j ≡ stamp }
     ensures others { (j : ℕ) → ¬ (Contains (counts (map N.value rows.now)) j) →
@@ -59,7 +59,7 @@ pub fn gather<N: Index>(
     fresh: &mut [usize],
 ) -> usize
     ghost c: { Column }
-    requires numbers { AreCounts (map N.value rows.now) }
+    requires numbers { AreNonNegative (map N.value rows.now) }
     requires entries { (j : ℕ) → Contains (counts (map N.value rows.now)) j → EntryOf c j }
     requires room { length fresh.old ≡ length c.order.rows }
     requires count { count ≤ length fresh.old }

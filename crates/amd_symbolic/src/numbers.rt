@@ -2,7 +2,7 @@
 
 ghost use Rattle.std.specs.Prelude.{ℕ, ◌≡◌, ◌<◌, ◌^◌, length, map, pos, slice_index};
 ghost use Rattle.amd_types.specs.Counts.{counts};
-ghost use Rattle.amd_symbolic.specs.Numbers.{AreCounts};
+ghost use Rattle.amd_symbolic.specs.Numbers.{AreNonNegative};
 
 use amd::internal::{count_at, from_count};
 use amd_types::index::Index;
@@ -10,7 +10,7 @@ use amd_types::index::Index;
 /// The place that the number at `k` is, which is below the length of `numbers`.
 #[inline]
 pub fn place_at<N: Index>(numbers: &[N], k: usize) -> usize
-    requires numbers { AreCounts (map N.value numbers.now) }
+    requires numbers { AreNonNegative (map N.value numbers.now) }
     requires within { k < length numbers.now }
     requires small { slice_index (counts (map N.value numbers.now)) k < 2 ^ 64 }
     ensures { result ≡ slice_index (counts (map N.value numbers.now)) k }

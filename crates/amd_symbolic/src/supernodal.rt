@@ -7,7 +7,7 @@ ghost use Rattle.amd_model.specs.Input.Pattern.{graph_of};
 ghost use Rattle.amd_types.specs.Counts.{counts as counts_of};
 ghost use Rattle.amd_symbolic.specs.Counted.{IsCountsFault};
 ghost use Rattle.amd_symbolic.specs.Orders.{Order};
-ghost use Rattle.amd_symbolic.specs.Partitions.{IsPartitionOf, Matrix, matrix};
+ghost use Rattle.amd_symbolic.specs.Partitions.{IsPartitionOf, OrderedMatrix, ordered_matrix};
 ghost use Rattle.amd_symbolic.specs.Supernodes.{IsSupernodesOf};
 
 use crate::blocks::{Partitioned, Supernodes, write_rows};
@@ -34,7 +34,7 @@ fn form_partition<I: Index, A: Allocator + Copy>(
     requires form { IsColumnForm (pos size) size (map I.value a_p.now) (map I.value a_i.now) }
     requires graph { o.graph ≡ graph_of size (map I.value a_p.now) (map I.value a_i.now) }
     requires rows { o.rows ≡ counts_of (map I.value p.now) }
-    ensures partition { IfOk result (λ b. IsPartitionOf (matrix (pos size) (map I.value a_p.now) (map I.value a_i.now)
+    ensures partition { IfOk result (λ b. IsPartitionOf (ordered_matrix (pos size) (map I.value a_p.now) (map I.value a_i.now)
         (map I.value p.now)) b.cut.first.items b.cut.owner.items b.cut.ptr.items b.cut.parent.items
         b.lists.starts.items b.lists.neighbours.items) }
     ensures next { IfOk result (λ b. length b.next.items + 1 ≡ length b.cut.first.items) }
@@ -107,7 +107,7 @@ pub fn supernode_partition<I: Index, A: Allocator + Copy>(
     p: &[I],
 ) -> Result<Partitioned<A>, Fault>
     requires fits { I.fits (I.value n) }
-    ensures partition { IfOk result (λ b. IsPartitionOf (matrix (I.value n) (map I.value a_p.now) (map I.value a_i.now)
+    ensures partition { IfOk result (λ b. IsPartitionOf (ordered_matrix (I.value n) (map I.value a_p.now) (map I.value a_i.now)
         (map I.value p.now)) b.cut.first.items b.cut.owner.items b.cut.ptr.items b.cut.parent.items
         b.lists.starts.items b.lists.neighbours.items) }
     ensures next { IfOk result (λ b. length b.next.items + 1 ≡ length b.cut.first.items) }
@@ -139,9 +139,9 @@ fn matrix_supernodes<I: Index, A: Allocator + Copy>(
     a_i: &[I],
     p: &[I],
 ) -> Result<Supernodes<A>, Fault>
-    ghost m: { Matrix }
+    ghost m: { OrderedMatrix }
     requires fits { I.fits (I.value n) }
-    requires matrix { m ≡ matrix (I.value n) (map I.value a_p.now) (map I.value a_i.now) (map I.value p.now) }
+    requires matrix { m ≡ ordered_matrix (I.value n) (map I.value a_p.now) (map I.value a_i.now) (map I.value p.now) }
     ensures supernodes { IfOk result (λ s. IsSupernodesOf m.size m.pointers m.indices m.list s.first.items s.ptr.items
         s.rows.items s.parent.items) }
     ensures fault { IfErr result (λ e. IsCountsFault m.size m.pointers m.indices m.list e) }

@@ -5,7 +5,7 @@ use Rattle.std.proofs.lemmas.List.Elements.{Contains-get_or}
 use Rattle.amd_model.specs.Factor.{IsColumn}
 use Rattle.amd_symbolic.specs.Gathering.{HoldBefore, TellFirst}
 use Rattle.amd_symbolic.specs.Merging.{merged}
-use Rattle.amd_symbolic.specs.Numbers.{AreCounts, Plans}
+use Rattle.amd_symbolic.specs.Numbers.{AreNonNegative, Plans}
 use Rattle.amd_symbolic.proofs.PlaceNumbers.{are_append, are_range, counts_append, counts_long, counts_range, place_of}
 use Rattle.amd_symbolic.proofs.Standing.{merged_column, hold_same, tell_same}
 use Rattle.amd_symbolic.proofs.Tails.{range_before, range_last}
@@ -16,7 +16,7 @@ pub write_merged-requires-clause-numbers : goal.write_merged-requires-clause-num
 write_merged-requires-clause-numbers g c =
     let value = g.N.Index.value in let done = c.split_at_mut-done.result.0.now in
     are_range value done c.args.from c.args.to
-    (subst (λ ys. AreCounts (map value ys)) (sym c.split_at_mut-done.ensures.front) c.requires.1.1.1.1.1.1.0)
+    (subst (λ ys. AreNonNegative (map value ys)) (sym c.split_at_mut-done.ensures.front) c.requires.1.1.1.1.1.1.0)
 
 pub write_merged-requires-clause-small : goal.write_merged-requires-clause-small
 write_merged-requires-clause-small g c =
@@ -42,7 +42,7 @@ close_column-requires g c κs inside =
     let front = sym c.split_at_mut-done.ensures.front in
     let plans = subst (λ ys. Plans g.o c.args.k c.args.ptr.now (counts (map value ys)) c.args.from c.args.to c.args.fresh.now) front
     c.requires.1.1.1.1.0 in
-    let numbers = subst (λ ys. AreCounts (map value ys)) front c.requires.1.1.1.1.1.1.0 in
+    let numbers = subst (λ ys. AreNonNegative (map value ys)) front c.requires.1.1.1.1.1.1.0 in
     let columns = subst (λ ys. HoldBefore g.o c.args.k c.args.ptr.now (counts (map value ys))) front c.requires.1.1.1.1.1.1.1.0 in
     let parents = subst (λ ys. TellFirst g.o c.args.k c.args.ptr.now (counts (map value ys)) c.args.parent.now) front
     c.requires.1.1.1.1.1.1.1.1.0 in
@@ -94,4 +94,4 @@ returns-clause-numbers g c =
     let value = g.N.Index.value in let done = c.split_at_mut-done.result.0.now in
     are_append value done c.write_merged.new.out
     (merged (counts (map value (slice_range done c.args.from c.args.to))) c.args.fresh.now)
-    (subst (λ ys. AreCounts (map value ys)) (sym c.split_at_mut-done.ensures.front) c.requires.1.1.1.1.1.1.0) c.write_merged.ensures
+    (subst (λ ys. AreNonNegative (map value ys)) (sym c.split_at_mut-done.ensures.front) c.requires.1.1.1.1.1.1.0) c.write_merged.ensures

@@ -4,7 +4,7 @@ use Rattle.std.proofs.lemmas.List.{length-take-le}
 use Rattle.std.proofs.lemmas.Grind.{common_steps}
 use Rattle.amd_types.specs.Counts.{counts}
 use Rattle.amd_symbolic.specs.Gathering.{HoldBefore}
-use Rattle.amd_symbolic.specs.Numbers.{AreCounts}
+use Rattle.amd_symbolic.specs.Numbers.{AreNonNegative}
 use Rattle.amd_symbolic.specs.Orders.{Order}
 use Rattle.amd_symbolic.proofs.Fronts.{passes}
 use Rattle.amd_symbolic.proofs.fill.add_column.Goals as goal
@@ -15,8 +15,8 @@ module _ {N : Type 0} (value : N → ℤ) (o : Order) (k : ℕ) (ptr : List ℕ)
   whole : take (slice_index ptr k) items ≡ now
   whole = take_all (slice_index ptr k) items (omega (arith, full)) ∙ sym is
 
-  numbers_now : AreCounts (map value (take (slice_index ptr k) items)) → AreCounts (map value now)
-  numbers_now = subst (λ xs. AreCounts (map value xs)) whole
+  numbers_now : AreNonNegative (map value (take (slice_index ptr k) items)) → AreNonNegative (map value now)
+  numbers_now = subst (λ xs. AreNonNegative (map value xs)) whole
 
   columns_now : HoldBefore o k ptr (counts (map value (take (slice_index ptr k) items))) → HoldBefore o k ptr (counts (map value now))
   columns_now = subst (λ xs. HoldBefore o k ptr (counts (map value xs))) whole

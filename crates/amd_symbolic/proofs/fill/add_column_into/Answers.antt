@@ -4,7 +4,7 @@ use Rattle.std.proofs.lemmas.Grind.{common_steps}
 use Rattle.std.proofs.lemmas.List.{length-take-le, take-take}
 use Rattle.amd_types.specs.Counts.{counts}
 use Rattle.amd_symbolic.specs.Gathering.{HoldBefore, TellFirst}
-use Rattle.amd_symbolic.specs.Numbers.{AreCounts, Plans}
+use Rattle.amd_symbolic.specs.Numbers.{AreNonNegative, Plans}
 use Rattle.amd_symbolic.specs.Orders.{Order}
 use Rattle.amd_symbolic.proofs.Fronts.{passes, taken_short}
 use Rattle.amd_symbolic.proofs.fill.add_column_into.Goals as goal
@@ -14,9 +14,9 @@ module _ {N : Type 0} (value : N → ℤ) (o : Order) (k : ℕ) (ptr : List ℕ)
   same : take (slice_index ptr k) rows ≡ take (slice_index ptr k) (take (slice_index ptr k + size) rows)
   same = sym (take-take (slice_index ptr k) (slice_index ptr k + size) rows (omega arith))
 
-  numbers_here : AreCounts (map value (take (slice_index ptr k) rows)) →
-      AreCounts (map value (take (slice_index ptr k) (take (slice_index ptr k + size) rows)))
-  numbers_here = subst (λ xs. AreCounts (map value xs)) same
+  numbers_here : AreNonNegative (map value (take (slice_index ptr k) rows)) →
+      AreNonNegative (map value (take (slice_index ptr k) (take (slice_index ptr k + size) rows)))
+  numbers_here = subst (λ xs. AreNonNegative (map value xs)) same
 
   columns_here : HoldBefore o k ptr (counts (map value (take (slice_index ptr k) rows))) →
       HoldBefore o k ptr (counts (map value (take (slice_index ptr k) (take (slice_index ptr k + size) rows))))

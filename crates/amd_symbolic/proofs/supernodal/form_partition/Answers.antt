@@ -4,7 +4,7 @@ use Rattle.amd_model.specs.Input.Pattern.{graph_of}
 use Rattle.amd_types.specs.Counts.{counts}
 use Rattle.amd_symbolic.specs.Neighbours.{HasEarlier}
 use Rattle.amd_symbolic.specs.Orders.{Order, Permutes}
-use Rattle.amd_symbolic.specs.Partitions.{IsCut, IsPartitionOf, matrix}
+use Rattle.amd_symbolic.specs.Partitions.{IsCut, IsPartitionOf, ordered_matrix}
 use Rattle.amd_symbolic.proofs.ColumnParts.{laws, earlier_of}
 use Rattle.amd_symbolic.proofs.SupernodeTree.{places}
 use Rattle.amd_symbolic.proofs.supernodal.form_partition.Goals as goal
@@ -14,7 +14,7 @@ partition_of : (n : ℕ) (ap' ai p : List ℤ) (o : Order) → o.graph ≡ graph
     (first owner ptr : List ℕ) (parent : List (Option ℕ)) (starts earlier : List ℕ) → IsColumnForm (pos n) n ap' ai →
     Permutes n p (counts p) → HasEarlier (record { graph = graph_of n ap' ai; rows = counts p }) starts earlier →
     IsCut (record { order = o; first = first; owner = owner; ptr = ptr; parent = parent }) →
-    IsPartitionOf (matrix (pos n) ap' ai p) first owner ptr parent starts earlier
+    IsPartitionOf (ordered_matrix (pos n) ap' ai p) first owner ptr parent starts earlier
 partition_of n ap' ai p o graph rows first owner ptr parent starts earlier form permutes near cut =
     let all = subst (λ g. IsCut (record {
       order = record { graph = g; rows = counts p };

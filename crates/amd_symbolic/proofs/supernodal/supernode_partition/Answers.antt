@@ -2,7 +2,7 @@ use Rattle.std.proofs.Common.{ℤ, List, pos, ◌≡◌, [], map, refl, sym, ap,
 use Rattle.std.specs.Prelude.{IfOk, IfErr, ◌==◌}
 use Rattle.std.proofs.lemmas.List.{length-map}
 use Rattle.amd_symbolic.specs.Counted.{IsCountsFault}
-use Rattle.amd_symbolic.specs.Partitions.{IsPartitionOf, matrix}
+use Rattle.amd_symbolic.specs.Partitions.{IsPartitionOf, ordered_matrix}
 use Rattle.amd_symbolic.proofs.ColumnParts.{no_items, no_count, no_form, no_order}
 use Rattle.amd_symbolic.proofs.NoSupernodes.{no-partition}
 use Rattle.amd_symbolic.proofs.supernodal.supernode_partition.Goals as goal
@@ -31,7 +31,7 @@ returns-clause-partition g c =
     let a_p : List ℤ = map g.I.Index.value c.args.a_p.now in
     let a_i : List ℤ = map g.I.Index.value c.args.a_i.now in
     let p : List ℤ = map g.I.Index.value c.args.p.now in
-    subst (λ z. IfOk c.form_partition.result (λ b. IsPartitionOf (matrix z a_p a_i p) b.cut.first.items b.cut.owner.items b.cut.ptr.items
+    subst (λ z. IfOk c.form_partition.result (λ b. IsPartitionOf (ordered_matrix z a_p a_i p) b.cut.first.items b.cut.owner.items b.cut.ptr.items
     b.cut.parent.items b.lists.starts.items b.lists.neighbours.items)) c.in-Some.ensures.1 c.form_partition.ensures.partition
 
 pub returns-clause-fault : goal.returns-clause-fault
@@ -49,7 +49,7 @@ returns-in_ok-no_partition-clause-partition g c =
     let zero : pos 0 ≡ g.I.Index.value c.args.n = sym (ap pos c.if-size-eq0.true) ∙ c.in-Some.ensures.1 in
     let empty : p ≡ [] = no_items p (c.if-is_empty.ensures ∙ ap (λ l. l == 0) (sym (length-map c.args.p.now g.I.Index.value))) in
     let b = c.in_ok-no_partition.field-0 in subst
-    (λ z. IsPartitionOf (matrix z a_p a_i p) b.cut.first.items b.cut.owner.items b.cut.ptr.items b.cut.parent.items
+    (λ z. IsPartitionOf (ordered_matrix z a_p a_i p) b.cut.first.items b.cut.owner.items b.cut.ptr.items b.cut.parent.items
     b.lists.starts.items b.lists.neighbours.items) zero
     (no-partition a_p a_i p _ _ _ _ _ _ empty c.in_ok-no_partition.ensures.first c.in_ok-no_partition.ensures.owner
     c.in_ok-no_partition.ensures.pointers c.in_ok-no_partition.ensures.parents c.in_ok-no_partition.ensures.starts
