@@ -93,11 +93,6 @@ module _ (parent nv f_size : List ℤ) (nv_room : length nv ≡ length parent) (
       rises = λ e p is. (let q = parent_is e p is in f.rises e p q.0 q.1);
     }
 
--- each place of a forest is sound
-pub forest_sound : (parent nv f_size : List ℤ) → IsElementForest (length parent) parent nv f_size → (e : ℕ) → e < length parent →
-    IsSoundForest parent nv f_size e
-forest_sound parent nv f_size f e inside h = (f.sizes e h, f.parents e h)
-
 -- a test that tells one of two equal things tells the other
 pub tells_other : {P Q : Type 0} (R : Status → Type 0) (r : Result Bool Status) → (P → Q) → (Q → P) →
     MatchResult r (λ b. IsTrue b ↔ P) R → MatchResult r (λ b. IsTrue b ↔ Q) R

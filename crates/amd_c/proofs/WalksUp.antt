@@ -44,27 +44,6 @@ pub record Climbs (above : List (Option ℕ)) (start walk : ℕ) (old marks : Li
       ((p : ℕ) → above_at above e ≡ Some p → (p ≡ place) ⊎ ((get_or marks p 0 ≡ walk) × (rank e < rank p)))
   pub lower : (f : HasNoCycle above) (e : ℕ) → get_or marks e 0 ≡ walk → f.rank e < f.rank place
 
-pub climb_begins : (above : List (Option ℕ)) (start walk : ℕ) (old : List ℕ) → start < length above → MarksRise above walk old →
-    Climbs above start walk old old start
-climb_begins above start walk old inside m = record {
-  inside = inside;
-  room = m.room;
-  each = λ e. inl refl;
-  begun = inl refl;
-  rank = λ e. 0;
-  top = 0;
-  path = λ e h. absurd (let b = m.before e in omega (arith, b, h));
-  lower = λ f e h. absurd (let b = m.before e in omega (arith, b, h));
-}
-
--- what was marked before stays marked
-pub climb_kept : (above : List (Option ℕ)) (start walk : ℕ) (old marks : List ℕ) (place e : ℕ) → 0 < walk →
-    Climbs above start walk old marks place → get_or old e 0 ≢ 0 → get_or marks e 0 ≢ 0
-climb_kept above start walk old marks place e some c ne = elim (c.each e) [
-  | inl s ↦ λ z. ne (sym s ∙ z)
-  | inr s ↦ absurd (ne s.1)
-]
-
 module _ (above : List (Option ℕ)) (walk : ℕ) (old marks : List ℕ) (m : MarksRise above walk old) (room : length marks ≡ length above)
     (each : (e : ℕ) → (get_or marks e 0 ≡ get_or old e 0) ⊎ ((get_or marks e 0 ≡ walk) × (get_or old e 0 ≡ 0)))
     (rank : ℕ → ℕ) (top : ℕ)

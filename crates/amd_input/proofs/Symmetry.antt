@@ -197,8 +197,3 @@ pub symmetric_only : (n : ℕ) (ap' ai : List ℤ) → IsSymmetric n ap' ai →
     degree_sum (graph_of n ap' ai) ≡ pair_count n ap' ai - diagonal_count n ap' ai
 unfolding graph_of degree_sum degree pair_count diagonal_count arc
 symmetric_only n ap' ai turned = (let e = mirrored n (is_pair n ap' ai) turned in omega (arith, e))
-
--- there are at most two arcs for each pair
-pub arcs_most : (n : ℕ) (ap' ai : List ℤ) → degree_sum (graph_of n ap' ai) ≤ 2 * pair_count n ap' ai
-unfolding graph_of degree_sum degree pair_count arc
-arcs_most n ap' ai = arc_bound n (is_pair n ap' ai)

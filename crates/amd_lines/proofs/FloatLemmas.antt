@@ -33,7 +33,7 @@ scanned_more text k state here part h =
 digit_passes : (c : ℕ) → IsInRange 48 57 c → is_ascii_digit c ≡ true
 digit_passes c h = let low = h.0 in let high = h.1 in grind arith
 
-digit_stays : (c : ℕ) → IsInRange 48 57 c → is_ascii_whitespace c ≡ false
+pub digit_stays : (c : ℕ) → IsInRange 48 57 c → is_ascii_whitespace c ≡ false
 digit_stays c h = let low = h.0 in let high = h.1 in grind arith
 
 step_start : (c : ℕ) → IsInRange 48 57 c → float_scan_step 0 c ≡ 1

@@ -1,6 +1,6 @@
 -- The words of the first line of a text, taken off its front.
 use Rattle.std.proofs.Common.{◌≡◌, ◌≢◌, ◌<◌, ◌≤◌, ◌+◌, ◌-◌, ℕ, suc, true, List, ◌∷◌, ◌++◌, length, take, drop}
-use Rattle.std.proofs.Common.{get_or, length-drop, not, refl, sym, ap, ◌∙◌, subst, arith, ◌⊎◌, inl, inr}
+use Rattle.std.proofs.Common.{get_or, length-drop, not, refl, sym, ap, ◌∙◌, subst, arith, inl, inr}
 use Rattle.std.proofs.lemmas.Bool.{cases_lt}
 use Rattle.std.proofs.lemmas.List.{get_or-drop, drop-drop, append_cancel_right}
 use Rattle.std.proofs.lemmas.List.Sums.{prefix_len-le-length, prefix_len_passes}
@@ -48,20 +48,6 @@ word_stays line text rest i k h is left ends =
 -- blanks, one more, and a line feed behind them
 pub blanks_none : (text : List ℕ) → AreBlanks text 0
 blanks_none text = record { within = omega arith; blank = λ i h. absurd (omega (arith, h)); none = λ i h. absurd (omega (arith, h)) }
-
-pub blanks_more : (text : List ℕ) (k : ℕ) → k < length text → is_ascii_whitespace (get_or text k 0) ≡ true → get_or text k 0 ≢ 10 →
-    AreBlanks text k → AreBlanks text (k + 1)
-blanks_more text k here blank other h = record {
-  within = omega (arith, here);
-  blank = λ i l. elim (cases i k l) [
-    | inl x ↦ h.blank i x
-    | inr e ↦ subst (λ z. is_ascii_whitespace (get_or text z 0) ≡ true) (sym e) blank
-  ];
-  none = λ i l. elim (cases i k l) [ inl x ↦ h.none i x | inr e ↦ subst (λ z. get_or text z 0 ≢ 10) (sym e) other ];
-}
-  where
-    cases : (i k : ℕ) → i < k + 1 → (i < k) ⊎ (i ≡ k)
-    cases i k l = grind arith
 
 pub blanks_end_line : (text : List ℕ) (k : ℕ) → k < length text → get_or text k 0 ≡ 10 → AreBlanks text k →
     EndsAt text k × (words text ≡ words (drop (k + 1) text))

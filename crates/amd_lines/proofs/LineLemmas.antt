@@ -9,7 +9,6 @@ use Rattle.std.specs.Io.BufRead.{take_through, drop_through}
 use Rattle.std.specs.Io.KnownBytes.{IsAtEnd, prepend_known}
 use Rattle.std.proofs.lemmas.Bool.{cases_lt}
 use Rattle.std.proofs.lemmas.List.{take_all, drop_all, get_or-drop, get_or-take, length-take, take-take}
-use Rattle.std.proofs.Math.ListN.{get_or-append}
 use Rattle.memchr.specs.Find.{Passes, Nowhere, NoneBefore, is_byte}
 use Rattle.std.proofs.lemmas.List.Elements.{filter-append}
 use Rattle.amd_lines.specs.Words.{words, EndsAt}
@@ -341,12 +340,6 @@ feed-found bytes seen place within none first here = (
   },
   ap (λ z. eqb z 10) (sym (get_or-drop seen bytes place 0)) ∙ here,
 )
-
--- more was read behind bytes without a line feed
-pub feed-behind : (old new more : List ℕ) → new ≡ old ++ more → Nowhere (Passes (is_byte 10) old) 0 (length old) →
-    HasNoFeed (length old) new
-feed-behind old new more same none k l e =
-    none k (omega arith) l (eq-eqb _ _ (sym (get_or-append old more 0 k l) ∙ ap (λ z. get_or z k 0) (sym same) ∙ e))
 
 -- a search that found nothing
 pub no-feed : (held : List ℕ) → Nowhere (Passes (is_byte 10) held) 0 (length held) → All (λ b. b ≢ 10) held

@@ -11,6 +11,7 @@ use Rattle.std.specs.Int.{IsInRange}
 use Rattle.std.specs.List.{position_or_len}
 use Rattle.std.specs.Str.Parse.{digits_value, digits_value_after, IsNumeral, AllDigits, without_leading_sign, signed_digits_value}
 use Rattle.amd_lines.specs.Words.{SpellsNumber, LeadsNumber}
+use Rattle.amd_lines.proofs.FloatLemmas.{digit_stays}
 
 -- a digit is worth its place behind '0', and is no white space
 digit_is : (c : ℕ) → IsInRange 48 57 c → digit_value c ≡ c - 48
@@ -18,9 +19,6 @@ digit_is c h =
     let a : ltb c 48 ≡ false = le-ltb c 48 h.0 in
     let b : ltb c 58 ≡ true = (let h1 = h.1 in lt-ltb c 58 (omega arith)) in
     rw (a, b) refl
-
-digit_parts : (c : ℕ) → IsInRange 48 57 c → is_ascii_whitespace c ≡ false
-digit_parts c h = let low = h.0 in let high = h.1 in grind arith
 
 digits_push : (n : ℕ) (xs : List ℕ) (c : ℕ) → digits_value_after 10 n (xs ++ c ∷ []) ≡ digits_value_after 10 n xs * 10 + digit_value c
 digits_push n [] c = refl
@@ -82,7 +80,7 @@ number_ends text k number some few here ends h =
     let long = length-take k text in
     let within = h.within in
     let size : length (take k text) ≡ k = omega (arith, long, within) in (
-      prefix_len_is (λ b. not (is_ascii_whitespace b)) text k 0 within (λ i l. ap not (digit_parts (get_or text i 0) (h.digits i l)))
+      prefix_len_is (λ b. not (is_ascii_whitespace b)) text k 0 within (λ i l. ap not (digit_stays (get_or text i 0) (h.digits i l)))
           (λ l. ap not ends),
       spells (take k text) number (omega (arith, size, some))
           (λ i l. subst (IsInRange 48 57) (sym (get_or-take k text i 0 (omega (arith, size, l)))) (h.digits i (omega (arith, size, l))))

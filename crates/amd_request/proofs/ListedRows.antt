@@ -4,7 +4,7 @@ use Rattle.std.specs.Prelude.{IfSome}
 use Rattle.amd_lines.specs.Lines.{BeginsWith}
 use Rattle.amd_lines.proofs.LineLemmas.{end-append}
 use Rattle.amd_lines.specs.Lines.{TakesLines, TakesTelling, TakesNotes, telling, rest_of, percent}
-use Rattle.amd_lines.proofs.LineLemmas.{takes-append, takes-none, telling-both}
+use Rattle.amd_lines.proofs.LineLemmas.{takes-append, telling-both}
 use Rattle.amd_lines.specs.declared.lines.LineReader.{LineReader}
 use Rattle.amd_request.specs.Held.{ListsRows, SpellsRow, SpellsRows}
 use Rattle.amd_request.proofs.HeldLemmas.{spells-more}
@@ -14,15 +14,6 @@ pub record RowsSoFar {R Z : Type 0} (remaining : R → Option (List ℕ)) (old n
   pub lines : List (List ℕ)
   pub takes : TakesLines remaining old new lines
   pub spells : SpellsRows n (telling percent lines) rows
-
--- no line was read yet
-pub rows-none : {R Z : Type 0} (remaining : R → Option (List ℕ)) (a : LineReader R Z) (n : ℕ) (rows : List ℕ) → rows ≡ [] →
-    RowsSoFar remaining a a n rows
-rows-none remaining a n rows same = record {
-  lines = [];
-  takes = takes-none remaining a;
-  spells = subst (SpellsRows n []) (sym same) tt;
-}
 
 -- one line more
 pub rows-next : {R Z : Type 0} (remaining : R → Option (List ℕ)) (a b c : LineReader R Z) (n : ℕ) (old new line : List ℕ) (row : ℕ)

@@ -100,17 +100,6 @@ hold-next columns k c ptr rows new-ptr new-rows parent new-parent n f low is h r
     let parents : new-parent ≡ parent ++ first_of c ∷ [] = parents-are ∙ ap (λ v. parent ++ v ∷ []) f-is in
     rw (cs, ptrs, rows-are, parents) (hold-push (take k columns) c ptr rows parent h)
 
--- no columns
-pub hold-none : (ptr rows : List ℕ) (parent : List (Option ℕ)) → ptr ≡ 0 ∷ [] → rows ≡ [] → parent ≡ [] → HoldColumns [] ptr rows parent
-hold-none ptr rows parent ptr-is rows-are parents-are = rw (ptr-is, rows-are, parents-are) (record {
-  pointers = refl;
-  first = refl;
-  ends = λ k d l. absurd (omega arith);
-  total = refl;
-  each = λ k d l. absurd (omega arith);
-  parents = refl;
-})
-
 range-grows : (n a : ℕ) → range_with_len a (n + 1) ≡ range_with_len a n ++ (a + n) ∷ []
 range-grows zero a = let e : a + 0 ≡ a = omega arith in ap (λ m. m ∷ []) (sym e)
 range-grows (suc n) a =

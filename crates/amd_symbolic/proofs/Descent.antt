@@ -1,10 +1,10 @@
 -- The children of a column by their links: which are still to come on the way, and a place that is no child.
-use Rattle.std.proofs.Common.{ℕ, suc, ◌≢◌, ◌<◌, ◌≤◌, ◌+◌, inl, inr, subst, arith, List}
-use Rattle.std.specs.Prelude.{slice_index_or, Option, None, Some}
+use Rattle.std.proofs.Common.{ℕ, suc, ◌≢◌, ◌<◌, ◌≤◌, ◌+◌, inl, inr, subst, arith}
+use Rattle.std.specs.Prelude.{Option, None, Some}
 use Rattle.std.proofs.lemmas.Bool.{cases_eq, cases_lt}
 use Rattle.amd_symbolic.specs.Orders.{Order}
 use Rattle.amd_symbolic.specs.Trees.{IsParent}
-use Rattle.amd_symbolic.specs.Gathering.{IsLastChild, LinkChildren}
+use Rattle.amd_symbolic.specs.Gathering.{IsLastChild}
 
 -- place m is still to come on the way down
 abbrev pub IsAhead : Option ℕ → ℕ → Type 0
@@ -49,15 +49,3 @@ module _ (o : Order) (q : ℕ) where
       | inr ne ↦ h.2 m a (omega (arith, l, ne)) p
     ]),
   )
-
--- a place without a parent is no child
-pub links_skip : (o : Order) (k : ℕ) (link : List (Option ℕ)) → ((q : ℕ) → IsParent o.graph o.rows k q → ⊥) → LinkChildren o k link →
-    LinkChildren o (k + 1) link
-links_skip o k link never h = record {
-  room = h.room;
-  last = λ q high l. last_later o q k (slice_index_or link q None) (never q) (h.last q (omega (arith, high)) l);
-  previous = λ m q l p. elim (cases_eq m k) [
-    | inl e ↦ absurd (never q (subst (λ x. IsParent o.graph o.rows x q) e p))
-    | inr ne ↦ h.previous m q (omega (arith, l, ne)) p
-  ];
-}

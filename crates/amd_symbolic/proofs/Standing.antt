@@ -1,7 +1,7 @@
 -- Columns that stand one behind the other: one more of them, all of them, and one for which there is no room.
 use Rattle.std.proofs.Common.{ℕ, zero, suc, ◌≡◌, ◌≢◌, ◌<◌, ◌≤◌, ◌+◌, inl, inr, refl, sym, ◌∙◌, ap, subst, arith, List, [], ◌∷◌}
 use Rattle.std.proofs.Common.{length, map, set, take}
-use Rattle.std.specs.Prelude.{slice_index, slice_index_or, slice_range, slice_get, Option, None, Some}
+use Rattle.std.specs.Prelude.{slice_index, slice_index_or, slice_range, Option, None, Some}
 use Rattle.std.specs.List.Sorted.{IsStrictlyIncreasing}
 use Rattle.std.proofs.lemmas.Bool.{cases_eq}
 use Rattle.std.proofs.lemmas.List.{
@@ -71,11 +71,6 @@ pub no_parent : (o : Order) (k : ℕ) (xs : List ℕ) → IsColumn o.graph o.row
     IsParent o.graph o.rows k q → ⊥
 no_parent o k [] c e q p = let x = (c.members q).1 p.entry in let l = x.1 in omega (arith, l)
 no_parent o k (x ∷ xs) c e q p = absurd (cc)
-
--- the first entry as std names it
-pub first_get : (xs : List ℕ) → slice_get xs 0 ≡ first_of xs
-first_get [] = refl
-first_get (x ∷ xs) = refl
 
 -- the first element of a part, and of a part without elements
 pub first_at : (xs : List ℕ) (i j : ℕ) → i < j → j ≤ length xs → first_of (slice_range xs i j) ≡ Some (slice_index xs i)

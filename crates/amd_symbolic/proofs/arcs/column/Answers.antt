@@ -1,11 +1,11 @@
-use Rattle.std.proofs.Common.{◌≡◌, ◌≢◌, ◌+◌, ◌*◌, ◌<◌, ◌≤◌, ℕ, Fits, w64, map, length, get_or, arith, add-one}
-use Rattle.std.proofs.Math.Nat.{mul-le-mul_right}
+use Rattle.std.proofs.Common.{◌≡◌, ◌≢◌, ◌+◌, ◌<◌, ◌≤◌, ℕ, map, length, get_or, arith, add-one}
 use Rattle.std.proofs.lemmas.List.{length-map}
 use Rattle.std.proofs.lemmas.Grind.{common_steps}
 use Rattle.amd_types.specs.Counts.{counts}
 use Rattle.amd_edges.proofs.Forms.{pointer_fits, row_fits, place_within}
 use Rattle.amd_symbolic.proofs.Entries.{far_first, far_last}
 use Rattle.amd_symbolic.proofs.Steps.{pointers_rise, row_below, far_arc, far_same, next_arc}
+use Rattle.amd_types.proofs.Fitting.{offset_fits}
 use Rattle.amd_symbolic.proofs.arcs.column.Goals as goal
 use Rattle.amd_symbolic.proofs.arcs.column.Goals.{then-there-here, else-there-here}
 
@@ -44,10 +44,6 @@ bounds-places-count_at g c =
     c.args.column c.entries.entry c.requires.column_in (omega arith) in
     let room = c.requires.places.1.room in
     omega (arith, row, below, room)
-
--- an offset within a slice fits
-offset_fits : (a b size : ℕ) → a < b → b * size < 9223372036854775808 → Fits w64 (a * size)
-offset_fits a b size h small = let le : a ≤ b = omega arith in let more = mul-le-mul_right size le in omega (arith, more)
 
 pub offset_bounds-places-count_at : goal.offset_bounds-places-count_at
 offset_bounds-places-count_at g c =

@@ -4,7 +4,8 @@ use Rattle.amd_types.proofs.Fitting.{fits_below}
 use Rattle.amd_symbolic.specs.Partitions.{WrittenTo}
 use Rattle.amd_symbolic.proofs.SupernodeRows.{hold-supernodes}
 use Rattle.amd_symbolic.proofs.SupernodeTree.{places}
-use Rattle.amd_symbolic.proofs.TypedRows.{at-end, in-range, pos-below}
+use Rattle.amd_symbolic.proofs.TypedRows.{in-range, pos-below}
+use Rattle.amd_symbolic.proofs.Fronts.{at_end}
 use Rattle.amd_symbolic.proofs.below.fill_rows.Goals as goal
 
 pub unreachable-requires : goal.unreachable-requires
@@ -48,7 +49,7 @@ add_row-requires g c κs within =
 
 pub returns-clause-rows : goal.returns-clause-rows
 returns-clause-rows g c =
-    let all = at-end c.rows.j (length c.args.owner.now) (length g.b.owner) c.rows-test.false c.rows.auto.j-end
+    let all = at_end c.rows.j (length c.args.owner.now) (length g.b.owner) c.rows-test.false c.rows.auto.j-end
     (ap length c.requires.1.1.1.1.0) in
     hold-supernodes g.b c.requires.1.0 c.rows.next (counts (map g.I.Index.value c.rows.rows))
     (subst (λ m. WrittenTo g.b m c.rows.next (counts (map g.I.Index.value c.rows.rows))) all c.rows.invariant.written)

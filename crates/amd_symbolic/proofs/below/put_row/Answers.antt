@@ -3,7 +3,8 @@ use Rattle.std.specs.Prelude.{slice_index, slice_index_or, None, IsSome}
 use Rattle.amd_types.specs.Counts.{counts}
 use Rattle.amd_symbolic.specs.Partitions.{Climbs}
 use Rattle.amd_symbolic.proofs.RowClimbs.{climbs-on, higher, row-in, told}
-use Rattle.amd_symbolic.proofs.TypedRows.{count-length, in-range, offset_fits, set-count, told-more}
+use Rattle.amd_symbolic.proofs.TypedRows.{count-length, in-range, set-count, told-more}
+use Rattle.amd_types.proofs.Fitting.{offset_fits}
 use Rattle.amd_symbolic.proofs.below.put_row.Goals as goal
 
 pub offset_bounds-rows-next : goal.offset_bounds-rows-next
