@@ -67,8 +67,9 @@ fn transpose_of<I: PrimInt, A: Allocator + Copy>(
     requires form { status.now ≡ Status.OkButJumbled → IsInput (I.value n) (I.value n) (map I.value a_p.now)
         (map I.value a_i.now) }
     ensures sorted { status.now ≡ Status.OK → IfOk result (λ t. t ≡ None) }
-    ensures jumbled { status.now ≡ Status.OkButJumbled → IfOk result (λ t. IsSomeAnd t (λ c. IsCleanTranspose (I.value n)
-        (map I.value a_p.now) (map I.value a_i.now) (map I.value c.0.items) (map I.value c.1.items))) }
+    ensures jumbled { status.now ≡ Status.OkButJumbled → IfOk result (λ t. IsSomeAnd t (λ c.
+        IsCleanTranspose (I.value n) (map I.value a_p.now) (map I.value a_i.now) (map I.value c.0.items)
+        (map I.value c.1.items))) }
     ensures valid { IfOk result (λ t. status.now ≢ Status.Invalid) }
     ensures refused { IfErr result (λ e. e ≡ refusal_of status.now) }
 {

@@ -7,9 +7,9 @@
 //! permutation, or the number of the factor's entries and a hash of them, and the least and the median time of a call
 //! in nanoseconds. For `stages` it prints a line for each stage, and one for a whole call, with the hash of the
 //! permutation; for `peak`, in place of times, the most bytes that stood at once beside the input, and the number of
-//! requests for memory. Reading the file is not timed. With other arguments it says on standard error how it is called, and
-//! ends with status 2. Where the file cannot be read or holds no matrix, and where memory is refused, a message names
-//! the file, and the status is 1.
+//! requests for memory. Reading the file is not timed. With other arguments it says on standard error how it is called,
+//! and ends with status 2. Where the file cannot be read or holds no matrix, and where memory is refused, a message
+//! names the file, and the status is 1.
 #![tactic(auto)]
 
 mod counting;

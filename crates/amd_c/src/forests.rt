@@ -7,7 +7,8 @@ ghost use Rattle.std.specs.Prelude.{◌≡◌, ◌≢◌, ◌+◌, ◌<◌, ◌^
 ghost use Rattle.std.specs.Prelude.{length, map, slice_index, true};
 ghost use Rattle.amd_model.specs.Input.Columns.{at};
 ghost use Rattle.amd_postorder.specs.Trees.{IsElementForest, IsPostorderOf, tree_of};
-ghost use Rattle.amd_c.specs.Forests.{AreParents, HasForestPlaces, HasNoCycle, IsSoundForest, LeavesPostorder, MarksRise};
+ghost use Rattle.amd_c.specs.Forests.{AreParents, HasForestPlaces, HasNoCycle, IsSoundForest};
+ghost use Rattle.amd_c.specs.Forests.{LeavesPostorder, MarksRise};
 ghost use Rattle.amd_c.specs.Forests.{StaysInside, parent_in};
 
 use crate::patterns::has_row_places;
@@ -223,7 +224,8 @@ fn postorder_of<I: SignedIndex>(
     ensures postorder { IfOk result (λ v. IsPostorderOf (tree_of (length parent.now) (map I.value parent.now)
         (map I.value nv.now) (map I.value f_size.now)) (map I.value v.items)) }
     ensures refused { IfErr result (λ e. (e ≡ Status.OutOfMemory) ⊎ ((e ≡ Status.Invalid) ×
-        ¬ (IsElementForest (length parent.now) (map I.value parent.now) (map I.value nv.now) (map I.value f_size.now)))) }
+        ¬ (IsElementForest (length parent.now) (map I.value parent.now) (map I.value nv.now)
+        (map I.value f_size.now)))) }
 {
     let above = signed_of(alloc, parent)?;
     let rows = signed_of(alloc, nv)?;

@@ -41,8 +41,8 @@ pub struct Statistics {
     pub bounds: Bounds,
 }
 
-/// Upper bounds on what a factor needs, the last fields of what C knows as one record. The first four saturate: one that
-/// is `usize::MAX` may be too small.
+/// Upper bounds on what a factor needs, the last fields of what C knows as one record. The first four saturate: one
+/// that is `usize::MAX` may be too small.
 ///
 /// Source: AMD user guide.
 #[derive(Drop)]

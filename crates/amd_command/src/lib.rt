@@ -1,5 +1,5 @@
-//! The command `rimopaku`: it reads a matrix from a file, orders it, works out its exact factor or tells what it is, and
-//! writes the permutation or the columns, figures, the permuted matrix, the elimination tree, the supernodes and
+//! The command `rimopaku`: it reads a matrix from a file, orders it, works out its exact factor or tells what it is,
+//! and writes the permutation or the columns, figures, the permuted matrix, the elimination tree, the supernodes and
 //! pictures, as text or JSON. The program `rimopaku` hands in its arguments.
 //!
 //! What it is asked for and what it reads is the subject of the crate `amd_request`; what it tells, that of

@@ -158,7 +158,8 @@ module _ (iw nv nv1 pe : List ℤ) (len : List ℕ) (pivot m free : ℕ) (sizes 
   around_all = classes_same nv nv1 sizes (named_around iw pe len pivot m) ∙ classes_around iw nv pe len pivot m
 
   -- it is begun, and there is room for it
-  pub builds_none : free + length (front_of iw nv pe len pivot m) ≤ length iw → sum_by (size_of nv) (front_of iw nv pe len pivot m) < 2 ^ 63 →
+  pub builds_none : free + length (front_of iw nv pe len pivot m) ≤ length iw →
+      sum_by (size_of nv) (front_of iw nv pe len pivot m) < 2 ^ 63 →
       IsGathering free (named_around iw pe len pivot m) [] iw nv1 iw nv1 free 0
   builds_none short few = record {
     gathers = gathers_empty iw nv1 free;

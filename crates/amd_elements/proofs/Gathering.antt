@@ -209,83 +209,84 @@ gathers_end {iw} {nv} {start} {free} {iw'} {nv'} {end} {total} from n h =
 -- the word at the place p, the next of count words from a place on
 module _ {iw nv : List ℤ} {from count start free total : ℕ} {iw' nv' : List ℤ} {end sum : ℕ} (p : ℕ)
     (can : CanGather iw nv from count start free total)
-    (h : Gathers iw nv start free (classes nv (rows iw from (p - from))) iw' nv' end sum) (after : from ≤ p) (there : p < from + count) where
-  -- it stands as it was
-  unchanged : word iw' p ≡ word iw p
-  unchanged = elim can.apart [
-    | inl b ↦ h.below p (let o = can.order in omega (arith, b, o, there))
-    | inr b ↦ h.above p (let a = gathers_end from (p - from) h in omega (arith, a, b, after))
-  ]
+    (h : Gathers iw nv start free (classes nv (rows iw from (p - from))) iw' nv' end sum) (after : from ≤ p) (there : p < from + count)
+  where
+    -- it stands as it was
+    unchanged : word iw' p ≡ word iw p
+    unchanged = elim can.apart [
+      | inl b ↦ h.below p (let o = can.order in omega (arith, b, o, there))
+      | inr b ↦ h.above p (let a = gathers_end from (p - from) h in omega (arith, a, b, after))
+    ]
 
-  word_is : word iw' p ≡ word iw (from + (p - from))
-  word_is = unchanged ∙ ap (word iw) (sym (add-sub_of_le after))
+    word_is : word iw' p ≡ word iw (from + (p - from))
+    word_is = unchanged ∙ ap (word iw) (sym (add-sub_of_le after))
 
-  pub word_inside : p < length iw'
-  word_inside = let i = can.span.inside in let l = h.long in omega (arith, i, l, there)
+    pub word_inside : p < length iw'
+    word_inside = let i = can.span.inside in let l = h.long in omega (arith, i, l, there)
 
-  pub word_one : is_place (word iw' p) ≡ true
-  word_one = ap is_place word_is ∙ (can.span.names (p - from) (within_count after there)).0
+    pub word_one : is_place (word iw' p) ≡ true
+    word_one = ap is_place word_is ∙ (can.span.names (p - from) (within_count after there)).0
 
-  module _ (row : ℕ) (named : row ≡ place (word iw' p)) where
-    abbrev y : ℕ
-    y = place (word iw (from + (p - from)))
+    module _ (row : ℕ) (named : row ≡ place (word iw' p)) where
+      abbrev y : ℕ
+      y = place (word iw (from + (p - from)))
 
-    row_is : row ≡ y
-    row_is = named ∙ ap place word_is
+      row_is : row ≡ y
+      row_is = named ∙ ap place word_is
 
-    pub row_inside : row < length nv'
-    row_inside = let s = (can.span.names (p - from) (within_count after there)).1 in let w = h.wide in omega (arith, row_is, s, w)
+      pub row_inside : row < length nv'
+      row_inside = let s = (can.span.names (p - from) (within_count after there)).1 in let w = h.wide in omega (arith, row_is, s, w)
 
-    -- what is no class, or is in the front, changes nothing
-    pub row_passed : (nat_lt 0 (size_of nv' row) && not (in_front nv' row)) ≡ false →
-        Gathers iw nv start free (classes nv (rows iw from (p + 1 - from))) iw' nv' end sum
-    row_passed shut = subst (λ m. Gathers iw nv start free (classes nv (rows iw from m)) iw' nv' end sum) (sym (next_place after))
-        (elim (cases_Bool (nat_lt 0 (size_of nv y))) [
-          | inr q ↦ subst (λ xs. Gathers iw nv start free xs iw' nv' end sum) (sym (classes_no nv iw from (p - from) q)) h
-          | inl q ↦ subst (λ xs. Gathers iw nv start free xs iw' nv' end sum) (sym (classes_yes nv iw from (p - from) q))
-              (gathers_old h y (elim (cases_Bool (in_front nv' y)) [
-                | inl b ↦ b
-                | inr b ↦ clash (and_from (nat_lt 0 (size_of nv' y)) (not (in_front nv' y)) (ap (nat_lt 0) (h.sizes y) ∙ q)
-                    (not_from_false (in_front nv' y) b))
-                    (ap (λ x. nat_lt 0 (size_of nv' x) && not (in_front nv' x)) (sym row_is) ∙ shut)
-              ]))
-        ])
+      -- what is no class, or is in the front, changes nothing
+      pub row_passed : (nat_lt 0 (size_of nv' row) && not (in_front nv' row)) ≡ false →
+          Gathers iw nv start free (classes nv (rows iw from (p + 1 - from))) iw' nv' end sum
+      row_passed shut = subst (λ m. Gathers iw nv start free (classes nv (rows iw from m)) iw' nv' end sum) (sym (next_place after))
+          (elim (cases_Bool (nat_lt 0 (size_of nv y))) [
+            | inr q ↦ subst (λ xs. Gathers iw nv start free xs iw' nv' end sum) (sym (classes_no nv iw from (p - from) q)) h
+            | inl q ↦ subst (λ xs. Gathers iw nv start free xs iw' nv' end sum) (sym (classes_yes nv iw from (p - from) q))
+                (gathers_old h y (elim (cases_Bool (in_front nv' y)) [
+                  | inl b ↦ b
+                  | inr b ↦ clash (and_from (nat_lt 0 (size_of nv' y)) (not (in_front nv' y)) (ap (nat_lt 0) (h.sizes y) ∙ q)
+                      (not_from_false (in_front nv' y) b))
+                      (ap (λ x. nat_lt 0 (size_of nv' x) && not (in_front nv' x)) (sym row_is) ∙ shut)
+                ]))
+          ])
 
-    -- a class outside the front is appended
-    module _ (opened : (nat_lt 0 (size_of nv' row) && not (in_front nv' row)) ≡ true) where
-      parts : (nat_lt 0 (size_of nv' row) ≡ true) × (not (in_front nv' row) ≡ true)
-      parts = and_parts (nat_lt 0 (size_of nv' row)) (not (in_front nv' row)) opened
+      -- a class outside the front is appended
+      module _ (opened : (nat_lt 0 (size_of nv' row) && not (in_front nv' row)) ≡ true) where
+        parts : (nat_lt 0 (size_of nv' row) ≡ true) × (not (in_front nv' row) ≡ true)
+        parts = and_parts (nat_lt 0 (size_of nv' row)) (not (in_front nv' row)) opened
 
-      class : nat_lt 0 (size_of nv y) ≡ true
-      class = ap (nat_lt 0) (sym (h.sizes y)) ∙ ap (λ j. nat_lt 0 (size_of nv' j)) (sym row_is) ∙ parts.0
+        class : nat_lt 0 (size_of nv y) ≡ true
+        class = ap (nat_lt 0) (sym (h.sizes y)) ∙ ap (λ j. nat_lt 0 (size_of nv' j)) (sym row_is) ∙ parts.0
 
-      pub row_class : 0 < size_of nv' row
-      row_class = ltb-true 0 (size_of nv' row) parts.0
+        pub row_class : 0 < size_of nv' row
+        row_class = ltb-true 0 (size_of nv' row) parts.0
 
-      pub row_fresh : in_front nv' row ≡ false
-      row_fresh = not-true (in_front nv' row) parts.1
+        pub row_fresh : in_front nv' row ≡ false
+        row_fresh = not-true (in_front nv' row) parts.1
 
-      room : (end < start + length (grown iw nv start free (classes nv (rows iw from count))))
-          × (sum + size_of nv y ≤ sum_by (size_of nv) (grown iw nv start free (classes nv (rows iw from count))))
-      room = gathers_room h y (classes nv (rows iw from count))
-          (classes nv (rows iw (from + ((p - from) + 1)) (count - ((p - from) + 1))))
-          (classes_split nv iw from (p - from) count (within_count after there) class) (ap (in_front nv') (sym row_is) ∙ row_fresh)
+        room : (end < start + length (grown iw nv start free (classes nv (rows iw from count))))
+            × (sum + size_of nv y ≤ sum_by (size_of nv) (grown iw nv start free (classes nv (rows iw from count))))
+        room = gathers_room h y (classes nv (rows iw from count))
+            (classes nv (rows iw (from + ((p - from) + 1)) (count - ((p - from) + 1))))
+            (classes_split nv iw from (p - from) count (within_count after there) class) (ap (in_front nv') (sym row_is) ∙ row_fresh)
 
-      pub end_inside : end < length iw'
-      end_inside = let a = room.0 in let f = can.fits in let l = h.long in omega (arith, a, f, l)
+        pub end_inside : end < length iw'
+        end_inside = let a = room.0 in let f = can.fits in let l = h.long in omega (arith, a, f, l)
 
-      pub sum_fits : (size : ℕ) → size ≡ size_of nv' row → sum + size < 2 ^ 64
-      sum_fits size is = let a = room.1 in let f = can.few in let s = h.sizes row in let e = ap (size_of nv) row_is in
-          omega (arith, a, f, is, s, e)
+        pub sum_fits : (size : ℕ) → size ≡ size_of nv' row → sum + size < 2 ^ 64
+        sum_fits size is = let a = room.1 in let f = can.few in let s = h.sizes row in let e = ap (size_of nv) row_is in
+            omega (arith, a, f, is, s, e)
 
-      pub row_taken : (nv2 : List ℤ) (size : ℕ) → length nv2 ≡ length nv' → ((j : ℕ) → size_of nv2 j ≡ size_of nv' j) →
-          ((j : ℕ) → in_front nv2 j ≡ (in_front nv' j || row == j)) → size ≡ size_of nv' row →
-          Gathers iw nv start free (classes nv (rows iw from (p + 1 - from))) (set iw' end (word iw' p)) nv2 (end + 1) (sum + size)
-      row_taken nv2 size wide sizes front is =
-          subst (λ xs. Gathers iw nv start free xs (set iw' end (word iw' p)) nv2 (end + 1) (sum + size))
-          (sym (ap (λ m. classes nv (rows iw from m)) (next_place after) ∙ classes_yes nv iw from (p - from) class))
-          (gathers_new h y p nv2 (sum + size) unchanged (ap is_place (sym unchanged) ∙ word_one)
-          (ap place (sym unchanged) ∙ sym named ∙ row_is) (can.span.names (p - from) (within_count after there)).1
-          (ap (in_front nv') (sym row_is) ∙ row_fresh) (let a = end_inside in let l = h.long in omega (arith, a, l))
-          wide sizes (λ j. front j ∙ ap (λ x. in_front nv' j || x == j) row_is)
-          (ap (λ m. sum + m) (is ∙ ap (size_of nv') row_is)))
+        pub row_taken : (nv2 : List ℤ) (size : ℕ) → length nv2 ≡ length nv' → ((j : ℕ) → size_of nv2 j ≡ size_of nv' j) →
+            ((j : ℕ) → in_front nv2 j ≡ (in_front nv' j || row == j)) → size ≡ size_of nv' row →
+            Gathers iw nv start free (classes nv (rows iw from (p + 1 - from))) (set iw' end (word iw' p)) nv2 (end + 1) (sum + size)
+        row_taken nv2 size wide sizes front is =
+            subst (λ xs. Gathers iw nv start free xs (set iw' end (word iw' p)) nv2 (end + 1) (sum + size))
+            (sym (ap (λ m. classes nv (rows iw from m)) (next_place after) ∙ classes_yes nv iw from (p - from) class))
+            (gathers_new h y p nv2 (sum + size) unchanged (ap is_place (sym unchanged) ∙ word_one)
+            (ap place (sym unchanged) ∙ sym named ∙ row_is) (can.span.names (p - from) (within_count after there)).1
+            (ap (in_front nv') (sym row_is) ∙ row_fresh) (let a = end_inside in let l = h.long in omega (arith, a, l))
+            wide sizes (λ j. front j ∙ ap (λ x. in_front nv' j || x == j) row_is)
+            (ap (λ m. sum + m) (is ∙ ap (size_of nv') row_is)))

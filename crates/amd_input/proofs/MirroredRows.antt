@@ -203,7 +203,8 @@ module _ (n : ℕ) (ap' ai : List ℕ) where
 
       -- its diagonal entry, if it has one, is read too
       module _ (t : List ℕ) (so : HaveMirrors n ap' ai t k k) (place others : ℕ) where
-        pub column_with : p < get_or ap' (k + 1) 0 → get_or ai p 0 ≡ k → place ≡ p + 1 → others ≡ get_or ap' (k + 1) 0 - get_or ap' k 0 - 1 →
+        pub column_with : p < get_or ap' (k + 1) 0 → get_or ai p 0 ≡ k → place ≡ p + 1 →
+            others ≡ get_or ap' (k + 1) 0 - get_or ap' k 0 - 1 →
             HaveMirrors n ap' ai (t ++ place ∷ []) (k + 1) 0 × (others ≡ count_below n (is_beside n ap' ai k))
             × (true ≡ is_entry n ap' ai k k)
         column_with inside is place_is others_is =

@@ -21,7 +21,11 @@ pub scanned_more : (text : List ℕ) (k state : ℕ) → k < length text → is_
 scanned_more text k state here part h =
     let c = get_or text k 0 in record {
       within = omega (arith, here);
-      parted = λ i l. elim (cases i k l) [ inl x ↦ h.parted i x | inr e ↦ subst (λ z. is_ascii_whitespace (get_or text z 0) ≡ false) (sym e) part ];
+      parted = λ i l. elim (cases i k l) [
+        | inl x ↦ h.parted i x
+        | inr e ↦ subst (λ z. is_ascii_whitespace (get_or text z 0) ≡ false)
+            (sym e) part
+      ];
       reads = λ tail. ap (λ z. completes_number 0 (z ++ tail)) (take_more text k 0 here)
           ∙ ap (completes_number 0) (append_assoc (take k text) (c ∷ []) tail) ∙ h.reads (c ∷ tail);
     }

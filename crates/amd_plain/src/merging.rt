@@ -10,7 +10,8 @@ ghost use Rattle.amd_model.specs.Quotient.{has, each, Once, last_that};
 ghost use Rattle.amd_plain.specs.Views.{num, mark_at, some_at, list_at, Below, ListsBelow, Clear};
 ghost use Rattle.amd_plain.specs.Rounds.{plain_alike};
 ghost use Rattle.amd_plain.specs.Keeps.{IsIdle};
-ghost use Rattle.amd_plain.specs.Groups.{wrapped_sum, group_in, FoundIn, AreComparable, AreGrouped, IsClearScratch, Looked};
+ghost use Rattle.amd_plain.specs.Groups.{wrapped_sum, group_in, FoundIn, AreComparable, AreGrouped};
+ghost use Rattle.amd_plain.specs.Groups.{IsClearScratch, Looked};
 
 use crate::marks::{clear_all, mark_all};
 use crate::work::{PlainLists, Scratch};

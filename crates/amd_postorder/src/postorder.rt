@@ -20,8 +20,8 @@ use std::alloc::Allocator;
 fn parent_of<N: Number>(j: usize, parent: &[N], nv: &[N]) -> Option<usize>
     requires in_parent { j < length parent.now }
     requires in_nv { j < length nv.now }
-    ensures { result ≡ cond (is_tree_element (length (N.read nv.now)) (N.read nv.now) j) (named (at (N.read parent.now) j))
-        None }
+    ensures { result ≡ cond (is_tree_element (length (N.read nv.now)) (N.read nv.now) j)
+        (named (at (N.read parent.now) j)) None }
 {
     if N::number_at(nv, j) > 0 {
         usize::try_from(N::number_at(parent, j)).ok()

@@ -1,7 +1,7 @@
-// The picture of a matrix before and after its ordering, side by side, as SVG, from its marks. Before stands the pattern
-// of the file, or that of A + A'; after, that of A + A' in the new order, and in another colour the fill. Called by
-// `picture` of the crate `amd_command`. Contracts tell which cells the pattern of the file fills; the rest of what is
-// drawn is tested.
+// The picture of a matrix before and after its ordering, side by side, as SVG, from its marks. Before stands the
+// pattern of the file, or that of A + A'; after, that of A + A' in the new order, and in another colour the fill.
+// Called by `picture` of the crate `amd_command`. Contracts tell which cells the pattern of the file fills; the rest of
+// what is drawn is tested.
 
 ghost use Rattle.std.specs.Prelude.{◌≡◌, ◌-◌, false, IfOk, OnOk};
 ghost use Rattle.std.specs.Io.KnownBytes.{Appends};

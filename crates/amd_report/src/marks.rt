@@ -1,7 +1,7 @@
-// The marks of a picture: the edges before and after an ordering, the diagonal where the file has it, and the fill, which
-// are the entries of the factor that are no edges. The entries of a row of the factor are met by climbing the elimination
-// tree from its earlier neighbours, so that no factor is held, and each falls into a cell of a square of counts. Source:
-// Liu 1986. Called by `picture` of the crate `amd_command`. What is marked is tested.
+// The marks of a picture: the edges before and after an ordering, the diagonal where the file has it, and the fill,
+// which are the entries of the factor that are no edges. The entries of a row of the factor are met by climbing the
+// elimination tree from its earlier neighbours, so that no factor is held, and each falls into a cell of a square of
+// counts. Source: Liu 1986. Called by `picture` of the crate `amd_command`. What is marked is tested.
 
 use crate::grids::Grid;
 use crate::pattern::rows_of;

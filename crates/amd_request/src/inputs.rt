@@ -1,5 +1,6 @@
 // What a run reads: the matrix, the rows to hold last and another order; and the outputs that may not be one file with
-// them. Called by `program` of the crate `amd_command`. Files and messages are tested alone: no contract can speak of them.
+// them. Called by `program` of the crate `amd_command`. Files and messages are tested alone: no contract can speak of
+// them.
 
 use crate::causes::Cause;
 use crate::held::read_held;

@@ -1,4 +1,5 @@
-// The rows that a text lists, in its order: the number of one a line, read as those to hold last are. Called by `inputs`.
+// The rows that a text lists, in its order: the number of one a line, read as those to hold last are. Called by
+// `inputs`.
 
 ghost use Rattle.std.specs.Prelude.{IfOk, IfErr, IfSome};
 ghost use Rattle.amd_request.specs.Held.{ListsRows, NamesNoRow};

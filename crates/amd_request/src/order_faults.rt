@@ -1,6 +1,7 @@
 // What is wrong with rows that are no order of all rows. Called by `program`.
 
-ghost use Rattle.std.specs.Prelude.{◌≡◌, ◌≢◌, ◌<◌, ℕ, false, true, length, slice_index, slice_index_or, IfOk, IfSome, MatchOption};
+ghost use Rattle.std.specs.Prelude.{◌≡◌, ◌≢◌, ◌<◌, ℕ, false, true, length, slice_index};
+ghost use Rattle.std.specs.Prelude.{slice_index_or, IfOk, IfSome, MatchOption};
 ghost use Rattle.amd_request.specs.Orders.{AreSeen, IsBadPlace, IsOrderFault};
 
 use std::alloc::{AllocError, Allocator};

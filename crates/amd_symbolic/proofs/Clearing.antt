@@ -9,5 +9,6 @@ module _ (o : Order) (n : ℕ) (room : n ≡ length o.rows) where
   pub no_parents : (parent : List (Option ℕ)) → parent ≡ replicate n None → TellParents o 0 parent
   no_parents parent e = subst (TellParents o 0) (sym e) (record {
     room = length-replicate n None ∙ room;
-    each = λ k l. subst (TellsParentSoFar o 0 k) (sym (get_or-replicate n k None None (omega (arith, l, room)))) (λ m h. absurd (omega arith));
+    each = λ k l. subst (TellsParentSoFar o 0 k) (sym (get_or-replicate n k None None (omega (arith, l, room))))
+        (λ m h. absurd (omega arith));
   })

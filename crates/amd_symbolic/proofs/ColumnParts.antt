@@ -95,8 +95,11 @@ pub no_order : {X : Type 0} (value : X → ℤ) (z : ℤ) (size : ℕ) (p : List
     false ≡ (length p == 0) → (z ≢ pos 0 → IsInput z z ap' ai) × ((order : List ℕ) → ¬ (Permutes (unsigned_abs z) (map value p) order))
 no_order value z size p ap' ai is none e =
     let zero : z ≡ pos 0 = sym is ∙ ap pos none in
-    let some : length (map value p) ≢ 0 = some_items (map value p) (e ∙ ap (λ l. l == 0) (sym (length-map p value))) in
-    ((λ not. absurd (not zero)), (λ order h. some (empty_order (map value p) order (subst (λ z. Permutes (unsigned_abs z) (map value p) order) zero h))))
+    let some : length (map value p) ≢ 0 = some_items (map value p) (e ∙ ap (λ l. l == 0) (sym (length-map p value))) in (
+      (λ not. absurd (not zero)),
+      (λ order h. some (empty_order (map value p) order
+          (subst (λ z. Permutes (unsigned_abs z) (map value p) order) zero h))),
+    )
 
 -- an input with rows that is no column form is none under the number of its rows
 pub no_form : (z : ℤ) (size : ℕ) (ap' ai : List ℤ) → pos size ≡ z → ¬ (size ≡ 0) → ¬ (IsColumnForm (pos size) size ap' ai) →

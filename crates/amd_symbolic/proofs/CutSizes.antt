@@ -141,7 +141,8 @@ module _ (owner : List ℕ) (count : ℕ) (h : AreNumbered (AreSame owner) (leng
       total-at total g = sum-all g refl ∙ sym (ptr-at count (omega arith))
 
 -- the sizes of the supernodes of a factor
-pub sizes-told : (o : Order) → IsGraph o.graph → (sizes owner : List ℕ) (parent : List (Option ℕ)) → (k : HoldSizes o.graph o.rows sizes parent) →
+pub sizes-told : (o : Order) → IsGraph o.graph → (sizes owner : List ℕ) (parent : List (Option ℕ)) →
+    (k : HoldSizes o.graph o.rows sizes parent) →
     (count total : ℕ) → AreNumbered (IsJoined sizes parent) (length sizes) owner count → SumEnds owner sizes (length owner) total →
     TellSizesOf o.graph o.rows count total
 sizes-told o laws sizes owner parent k count total h g =

@@ -51,7 +51,8 @@ module _ {N : Type 0} (value : N → ℤ) where
   are_range xs i j h = are_take (j - i) (drop i xs) (are_drop i xs h)
 
   -- what was written behind counts
-  pub are_append : (xs ys : List N) (ps : List ℕ) → AreNonNegative (map value xs) → map value ys ≡ map pos ps → AreNonNegative (map value (xs ++ ys))
+  pub are_append : (xs ys : List N) (ps : List ℕ) → AreNonNegative (map value xs) → map value ys ≡ map pos ps →
+      AreNonNegative (map value (xs ++ ys))
   are_append xs ys ps h e = are_of (map value (xs ++ ys)) (counts (map value xs) ++ ps)
       (map-append value xs ys ∙ ap (λ zs. zs ++ map value ys) (sym h) ∙ ap (λ zs. map pos (counts (map value xs)) ++ zs) e
       ∙ sym (map-append pos (counts (map value xs)) ps))

@@ -34,8 +34,8 @@ fn in_order(a: usize, b: usize) -> (usize, usize)
 
 /// Hands on the arcs of the entries of a column, one of `size`.
 ///
-/// Which of the two places of an entry is the later one is as good as drawn, so that is no branch: only its test against
-/// an entry on the diagonal is one.
+/// Which of the two places of an entry is the later one is as good as drawn, so that is no branch: only its test
+/// against an entry on the diagonal is one.
 fn column<I: Index, V: ArcVisitor>(
     size: usize,
     column: usize,

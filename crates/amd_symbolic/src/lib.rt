@@ -11,18 +11,22 @@
 //!
 //! The modules, each over those before it:
 //!
-//! | Modules | What they do |
-//! |---|---|
-//! | `places`, `arcs`, `turning`, `neighbours`, `ordering` | The place of each row in an order; the lists of the earlier and of the later neighbours of each place |
-//! | `numbers`, `children`, `gathering`, `merge`, `column`, `fill` | The columns in slices, each from those of its children |
-//! | `forms`, `factor`, `into` | [`columns`], [`columns_into`]: the input is tested, the lists are made, memory is taken, and `fill` writes |
-//! | `tree`, `ranks`, `meeting`, `sweep`, `sizes` | How many entries the columns have, in slices: the elimination tree, its postorder, and a sweep over all arcs |
-//! | `needs`, `counted`, `counting` | What a factor needs; [`counts`], [`analyze_counts`] and [`analyze_counts_holding`] |
-//! | `analysis` | [`analyze`] and [`analyze_holding`]: an ordering, and the factor under it |
-//! | `partition`, `below`, `blocks`, `supernodal` | [`supernodes`]: the places are cut into supernodes by the counts, and the rows climb through these; [`supernode_partition`] and [`write_rows`] do the two apart |
-//! | `room`, `expanding` | [`supernode_sizes`]: how much room they need; [`expand`]: their columns |
-//! | `supernode_laws` | Laws of the supernodes |
-//! | `laws` | Laws of the factor and on the contracts above |
+//! - `places`, `arcs`, `turning`, `neighbours`, `ordering`: the place of each row in an order; the lists of the earlier
+//!   and of the later neighbours of each place.
+//! - `numbers`, `children`, `gathering`, `merge`, `column`, `fill`: the columns in slices, each from those of its
+//!   children.
+//! - `forms`, `factor`, `into`: [`columns`], [`columns_into`]: the input is tested, the lists are made, memory is
+//!   taken, and `fill` writes.
+//! - `tree`, `ranks`, `meeting`, `sweep`, `sizes`: how many entries the columns have, in slices: the elimination tree,
+//!   its postorder, and a sweep over all arcs.
+//! - `needs`, `counted`, `counting`: what a factor needs; [`counts`], [`analyze_counts`] and
+//!   [`analyze_counts_holding`].
+//! - `analysis`: [`analyze`] and [`analyze_holding`]: an ordering, and the factor under it.
+//! - `partition`, `below`, `blocks`, `supernodal`: [`supernodes`]: the places are cut into supernodes by the counts,
+//!   and the rows climb through these; [`supernode_partition`] and [`write_rows`] do the two apart.
+//! - `room`, `expanding`: [`supernode_sizes`]: how much room they need; [`expand`]: their columns.
+//! - `supernode_laws`: laws of the supernodes.
+//! - `laws`: laws of the factor and on the contracts above.
 #![tactic(auto)]
 
 pub mod analysis;

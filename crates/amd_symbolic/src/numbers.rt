@@ -30,8 +30,8 @@ pub fn number_of<N: Index>(place: usize) -> N
     number
 }
 
-/// Writes places, which the type has, as numbers of it. One place alone, as in most of the lists, is written without the
-/// call of a copy that a loop over numbers of the same width becomes.
+/// Writes places, which the type has, as numbers of it. One place alone, as in most of the lists, is written without
+/// the call of a copy that a loop over numbers of the same width becomes.
 pub fn write_places<N: Index>(places: &[usize], numbers: &mut [N])
     requires room { length numbers.old ≡ length places.now }
     requires fits { (k : ℕ) → k < length places.now → N.fits (pos (slice_index places.now k)) }

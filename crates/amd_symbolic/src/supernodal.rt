@@ -34,9 +34,9 @@ fn form_partition<I: Index, A: Allocator + Copy>(
     requires form { IsColumnForm (pos size) size (map I.value a_p.now) (map I.value a_i.now) }
     requires graph { o.graph ≡ graph_of size (map I.value a_p.now) (map I.value a_i.now) }
     requires rows { o.rows ≡ counts_of (map I.value p.now) }
-    ensures partition { IfOk result (λ b. IsPartitionOf (ordered_matrix (pos size) (map I.value a_p.now) (map I.value a_i.now)
-        (map I.value p.now)) b.cut.first.items b.cut.owner.items b.cut.ptr.items b.cut.parent.items
-        b.lists.starts.items b.lists.neighbours.items) }
+    ensures partition { IfOk result (λ b. IsPartitionOf (ordered_matrix (pos size) (map I.value a_p.now)
+        (map I.value a_i.now) (map I.value p.now)) b.cut.first.items b.cut.owner.items b.cut.ptr.items
+        b.cut.parent.items b.lists.starts.items b.lists.neighbours.items) }
     ensures next { IfOk result (λ b. length b.next.items + 1 ≡ length b.cut.first.items) }
     ensures mark { IfOk result (λ b. length b.mark.items + 1 ≡ length b.cut.first.items) }
     ensures fault { IfErr result (λ e. IsCountsFault (pos size) (map I.value a_p.now) (map I.value a_i.now)
@@ -107,9 +107,9 @@ pub fn supernode_partition<I: Index, A: Allocator + Copy>(
     p: &[I],
 ) -> Result<Partitioned<A>, Fault>
     requires fits { I.fits (I.value n) }
-    ensures partition { IfOk result (λ b. IsPartitionOf (ordered_matrix (I.value n) (map I.value a_p.now) (map I.value a_i.now)
-        (map I.value p.now)) b.cut.first.items b.cut.owner.items b.cut.ptr.items b.cut.parent.items
-        b.lists.starts.items b.lists.neighbours.items) }
+    ensures partition { IfOk result (λ b. IsPartitionOf (ordered_matrix (I.value n) (map I.value a_p.now)
+        (map I.value a_i.now) (map I.value p.now)) b.cut.first.items b.cut.owner.items b.cut.ptr.items
+        b.cut.parent.items b.lists.starts.items b.lists.neighbours.items) }
     ensures next { IfOk result (λ b. length b.next.items + 1 ≡ length b.cut.first.items) }
     ensures mark { IfOk result (λ b. length b.mark.items + 1 ≡ length b.cut.first.items) }
     ensures fault { IfErr result (λ e. IsCountsFault (I.value n) (map I.value a_p.now) (map I.value a_i.now)

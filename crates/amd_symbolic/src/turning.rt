@@ -1,5 +1,5 @@
-// The arcs that lists of earlier neighbours name, list by list: a walk hands them to a visitor, one at a time. Called by
-// `neighbours`.
+// The arcs that lists of earlier neighbours name, list by list: a walk hands them to a visitor, one at a time. Called
+// by `neighbours`.
 
 ghost use Rattle.std.specs.Prelude.{◌≡◌, ◌<◌, ◌++◌, [], ℕ, List, length, slice_index};
 ghost use Rattle.amd_symbolic.specs.Arcs.{arcs_to, list_arcs};
@@ -22,8 +22,8 @@ fn list<V: ArcVisitor>(j: usize, earlier: &[usize], visitor: &mut V)
     }
 }
 
-/// Hands on the arcs from each place to its earlier neighbours, place by place. `earlier[starts[j]..starts[j + 1]]` names
-/// those of place `j`; each repeat gives its arc again.
+/// Hands on the arcs from each place to its earlier neighbours, place by place. `earlier[starts[j]..starts[j + 1]]`
+/// names those of place `j`; each repeat gives its arc again.
 pub fn walk_lists<V: ArcVisitor>(starts: &[usize], earlier: &[usize], visitor: &mut V)
     ghost at: { Order × List ℕ × List ℕ }
     requires starts { starts.now ≡ at.1 }

@@ -111,7 +111,8 @@ module _ (n : ℕ) (ap' ai : List ℤ) (lower : IsLower n ap' ai) (lo hi j : ℕ
         (i_in : i < hi) (nth : IsNth n (is_other n ap' ai j) k i) where
       r_to : r ≤ i
       r_to = elim (cases_lt i r) [
-        | inl l ↦ (let x = length_grows r i (is_other n ap' ai j) l nth.passes in let b = nth.before in absurd (omega (arith, x, b, so_far)))
+        | inl l ↦ (let x = length_grows r i (is_other n ap' ai j) l nth.passes in let b = nth.before in
+            absurd (omega (arith, x, b, so_far)))
         | inr l ↦ omega (arith, l)
       ]
 

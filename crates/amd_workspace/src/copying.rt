@@ -81,8 +81,8 @@ fn push_others<I: Index, S: Signed, A: Allocator>(
     push_column(size, a_p, a_i, i, first, iw);
 }
 
-/// Appends the columns of a symmetric pattern of `size` rows to an empty list of words, each without its diagonal entry,
-/// and says whether the pattern is symmetric. If it is not, the words name some rows.
+/// Appends the columns of a symmetric pattern of `size` rows to an empty list of words, each without its diagonal
+/// entry, and says whether the pattern is symmetric. If it is not, the words name some rows.
 pub fn copy_symmetric<I: Index, S: Signed, A: Allocator>(
     size: usize,
     a_p: &[I],

@@ -14,7 +14,8 @@ ghost use Rattle.amd_edges.specs.Visits.{AreCounts};
 ghost use Rattle.amd_model.specs.Quotient.{starting_list};
 ghost use Rattle.amd_words.specs.Words.{num, rows};
 ghost use Rattle.amd_workspace.specs.Copying.{HoldRows};
-ghost use Rattle.amd_workspace.specs.Lower.{IsLower, Matrix, own_start, own_of, earlier_below, HoldsOwn, SpreadsColumns};
+ghost use Rattle.amd_workspace.specs.Lower.{IsLower, Matrix, own_start, own_of, earlier_below};
+ghost use Rattle.amd_workspace.specs.Lower.{HoldsOwn, SpreadsColumns};
 ghost use Rattle.amd_workspace.specs.Lower.{HasColumns, IsReadyForColumn, IsReadyForPart, banded, own_from};
 ghost use Rattle.amd_workspace.specs.Lower.{HasHeads, IsReadyForBand, spread_to};
 
@@ -271,7 +272,8 @@ fn spread_band<S: Signed, U: Unsigned>(
     degrees: &[usize],
     hi: usize,
 )
-    requires laid { (m : Matrix) × (lo : ℕ) × IsReadyForBand m lo hi degrees.now S.MOST U.MOST next.old iw.old heads.old }
+    requires laid { (m : Matrix) × (lo : ℕ) × IsReadyForBand m lo hi degrees.now S.MOST U.MOST next.old iw.old
+        heads.old }
     ensures long { length iw.new ≡ length iw.old }
     ensures after { (m : Matrix) (lo : ℕ) → IsReadyForBand m lo hi degrees.now S.MOST U.MOST next.old iw.old heads.old →
         SpreadsColumns m.n m.ap m.ai (spread_to m.n m.ap m.ai hi) next.new iw.new × HasHeads m (λ j. hi) heads.new }
@@ -283,18 +285,20 @@ fn spread_band<S: Signed, U: Unsigned>(
     }
 }
 
-/// Writes the earlier neighbours of all rows as `spread_lists`, but of each column in turn only those of one band of rows,
-/// so that the words that are written are close together. The rows of each column below the diagonal stand from the word
-/// `heads[j]` on; what `heads` holds afterwards is not said.
+/// Writes the earlier neighbours of all rows as `spread_lists`, but of each column in turn only those of one band of
+/// rows, so that the words that are written are close together. The rows of each column below the diagonal stand from
+/// the word `heads[j]` on; what `heads` holds afterwards is not said.
 fn spread_bands<S: Signed, U: Unsigned>(
     next: &mut [Cell<U>],
     iw: &mut [Word<S>],
     heads: &mut [usize],
     degrees: &[usize],
 )
-    requires laid { (m : Matrix) × HasColumns m degrees.now S.MOST U.MOST next.old iw.old × HasHeads m (λ j. 0) heads.old }
+    requires laid { (m : Matrix) × HasColumns m degrees.now S.MOST U.MOST next.old iw.old ×
+        HasHeads m (λ j. 0) heads.old }
     ensures long { length iw.new ≡ length iw.old }
-    ensures lists { (m : Matrix) → HasColumns m degrees.now S.MOST U.MOST next.old iw.old → HasHeads m (λ j. 0) heads.old →
+    ensures lists { (m : Matrix) → HasColumns m degrees.now S.MOST U.MOST next.old iw.old →
+        HasHeads m (λ j. 0) heads.old →
         HoldRows m.n iw.new × ((i : ℕ) → i < m.n → rows iw.new (own_start m.n m.ap m.ai i) (num degrees.now i) ≡
         starting_list m.n (is_pair m.n m.ap m.ai) i) }
 {

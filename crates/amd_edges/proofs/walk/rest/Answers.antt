@@ -55,7 +55,8 @@ columns-preserved g c =
     record {
       kept = c.column_rest.ensures.kept ∙ c.columns.invariant.kept;
       scan = c.column_rest.ensures.scan;
-      held = subst (λ l. g.V.Visitor.holds (count_graph n ap' ai) (met n ap' ai c.column_rest.new.next.items n (j + 1)) l c.column_rest.new.visitor)
+      held = subst (λ l. g.V.Visitor.holds (count_graph n ap' ai) (met n ap' ai c.column_rest.new.next.items n (j + 1)) l
+          c.column_rest.new.visitor)
           (after_next (is_entry n ap' ai) n j)
           (c.column_rest.ensures.held arcs (subst (λ s. g.V.Visitor.holds (count_graph n ap' ai) s arcs c.columns.visitor)
           (sym (rest_met n ap' ai form t j)) c.columns.invariant.held));

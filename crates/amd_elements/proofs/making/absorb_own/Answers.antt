@@ -36,7 +36,8 @@ loop-p-preserved g c =
     let next : c.loop-p.p + 1 - from ≡ k + 1 = next_place after in
     let is : c.named-e.result ≡ place (word iw (from + k)) = word_from iw after c.named-e.ensures in
     let in_pe : c.named-e.result < length c.loop-p.pe = span_row c.requires.span after t c.named-e.ensures was.p_long in
-    let in_w : c.named-e.result < length c.loop-p.w = span_row c.requires.span after t c.named-e.ensures (was.w_long ∙ c.requires.lengths) in
+    let in_w : c.named-e.result < length c.loop-p.w = span_row c.requires.span after t c.named-e.ensures (was.w_long ∙ c.requires.lengths)
+    in
     let y : ℕ = c.named-e.result in record {
       p_long = (let a = ap length c.put_flip.ensures in let b = length-set c.loop-p.pe y (flip_of c.args.me) in let d = was.p_long in
           omega (arith, a, b, d));

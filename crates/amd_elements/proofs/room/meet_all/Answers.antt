@@ -19,7 +19,8 @@ pub meet-now-requires : goal.meet-now-requires
 meet-now-requires g c = span_row c.requires c.loop-p.auto.p c.loop-p-test.true c.named-j.ensures c.loop-p.invariant.wide
 
 pub loop-p-preserved : goal.loop-p-preserved
-loop-p-preserved g c = subst (λ m. Meets c.args.nv.now (classes c.args.nv.now (rows c.args.iw.now c.args.from m)) c.args.left c.meet-now.new.nv
+loop-p-preserved g c = subst (λ m. Meets c.args.nv.now (classes c.args.nv.now (rows c.args.iw.now c.args.from m)) c.args.left
+    c.meet-now.new.nv
     c.meet-now.result) (sym (next_place c.loop-p.auto.p)) (meets_more c.args.iw.now c.args.from (c.loop-p.p - c.args.from) c.named-j.result
     c.loop-p.invariant (word_from c.args.iw.now c.loop-p.auto.p c.named-j.ensures) c.meet-now.ensures)
 

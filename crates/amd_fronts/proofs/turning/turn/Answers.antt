@@ -67,7 +67,8 @@ renew_all-requires g c =
           out.starts) ∙ c.requires.list.starts;
       apart = ap (λ xs. has xs me) same ∙ c.requires.list.apart;
       once = subst Once (sym same) c.requires.list.once;
-      front = left_renewable c.args.aggressive c.args.flag c.requires.laid c.requires.two.0 c.requires.two.1 c.requires.front left out.starts
+      front = left_renewable c.args.aggressive c.args.flag c.requires.laid c.requires.two.0 c.requires.two.1 c.requires.front left
+          out.starts
           c.count_outside.new.w out.counted;
       marked = λ i h. (c.requires.front i (sym (ap (λ xs. has xs i) same) ∙ h)).marked;
       met = left_met c.args.aggressive c.args.flag c.requires.laid c.requires.two.0 c.requires.two.1 c.requires.front left out.starts

@@ -27,7 +27,8 @@ unfolding count_below sum_below
 columns-preserved g c =
     let i = c.columns.invariant in let e = c.in-Some.ensures in let n = c.args.size in let k = c.columns.k in
     let ap' = counts (map g.I.Index.value c.args.a_p.now) in let ai = counts (map g.I.Index.value c.args.a_i.now) in
-    let last : count_below (suc k) (λ j. is_entry n ap' ai j j) ≡ one_if (is_entry n ap' ai k k) + count_below k (λ j. is_entry n ap' ai j j)
+    let last : count_below (suc k) (λ j. is_entry n ap' ai j j) ≡ one_if (is_entry n ap' ai k k) + count_below k
+    (λ j. is_entry n ap' ai j j)
     = refl in
     let here : one_if c.in-Some.diagonal ≡ one_if (is_entry n ap' ai k k) = ap one_if e.diagonal in
     let plus : c.if-diagonal.diagonals ≡ c.columns.diagonals + one_if c.in-Some.diagonal = elim c.if-diagonal.branch [

@@ -70,7 +70,8 @@ uppers-preserved g c =
         read = mirrors_next n ap' ai t k m v.read j c.index-mirror.result.now up (omega (arith, low, row)) entry
             (λ a x e. let w = (unread_from n ap' ai form k m p c.count_at-end.result a r.k_in ends v.place x e).1 in
             omega (arith, w, row))
-            c.index-mirror.ensures (let e = c.count_at-else-mirror-count_at.ensures.count in let s = c.if-count_at-k-2.false in omega (arith, e, s));
+            c.index-mirror.ensures (let e = c.count_at-else-mirror-count_at.ensures.count in let s = c.if-count_at-k-2.false in
+            omega (arith, e, s));
       },
     )
 

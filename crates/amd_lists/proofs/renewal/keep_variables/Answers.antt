@@ -1,4 +1,5 @@
-use Rattle.std.proofs.Common.{ℕ, ℤ, List, true, ◌≡◌, ◌<◌, ◌≤◌, ◌+◌, ◌-◌, refl, sym, ap, subst, ◌∙◌, arith, length, add-sub_of_le, le-add_right}
+use Rattle.std.proofs.Common.{ℕ, ℤ, List, true, ◌≡◌, ◌<◌, ◌≤◌, ◌+◌, ◌-◌, refl, sym, ap, subst, ◌∙◌, arith, length}
+use Rattle.std.proofs.Common.{add-sub_of_le, le-add_right}
 use Rattle.std.proofs.Common.{◌*◌, le_of_eq, lt_of_le_of_lt}
 use Rattle.std.specs.Prelude.{filter}
 use Rattle.amd_model.specs.Figures.{cut}

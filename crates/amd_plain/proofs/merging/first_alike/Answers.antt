@@ -35,7 +35,8 @@ same_list-requires-clause-once g c =
     let es = c.args.lists.now.elements.items in
     let r : ℕ = get_or c.args.group.now c.loop-r.r-index 0 in
     let once = c.requires.comparable.group_once r (has_at c.args.group.now c.loop-r.r-index 0 c.loop-r-test.true) in (
-      subst Once (sym (list_deref es r c.index.result.now _ (c.requires.comparable.range c.loop-r.r-index 0 c.loop-r-test.true) c.index.ensures
+      subst Once (sym (list_deref es r c.index.result.now _ (c.requires.comparable.range c.loop-r.r-index 0 c.loop-r-test.true)
+          c.index.ensures
           c.deref.ensures.value)) once.0,
       subst Once (sym (list_deref es c.args.i c.index-in-loop-r.result.now _ c.requires.comparable.row c.index-in-loop-r.ensures
           c.deref-in-loop-r.ensures.value)) c.requires.comparable.once.0,
@@ -112,7 +113,8 @@ loop-r-preserved g c =
 
 pub same_list-requires-clause-marked : goal.same_list-requires-clause-marked
 same_list-requires-clause-marked g c j = c.requires.elements.1 j ∙ ap (λ xs. has xs j)
-    (sym (list_deref c.args.lists.now.elements.items c.args.i c.index-in-loop-r.result.now _ c.requires.comparable.row c.index-in-loop-r.ensures
+    (sym (list_deref c.args.lists.now.elements.items c.args.i c.index-in-loop-r.result.now _ c.requires.comparable.row
+    c.index-in-loop-r.ensures
     c.deref-in-loop-r.ensures.value))
 
 pub same_list-requires-then-same_list-clause-marked : goal.same_list-requires-then-same_list-clause-marked

@@ -19,7 +19,8 @@ first_alike-found-requires-clause-elements g c = (
   ap length c.deref-3.ensures.value ∙ c.mark_all.ensures.size ∙ c.requires.elements.0,
   λ j. ap (λ l. mark_at l j) c.deref-3.ensures.value ∙ c.mark_all.ensures.marked j
       ∙ ap (λ b. b || has c.deref.result.now j) (c.requires.elements.1 j)
-      ∙ ap (λ xs. has xs j) (list_deref c.args.lists.now.elements.items c.args.i c.index.result.now _ c.requires.comparable.row c.index.ensures
+      ∙ ap (λ xs. has xs j) (list_deref c.args.lists.now.elements.items c.args.i c.index.result.now _ c.requires.comparable.row
+      c.index.ensures
       c.deref.ensures.value),
 )
 
@@ -29,7 +30,8 @@ first_alike-found-requires-clause-rows g c = (
   λ j. ap (λ l. mark_at l j) c.deref-4.ensures.value ∙ c.mark_all-2.ensures.marked j
       ∙ ap (λ b. b || has c.deref-2.result.now j) (c.requires.rows.1 j)
       ∙ ap (λ xs. has xs j) (list_deref c.args.lists.now.variables.items c.args.i c.index-2.result.now _
-      (lt_of_lt_of_le c.requires.comparable.row (le_of_eq (sym c.requires.comparable.variables.0))) c.index-2.ensures c.deref-2.ensures.value),
+      (lt_of_lt_of_le c.requires.comparable.row (le_of_eq (sym c.requires.comparable.variables.0))) c.index-2.ensures
+      c.deref-2.ensures.value),
 )
 
 pub first_alike-found-requires-clause-comparable : goal.first_alike-found-requires-clause-comparable
@@ -38,7 +40,8 @@ first_alike-found-requires-clause-comparable g c = c.requires.comparable
 pub clear_all-requires : goal.clear_all-requires
 clear_all-requires g c = record {
   range = read_below (length c.args.lists.now.elements.items) (length c.mark_all.new.marks.items) c.args.lists.now.elements.items c.args.i
-      c.index-3.result.now c.deref-5.result.now c.requires.comparable.elements c.requires.comparable.row c.index-3.ensures c.deref-5.ensures.value
+      c.index-3.result.now c.deref-5.result.now c.requires.comparable.elements c.requires.comparable.row c.index-3.ensures
+      c.deref-5.ensures.value
       (c.mark_all.ensures.size ∙ c.requires.elements.0);
 }
 
@@ -59,7 +62,8 @@ mark_all-requires g c = record {
 pub mark_all-requires-2 : goal.mark_all-requires-2
 mark_all-requires-2 g c = record {
   range = read_below (length c.args.lists.now.elements.items) (length c.args.rows.now.items) c.args.lists.now.variables.items c.args.i
-      c.index-2.result.now c.deref-2.result.now c.requires.comparable.variables c.requires.comparable.row c.index-2.ensures c.deref-2.ensures.value
+      c.index-2.result.now c.deref-2.result.now c.requires.comparable.variables c.requires.comparable.row c.index-2.ensures
+      c.deref-2.ensures.value
       c.requires.rows.0;
 }
 
@@ -75,7 +79,8 @@ returns-clause-elements g c = (
   c.clear_all.ensures.size ∙ c.mark_all.ensures.size ∙ c.requires.elements.0,
   λ j. cleared_own j (mark_at c.args.elements.now.items j) (mark_at c.mark_all.new.marks.items j) (mark_at c.clear_all.new.marks.items j)
       c.deref.result.now c.deref-5.result.now (c.requires.elements.1 j) (c.mark_all.ensures.marked j) (c.clear_all.ensures.cleared j)
-      (list_deref c.args.lists.now.elements.items c.args.i c.index.result.now _ c.requires.comparable.row c.index.ensures c.deref.ensures.value
+      (list_deref c.args.lists.now.elements.items c.args.i c.index.result.now _ c.requires.comparable.row c.index.ensures
+      c.deref.ensures.value
       ∙ sym (list_deref c.args.lists.now.elements.items c.args.i c.index-3.result.now _ c.requires.comparable.row c.index-3.ensures
       c.deref-5.ensures.value)),
 )

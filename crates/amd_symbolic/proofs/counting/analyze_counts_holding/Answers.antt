@@ -23,7 +23,16 @@ ordered_counts-requires g c =
     let o : IsOrderingHolding (Some c.args.hold.now) z c.args.control.now.dense c.args.control.now.aggressive a_p a_i
     (map g.I.Number.value c.deref.result.now) (map g.I.Number.value c.in-Ok.answer.1.items) c.in-Ok.answer.2 =
     rw c.deref.ensures.value c.in-Ok.ensures.ordering in
-    record { ordering = ((Some c.args.hold.now), c.args.control.now.dense, c.args.control.now.aggressive, map g.I.Number.value c.in-Ok.answer.1.items, o) }
+    record {
+      ordering = (
+        (Some c.args.hold.now),
+        c.args.control.now.dense,
+        c.args.control.now.aggressive,
+        map g.I.Number.value
+            c.in-Ok.answer.1.items,
+        o,
+      );
+    }
 
 pub returns-in_err-counted-clause-fault : goal.returns-in_err-counted-clause-fault
 returns-in_err-counted-clause-fault g c =

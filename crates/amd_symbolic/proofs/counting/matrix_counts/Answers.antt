@@ -20,7 +20,8 @@ returns-then-is_empty-clause-counts g c =
     (no_counts a_p a_i p _ _ _ empty c.empty_counts.ensures.sizes c.empty_counts.ensures.parents c.empty_counts.ensures.needs)
 
 pub returns-else-is_empty-clause-fault : goal.returns-else-is_empty-clause-fault
-returns-else-is_empty-clause-fault g c = no_order g.I.Index.value (g.I.Index.value c.args.n) c.in-Some.size c.args.p.now (map g.I.Index.value c.args.a_p.now)
+returns-else-is_empty-clause-fault g c = no_order g.I.Index.value (g.I.Index.value c.args.n) c.in-Some.size c.args.p.now
+    (map g.I.Index.value c.args.a_p.now)
     (map g.I.Index.value c.args.a_i.now) c.in-Some.ensures.1 c.if-size-eq0.true c.if-is_empty.ensures
 
 pub returns-then-not-is_form-clause-fault : goal.returns-then-not-is_form-clause-fault

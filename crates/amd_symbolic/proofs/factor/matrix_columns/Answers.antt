@@ -35,7 +35,8 @@ returns-then-is_empty-clause-fault g c =
     c.empty_factor.ensures.fault (λ some. absurd (some zero))
 
 pub returns-else-is_empty-clause-fault : goal.returns-else-is_empty-clause-fault
-returns-else-is_empty-clause-fault g c = no_order g.I.Index.value (g.I.Index.value c.args.n) c.in-Some.size c.args.p.now (map g.I.Index.value c.args.a_p.now)
+returns-else-is_empty-clause-fault g c = no_order g.I.Index.value (g.I.Index.value c.args.n) c.in-Some.size c.args.p.now
+    (map g.I.Index.value c.args.a_p.now)
     (map g.I.Index.value c.args.a_i.now) c.in-Some.ensures.1 c.if-size-eq0.true c.if-is_empty.ensures
 
 pub returns-then-not-is_form-clause-fault : goal.returns-then-not-is_form-clause-fault

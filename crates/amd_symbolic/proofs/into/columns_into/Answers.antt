@@ -36,7 +36,8 @@ returns-then-is_empty-clause-fault g c =
     c.empty_frame.ensures.fault (λ some. absurd (some zero))
 
 pub returns-else-is_empty-clause-fault : goal.returns-else-is_empty-clause-fault
-returns-else-is_empty-clause-fault g c = no_order g.I.Number.value (g.I.Number.value c.args.n) c.in-Some.size c.args.p.now (map g.I.Number.value c.args.a_p.now)
+returns-else-is_empty-clause-fault g c = no_order g.I.Number.value (g.I.Number.value c.args.n) c.in-Some.size c.args.p.now
+    (map g.I.Number.value c.args.a_p.now)
     (map g.I.Number.value c.args.a_i.now) c.in-Some.ensures.1 c.if-size-eq0.true c.if-is_empty.ensures
 
 pub returns-then-not-is_form-clause-fault : goal.returns-then-not-is_form-clause-fault

@@ -11,7 +11,8 @@ pub returns-in_default-clause-fault : goal.returns-in_default-clause-fault
 returns-in_default-clause-fault g c = no_count (g.I.Index.value c.args.n) _ _ c.in_default.ensures (simp length-map (omega arith))
 
 pub returns-else-is_empty-clause-fault : goal.returns-else-is_empty-clause-fault
-returns-else-is_empty-clause-fault g c = no_order g.I.Index.value (g.I.Index.value c.args.n) c.in-Some.size c.args.p.now (map g.I.Index.value c.args.a_p.now)
+returns-else-is_empty-clause-fault g c = no_order g.I.Index.value (g.I.Index.value c.args.n) c.in-Some.size c.args.p.now
+    (map g.I.Index.value c.args.a_p.now)
     (map g.I.Index.value c.args.a_i.now) c.in-Some.ensures.1 c.if-size-eq0.true c.if-is_empty.ensures
 
 pub returns-then-not-is_form-clause-fault : goal.returns-then-not-is_form-clause-fault
@@ -31,7 +32,8 @@ returns-clause-partition g c =
     let a_p : List ℤ = map g.I.Index.value c.args.a_p.now in
     let a_i : List ℤ = map g.I.Index.value c.args.a_i.now in
     let p : List ℤ = map g.I.Index.value c.args.p.now in
-    subst (λ z. IfOk c.form_partition.result (λ b. IsPartitionOf (ordered_matrix z a_p a_i p) b.cut.first.items b.cut.owner.items b.cut.ptr.items
+    subst (λ z. IfOk c.form_partition.result (λ b. IsPartitionOf (ordered_matrix z a_p a_i p) b.cut.first.items b.cut.owner.items
+    b.cut.ptr.items
     b.cut.parent.items b.lists.starts.items b.lists.neighbours.items)) c.in-Some.ensures.1 c.form_partition.ensures.partition
 
 pub returns-clause-fault : goal.returns-clause-fault

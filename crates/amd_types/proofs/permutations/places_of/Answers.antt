@@ -8,7 +8,8 @@ use Rattle.amd_types.proofs.permutations.places_of.Goals as goal
 
 pub unreachable-requires : goal.unreachable-requires
 unreachable-requires g c = c.in_default.ensures (fits_below g.I.Index.fits g.met.I.Index.zero_fits g.met.I.Index.between c.rows.k
-    (g.I.Index.value c.args.n) c.requires.fits (let size = c.requires.size in let within = c.rows-test.true in omega (arith, ints, size, within)))
+    (g.I.Index.value c.args.n) c.requires.fits (let size = c.requires.size in let within = c.rows-test.true in
+    omega (arith, ints, size, within)))
 
 pub index_mut-requires : goal.index_mut-requires
 index_mut-requires g c = let small = permutation_below (length c.args.rows.now) c.args.rows.now c.requires.listing c.rows.k c.rows-test.true

@@ -122,7 +122,8 @@ spread_until-requires g c =
       ready = (
         m,
         lo,
-        ready m lo c.args.hi c.args.degrees.now _ _ c.args.next.now c.args.iw.now c.args.heads.now r c.columns.j c.columns.end c.columns.next
+        ready m lo c.args.hi c.args.degrees.now _ _ c.args.next.now c.args.iw.now c.args.heads.now r c.columns.j c.columns.end
+            c.columns.next
             c.columns.iw c.columns.heads c.columns-test.true (i.end m lo r) i.long (i.spreads m lo r) (i.heads m lo r),
       );
     }

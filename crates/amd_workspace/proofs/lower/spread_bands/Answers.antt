@@ -72,7 +72,8 @@ bands-preserved g c =
     ] in record {
       long = c.spread_band.ensures.long ∙ i.long;
       low = range.1;
-      spreads = λ m h s. (c.spread_band.ensures.after m c.bands.lo (ready m c.args.degrees.now _ _ c.args.next.now c.args.iw.now h c.bands.lo
+      spreads = λ m h s. (c.spread_band.ensures.after m c.bands.lo (ready m c.args.degrees.now _ _ c.args.next.now c.args.iw.now h
+          c.bands.lo
           c.bands.next c.bands.iw (i.spreads m h s) c.if-n-lo.hi c.bands.heads range.0 range.1 i.long (i.stand m h s))).0;
       stand = λ m h s. (c.spread_band.ensures.after m c.bands.lo (ready m c.args.degrees.now _ _ c.args.next.now c.args.iw.now h c.bands.lo
           c.bands.next c.bands.iw (i.spreads m h s) c.if-n-lo.hi c.bands.heads range.0 range.1 i.long (i.stand m h s))).1;

@@ -5,7 +5,8 @@ use Rattle.amd_model.specs.Below.{list_below}
 use Rattle.amd_words.specs.Words.{num, word}
 use Rattle.amd_workspace.specs.Copying.{is_other}
 use Rattle.amd_workspace.specs.Lower.{Matrix, IsReadyForPart, SpreadsColumns, banded, earlier_of, own_from, own_of, own_start}
-use Rattle.amd_workspace.proofs.Bands.{Part, next_row, none_before, none_left, part_all, part_count, part_end, part_inside, part_step, row_after}
+use Rattle.amd_workspace.proofs.Bands.{Part, next_row, none_before, none_left, part_all, part_count, part_end}
+use Rattle.amd_workspace.proofs.Bands.{part_inside, part_step, row_after}
 use Rattle.amd_workspace.proofs.LowerLists.{IsNth}
 use Rattle.amd_workspace.proofs.LowerWords.{later_list, next_list, plain_word}
 use Rattle.amd_workspace.proofs.lower.spread_until.Goals as goal
@@ -47,12 +48,14 @@ module _ (m : Matrix) (lo hi j start end a b : ℕ) (next : List ℕ) (iw : List
 
       module _ (i_in : i < hi) where
         fits : num next' i < length iw'
-        fits = part_inside m.n m.ap m.ai r.lower lo hi j r.band r.rows_in r.row v.bound i k next' iw' room v.low v.high v.spreads refl i_in nth
+        fits = part_inside m.n m.ap m.ai r.lower lo hi j r.band r.rows_in r.row v.bound i k next' iw' room v.low v.high v.spreads refl
+            i_in nth
 
         more : Part m lo hi j (place + 1) (set next' i (num next' i + 1)) (set iw' (num next' i) (pos j))
         more = record {
           bound = i + 1;
-          low = (let x = row_after m.n m.ap m.ai r.lower lo hi j r.band r.rows_in r.row v.bound i k next' iw' room v.low v.high v.spreads refl
+          low = (let x = row_after m.n m.ap m.ai r.lower lo hi j r.band r.rows_in r.row v.bound i k next' iw' room v.low v.high v.spreads
+              refl
               i_in nth in let y = v.low in omega (arith, x, y));
           high = omega (arith, i_in);
           at = (let x = v.at in let y = part_count m.n m.ap m.ai r.lower lo hi j r.band r.rows_in r.row v.bound i k next' iw' room v.low
@@ -67,7 +70,8 @@ module _ (m : Matrix) (lo hi j start end a b : ℕ) (next : List ℕ) (iw : List
       left = none_before m.n m.ap m.ai r.lower lo hi j r.band r.rows_in r.row v.bound k i refl (nth i is) far
 
   at_end : end ≤ place → (a : ℕ) → v.bound ≤ a → a < hi → is_other m.n m.ap m.ai j a ≡ false
-  at_end l = none_left m.n m.ap m.ai r.lower lo hi j r.band r.rows_in r.row v.bound k refl (let x = to in let y = v.at in omega (arith, x, y, l))
+  at_end l = none_left m.n m.ap m.ai r.lower lo hi j r.band r.rows_in r.row v.bound k refl
+      (let x = to in let y = v.at in omega (arith, x, y, l))
 
   ended : ((a : ℕ) → v.bound ≤ a → a < hi → is_other m.n m.ap m.ai j a ≡ false) →
       SpreadsColumns m.n m.ap m.ai (banded m.n m.ap m.ai lo hi j hi) next' iw' × (place ≡ own_from m.n m.ap m.ai j hi)
@@ -123,5 +127,6 @@ returns-then-hi-i-clause-after g c = λ m lo r. let w = c.words.invariant in let
 pub returns-clause-after : goal.returns-clause-after
 returns-clause-after g c = λ m lo r. let w = c.words.invariant in let v = w.part m lo r in
     ended m lo c.args.hi c.args.j c.args.place c.args.end _ _ c.args.next.now c.args.iw.now r c.words.place c.words.next c.words.iw w.long v
-    (at_end m lo c.args.hi c.args.j c.args.place c.args.end _ _ c.args.next.now c.args.iw.now r c.words.place c.words.next c.words.iw w.long v
+    (at_end m lo c.args.hi c.args.j c.args.place c.args.end _ _ c.args.next.now c.args.iw.now r c.words.place c.words.next c.words.iw
+    w.long v
     (let t = c.words-test.false in omega (arith, t)))
