@@ -34,20 +34,39 @@ pub fn holds<S: Signed, U: Unsigned>(n: usize, iwlen: usize, flag: usize) -> boo
 /// its own head.
 const GREATEST_MEASURE: usize = 8_380_000;
 
+/// So many words of 32 bits are the most of an ordering whose memory that allocator keeps: 64 MB, but for the degrees
+/// and for results of 64 bits.
+const GREATEST_KEPT: usize = 14_400_000;
+
+/// Asks for two blocks of so many words of 32 bits at a time, and gives them back.
+///
+/// # Errors
+///
+/// A refused request for memory.
+fn ask_for_two<A: Allocator + Copy>(alloc: A, words: usize) -> Result<(), AllocError> {
+    let _first: Vec<Word<i32>, A> = Vec::with_capacity(alloc, words)?;
+    let _second: Vec<Word<i32>, A> = Vec::with_capacity(alloc, words)?;
+    Ok(())
+}
+
 /// Asks for most of the memory that an ordering of `n` rows in `iwlen` words of 32 bits takes beside its input, but for
 /// no more than 32 MB, and gives it back at once. An allocator may keep as much free memory as twice the largest block
 /// that it was given back, and return the rest to the system, as that of glibc does. Below that limit no list of an
 /// ordering is as large; so without this request each ordering would take all its pages from the system anew.
 ///
+/// A workspace above that limit is taken from free memory only where that is in one piece. So where an ordering with
+/// such a workspace takes no more than is kept, its memory is asked for once more, in two blocks below the limit, which
+/// become one piece when they are given back.
+///
 /// # Errors
 ///
 /// A refused request for memory.
-fn ask_for_most<A: Allocator>(alloc: A, n: usize, iwlen: usize) -> Result<(), AllocError> {
-    let most = n
-        .saturating_mul(12)
-        .saturating_add(iwlen)
-        .min(GREATEST_MEASURE);
-    let _: Vec<Word<i32>, A> = Vec::with_capacity(alloc, most)?;
+fn ask_for_most<A: Allocator + Copy>(alloc: A, n: usize, iwlen: usize) -> Result<(), AllocError> {
+    let most = n.saturating_mul(12).saturating_add(iwlen);
+    let _: Vec<Word<i32>, A> = Vec::with_capacity(alloc, most.min(GREATEST_MEASURE))?;
+    if iwlen > GREATEST_MEASURE && most <= GREATEST_KEPT {
+        ask_for_two(alloc, most / 2)?;
+    }
     Ok(())
 }
 

@@ -1,10 +1,10 @@
 // The engine in place with refused memory: each request refused in turn, over the worked matrices and in words of both
 // widths, and nothing left behind; workspaces that no memory holds. How many requests there are does not depend on the
-// number of rounds.
+// number of rounds, and on the workspace only where it is larger than what an allocator keeps as one list.
 
 use crate::tests::in_place_matrices::{EngineCase, MATRICES};
 use crate::tests::in_place_rows::{control_of, is_answer, matrix_of};
-use crate::tests::sorted::{order_in_place, unmarked};
+use crate::tests::sorted::{Sorted, order_in_place, order_sparing, unmarked};
 use amd_testing::check;
 use amd_testing::inputs::path;
 use amd_testing::refusing::{Refusing, each_refused};
@@ -88,4 +88,40 @@ fn rounds_ask_for_no_memory(rt: HostRuntime) -> Result<(), Fail> {
         }
     }
     Ok(())
+}
+
+/// Whether `amd_1` orders a matrix, with so many words to spare.
+fn is_ordered_sparing(
+    rt: &impl Abort,
+    heap: &Refusing<Global>,
+    alloc: Global,
+    more: usize,
+    matrix: &Sorted,
+) -> bool {
+    let (mut info, control) = (Info::new(0), Control::default());
+    order_sparing(rt, heap, alloc, more, matrix, &control, &mut info).is_ok()
+}
+
+/// How many requests `amd_1` makes for a pair of rows with so many words to spare, each of them refused in turn.
+fn requests_sparing(rt: &impl Abort, alloc: Global, more: usize) -> u64 {
+    let pair = unmarked(2, &[0, 1, 1], &[1]);
+    each_refused(
+        alloc,
+        |heap| is_ordered_sparing(rt, heap, alloc, more, &pair),
+    )
+    .unwrap_or(0)
+}
+
+/// The workspace of a pair of rows has four words and those to spare; a block of the size that is counted has half of
+/// it and twelve words.
+#[test]
+fn asks_for_two_blocks_of_a_large_workspace(rt: HostRuntime) {
+    let requests = requests_sparing(&rt, rt.alloc(), 0);
+    check!(&rt; requests > 0 && requests_sparing(&rt, rt.alloc(), 8_379_996) == requests);
+    check!(&rt; requests_sparing(&rt, rt.alloc(), 8_379_998) == requests.saturating_add(2));
+    check!(&rt; requests_sparing(&rt, rt.alloc(), 14_399_998) == requests);
+    let heap = Refusing::counting(rt.alloc(), 0, 4 * (4_190_001 + 12));
+    let pair = unmarked(2, &[0, 1, 1], &[1]);
+    check!(&rt; is_ordered_sparing(&rt, &heap, rt.alloc(), 8_379_998, &pair));
+    check!(&rt; heap.of_size() == 2);
 }

@@ -96,6 +96,22 @@ pub fn order_plainly(
     answer
 }
 
+/// Orders by `amd_1`, with so many words to spare. The lists of the engine come from `heap`.
+pub fn order_sparing<A: Allocator + Copy>(
+    rt: &impl Abort,
+    heap: A,
+    alloc: Global,
+    more: usize,
+    matrix: &Sorted,
+    control: &Control,
+    info: &mut Info,
+) -> Result<(Vec<i64, A>, Vec<i64, A>), Status> {
+    let (n, a_p, a_i, hold) = (matrix.n, matrix.a_p, matrix.a_i, matrix.hold);
+    let (mut degrees, room) = degrees_of(rt, alloc, n, a_p, a_i, more, info);
+    check_marks(rt, hold, degrees.len());
+    amd_1(heap, n, a_p, a_i, &mut degrees, room, control, hold, info)
+}
+
 /// Orders by `amd_1`, with no word to spare.
 pub fn order_exactly(
     rt: &impl Abort,
@@ -104,20 +120,7 @@ pub fn order_exactly(
     control: &Control,
     info: &mut Info,
 ) -> (Vec<i64>, Vec<i64>) {
-    let (n, a_p, a_i) = (matrix.n, matrix.a_p, matrix.a_i);
-    let (mut degrees, room) = degrees_of(rt, alloc, n, a_p, a_i, 0, info);
-    check_marks(rt, matrix.hold, degrees.len());
-    let Ok(answer) = amd_1(
-        alloc,
-        n,
-        a_p,
-        a_i,
-        &mut degrees,
-        room,
-        control,
-        matrix.hold,
-        info,
-    ) else {
+    let Ok(answer) = order_sparing(rt, alloc, alloc, 0, matrix, control, info) else {
         panic!(rt; "no answer in place");
     };
     answer
