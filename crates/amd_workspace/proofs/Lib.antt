@@ -8,7 +8,7 @@ pub mod CopiedColumns
 pub mod LowerLists
 pub mod LowerColumns
 pub mod LowerWords
-pub mod Bands
+pub mod BandWords
 pub mod Starts
 pub mod Begun
 pub mod AtStart

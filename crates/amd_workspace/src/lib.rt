@@ -2,6 +2,7 @@
 //! of the lists of neighbours, the start, and what the record says at the end. Called by `amd_engine`.
 #![tactic(auto)]
 
+pub mod bands;
 pub mod copying;
 pub mod ending;
 pub mod filling;

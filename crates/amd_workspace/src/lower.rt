@@ -5,7 +5,7 @@
 // 2004 (the forming of A + A'). Called by `laying`.
 
 ghost use Rattle.std.specs.Prelude.{◌≡◌, ◌<◌, ◌≤◌, ◌+◌, ◌-◌, ◌++◌, ℕ, true, map, length, pos, replicate, slice_index};
-ghost use Rattle.std.specs.Prelude.{slice_range, IfOk, ◌/◌, ◌^◌};
+ghost use Rattle.std.specs.Prelude.{slice_range, IfOk, ◌/◌};
 ghost use Rattle.std.specs.Vec.{vec_capacity};
 ghost use Rattle.amd_model.specs.Input.Columns.{IsColumnForm, IsSorted};
 ghost use Rattle.amd_model.specs.Input.Pattern.{graph_of, is_pair};
@@ -14,25 +14,15 @@ ghost use Rattle.amd_edges.specs.Visits.{AreCounts};
 ghost use Rattle.amd_model.specs.Quotient.{starting_list};
 ghost use Rattle.amd_words.specs.Words.{num, rows};
 ghost use Rattle.amd_workspace.specs.Copying.{HoldRows};
-ghost use Rattle.amd_workspace.specs.Lower.{IsLower, Matrix, own_start, own_of, earlier_below};
-ghost use Rattle.amd_workspace.specs.Lower.{HoldsOwn, SpreadsColumns};
-ghost use Rattle.amd_workspace.specs.Lower.{HasColumns, IsReadyForColumn, IsReadyForPart, banded, own_from};
-ghost use Rattle.amd_workspace.specs.Lower.{HasHeads, IsReadyForBand, spread_to};
+ghost use Rattle.amd_workspace.specs.Lower.{IsLower, Matrix, own_start, own_of, earlier_below, HoldsOwn};
+ghost use Rattle.amd_workspace.specs.Lower.{SpreadsColumns, HasColumns, IsReadyForColumn};
 
+use crate::bands::spread_all;
 use crate::laying::append;
 use amd_types::index::Index;
 use amd_types::internal::count_at;
 use amd_words::{Cell, Signed, Unsigned, Word, cell_at, row_at, word_of};
 use std::alloc::{AllocError, Allocator};
-
-/// In so many bands of rows the lists of a large matrix are written whose rows stand in any order.
-const BANDS: usize = 8;
-
-/// A workspace with so many words is large.
-const LARGE: usize = 1 << 20;
-
-/// So many columns are looked at.
-const SAMPLES: usize = 64;
 
 /// Whether no row of column `j`, one of `size`, stands above the diagonal.
 fn is_low<I: Index>(size: usize, a_p: &[I], a_i: &[I], j: usize) -> bool
@@ -83,7 +73,7 @@ pub fn has_long_lower<I: Index>(size: usize, a_p: &[I], a_i: &[I], free: usize) 
 
 /// The place in `a_i` of the first row of column `j` below the diagonal, or the end of the column. No row is above the
 /// diagonal.
-fn own_first<I: Index>(size: usize, a_p: &[I], a_i: &[I], j: usize) -> usize
+pub fn own_first<I: Index>(size: usize, a_p: &[I], a_i: &[I], j: usize) -> usize
     requires form { IsColumnForm (pos size) size (map I.value a_p.now) (map I.value a_i.now) }
     requires sorted { IsSorted size (map I.value a_p.now) (map I.value a_i.now) }
     requires lower { IsLower size (map I.value a_p.now) (map I.value a_i.now) }
@@ -220,7 +210,11 @@ fn spread<S: Signed, U: Unsigned>(next: &mut [Cell<U>], iw: &mut [Word<S>], j: u
 }
 
 /// Writes the earlier neighbours of all rows, whose numbers of neighbours are `degrees`, before their own columns.
-fn spread_lists<S: Signed, U: Unsigned>(next: &mut [Cell<U>], iw: &mut [Word<S>], degrees: &[usize])
+pub fn spread_lists<S: Signed, U: Unsigned>(
+    next: &mut [Cell<U>],
+    iw: &mut [Word<S>],
+    degrees: &[usize],
+)
     requires laid { (m : Matrix) × HasColumns m degrees.now S.MOST U.MOST next.old iw.old }
     ensures long { length iw.new ≡ length iw.old }
     ensures lists { (m : Matrix) → HasColumns m degrees.now S.MOST U.MOST next.old iw.old → HoldRows m.n iw.new ×
@@ -232,167 +226,6 @@ fn spread_lists<S: Signed, U: Unsigned>(next: &mut [Cell<U>], iw: &mut [Word<S>]
         end += degrees[j];
         spread(next, iw, j, end);
     }
-}
-
-/// Writes row `j` after the earlier neighbours of the next rows of its own column below the diagonal, those before row
-/// `hi`. They stand in `iw` from the word `place` on, and the column ends before the word `end`. Returns where the
-/// rows stand that are left.
-fn spread_until<S: Signed, U: Unsigned>(
-    next: &mut [Cell<U>],
-    iw: &mut [Word<S>],
-    j: usize,
-    place: usize,
-    end: usize,
-    hi: usize,
-) -> usize
-    requires ready { (m : Matrix) × (lo : ℕ) × IsReadyForPart m lo hi j place end S.MOST U.MOST next.old iw.old }
-    ensures long { length iw.new ≡ length iw.old }
-    ensures after { (m : Matrix) (lo : ℕ) → IsReadyForPart m lo hi j place end S.MOST U.MOST next.old iw.old →
-        SpreadsColumns m.n m.ap m.ai (banded m.n m.ap m.ai lo hi j hi) next.new iw.new ×
-        (result ≡ own_from m.n m.ap m.ai j hi) }
-{
-    let mut place = place;
-    'words: while place < end {
-        let i = row_at(iw, place);
-        if hi <= i {
-            return place;
-        }
-        append(next, iw, i, j);
-        place += 1;
-    }
-    place
-}
-
-/// Writes the earlier neighbours of the rows before `hi` that have none yet. The rows of each column that are left
-/// stand from the word `heads[j]` on.
-fn spread_band<S: Signed, U: Unsigned>(
-    next: &mut [Cell<U>],
-    iw: &mut [Word<S>],
-    heads: &mut [usize],
-    degrees: &[usize],
-    hi: usize,
-)
-    requires laid { (m : Matrix) × (lo : ℕ) × IsReadyForBand m lo hi degrees.now S.MOST U.MOST next.old iw.old
-        heads.old }
-    ensures long { length iw.new ≡ length iw.old }
-    ensures after { (m : Matrix) (lo : ℕ) → IsReadyForBand m lo hi degrees.now S.MOST U.MOST next.old iw.old heads.old →
-        SpreadsColumns m.n m.ap m.ai (spread_to m.n m.ap m.ai hi) next.new iw.new × HasHeads m (λ j. hi) heads.new }
-{
-    let mut end = 0;
-    'columns: for j in 0..hi {
-        end += degrees[j];
-        heads[j] = spread_until(next, iw, j, heads[j], end, hi);
-    }
-}
-
-/// Writes the earlier neighbours of all rows as `spread_lists`, but of each column in turn only those of one band of
-/// rows, so that the words that are written are close together. The rows of each column below the diagonal stand from
-/// the word `heads[j]` on; what `heads` holds afterwards is not said.
-fn spread_bands<S: Signed, U: Unsigned>(
-    next: &mut [Cell<U>],
-    iw: &mut [Word<S>],
-    heads: &mut [usize],
-    degrees: &[usize],
-)
-    requires laid { (m : Matrix) × HasColumns m degrees.now S.MOST U.MOST next.old iw.old ×
-        HasHeads m (λ j. 0) heads.old }
-    ensures long { length iw.new ≡ length iw.old }
-    ensures lists { (m : Matrix) → HasColumns m degrees.now S.MOST U.MOST next.old iw.old →
-        HasHeads m (λ j. 0) heads.old →
-        HoldRows m.n iw.new × ((i : ℕ) → i < m.n → rows iw.new (own_start m.n m.ap m.ai i) (num degrees.now i) ≡
-        starting_list m.n (is_pair m.n m.ap m.ai) i) }
-{
-    let n = degrees.len();
-    let width = n / BANDS + 1;
-    let mut lo = 0;
-    'bands: while lo < n {
-        let hi = if n - lo < width { n } else { lo + width };
-        spread_band(next, iw, heads, degrees, hi);
-        lo = hi;
-    }
-}
-
-/// Appends, for each of `size` columns, where its rows below the diagonal stand in words that `push_lists` wrote.
-fn push_heads<I: Index, A: Allocator>(
-    size: usize,
-    a_p: &[I],
-    a_i: &[I],
-    degrees: &[usize],
-    heads: &mut Vec<usize, A>,
-)
-    requires form { IsColumnForm (pos size) size (map I.value a_p.now) (map I.value a_i.now) }
-    requires sorted { IsSorted size (map I.value a_p.now) (map I.value a_i.now) }
-    requires lower { IsLower size (map I.value a_p.now) (map I.value a_i.now) }
-    requires degrees { AreCounts (graph_of size (map I.value a_p.now) (map I.value a_i.now))
-        ((graph_of size (map I.value a_p.now) (map I.value a_i.now)).edge) degrees.now }
-    requires total { own_start size (map I.value a_p.now) (map I.value a_i.now) size < 2 ^ 64 }
-    requires empty { length heads.old.items ≡ 0 }
-    requires room { size ≤ vec_capacity heads.old }
-    ensures { HasHeads (record { n = size; ap = map I.value a_p.now; ai = map I.value a_i.now }) (λ j. 0)
-        heads.new.items }
-{
-    let mut end = 0;
-    'columns: for j in 0..size {
-        end += degrees[j];
-        let own = count_at(a_p, j + 1) - own_first(size, a_p, a_i, j);
-        heads.push_reserved(end - own);
-    }
-}
-
-/// Whether the first and the last row of column `j`, one of `size`, are far apart.
-fn is_wide<I: Index>(size: usize, a_p: &[I], a_i: &[I], j: usize) -> bool
-    requires form { IsColumnForm (pos size) size (map I.value a_p.now) (map I.value a_i.now) }
-    requires row { j < size }
-{
-    let first = count_at(a_p, j);
-    let stop = count_at(a_p, j + 1);
-    first < stop && count_at(a_i, stop - 1) > count_at(a_i, first).saturating_add(size / 8)
-}
-
-/// Whether many of the columns that are looked at, at most 64 of them, are wide, so that their rows stand in any order.
-fn is_scattered<I: Index>(size: usize, a_p: &[I], a_i: &[I]) -> bool
-    requires form { IsColumnForm (pos size) size (map I.value a_p.now) (map I.value a_i.now) }
-{
-    let step = size / SAMPLES + 1;
-    let mut wide = 0usize;
-    let mut j = 0;
-    'columns: while j < size {
-        if is_wide(size, a_p, a_i, j) {
-            wide = wide.saturating_add(1);
-        }
-        j = j.saturating_add(step);
-    }
-    wide >= SAMPLES / 4
-}
-
-/// Writes the earlier neighbours of all of `size` rows: band by band, where there are many words and the rows of the
-/// columns stand in any order. `heads` has room for a number of each column.
-fn spread_all<I: Index, S: Signed, U: Unsigned, A: Allocator>(
-    size: usize,
-    a_p: &[I],
-    a_i: &[I],
-    degrees: &[usize],
-    next: &mut [Cell<U>],
-    iw: &mut [Word<S>],
-    heads: &mut Vec<usize, A>,
-)
-    requires form { IsColumnForm (pos size) size (map I.value a_p.now) (map I.value a_i.now) }
-    requires sorted { IsSorted size (map I.value a_p.now) (map I.value a_i.now) }
-    requires laid { HasColumns (record { n = size; ap = map I.value a_p.now; ai = map I.value a_i.now }) degrees.now
-        S.MOST U.MOST next.old iw.old }
-    requires empty { length heads.old.items ≡ 0 }
-    requires room { size ≤ vec_capacity heads.old }
-    ensures long { length iw.new ≡ length iw.old }
-    ensures lists { HoldRows size iw.new × ((i : ℕ) → i < size →
-        rows iw.new (own_start size (map I.value a_p.now) (map I.value a_i.now) i) (num degrees.now i) ≡
-        starting_list size (is_pair size (map I.value a_p.now) (map I.value a_i.now)) i) }
-{
-    if iw.len() < LARGE || !is_scattered(size, a_p, a_i) {
-        spread_lists(next, iw, degrees);
-        return;
-    }
-    push_heads(size, a_p, a_i, degrees, heads);
-    spread_bands(next, iw, heads, degrees);
 }
 
 /// Lays the lists of a pattern of `size` rows that has no entry above the diagonal in a workspace of `room` words. Each

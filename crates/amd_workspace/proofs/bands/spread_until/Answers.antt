@@ -1,15 +1,16 @@
--- the goals of lower::spread_until.
+-- the goals of bands::spread_until.
 use Rattle.std.proofs.Common.{◌≡◌, ◌+◌, ◌<◌, ◌≤◌, ℕ, ℤ, List, false, arith, refl, sym, subst, ap, ◌∙◌, length, pos, set}
 use Rattle.std.proofs.lemmas.List.{length-set}
 use Rattle.amd_model.specs.Below.{list_below}
 use Rattle.amd_words.specs.Words.{num, word}
 use Rattle.amd_workspace.specs.Copying.{is_other}
-use Rattle.amd_workspace.specs.Lower.{Matrix, IsReadyForPart, SpreadsColumns, banded, earlier_of, own_from, own_of, own_start}
-use Rattle.amd_workspace.proofs.Bands.{Part, next_row, none_before, none_left, part_all, part_count, part_end}
-use Rattle.amd_workspace.proofs.Bands.{part_inside, part_step, row_after}
+use Rattle.amd_workspace.specs.Lower.{Matrix, SpreadsColumns, earlier_of, own_of, own_start}
+use Rattle.amd_workspace.specs.Bands.{IsReadyForPart, banded, own_from}
+use Rattle.amd_workspace.proofs.BandWords.{Part, next_row, none_before, none_left, part_all, part_count, part_end}
+use Rattle.amd_workspace.proofs.BandWords.{part_inside, part_step, row_after}
 use Rattle.amd_workspace.proofs.LowerLists.{IsNth}
 use Rattle.amd_workspace.proofs.LowerWords.{later_list, next_list, plain_word}
-use Rattle.amd_workspace.proofs.lower.spread_until.Goals as goal
+use Rattle.amd_workspace.proofs.bands.spread_until.Goals as goal
 
 pub words-init : goal.words-init
 words-init g c = record {

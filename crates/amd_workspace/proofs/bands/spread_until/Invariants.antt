@@ -1,7 +1,8 @@
 use Rattle.std.proofs.Common.{◌≡◌, ◌-◌, ℕ, length}
-use Rattle.amd_workspace.specs.Lower.{Matrix, IsReadyForPart}
-use Rattle.amd_workspace.proofs.Bands.{Part}
-use Rattle.amd_workspace.proofs.lower.spread_until.Given as goal
+use Rattle.amd_workspace.specs.Lower.{Matrix}
+use Rattle.amd_workspace.specs.Bands.{IsReadyForPart}
+use Rattle.amd_workspace.proofs.BandWords.{Part}
+use Rattle.amd_workspace.proofs.bands.spread_until.Given as goal
 
 abbrev pub invariant-words : goal.invariant-words
 invariant-words g l = record {

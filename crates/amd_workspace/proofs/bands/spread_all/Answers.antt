@@ -1,7 +1,7 @@
--- the goals of lower::spread_all.
+-- the goals of bands::spread_all.
 use Rattle.std.proofs.Common.{map, sym, subst}
-use Rattle.amd_workspace.specs.Lower.{HasHeads}
-use Rattle.amd_workspace.proofs.lower.spread_all.Goals as goal
+use Rattle.amd_workspace.specs.Bands.{HasHeads}
+use Rattle.amd_workspace.proofs.bands.spread_all.Goals as goal
 
 pub returns-then-iw-lt-LARGE-clause-lists : goal.returns-then-iw-lt-LARGE-clause-lists
 returns-then-iw-lt-LARGE-clause-lists g c = c.spread_lists.ensures.lists (record {

@@ -1,4 +1,4 @@
--- the goals of lower::push_heads.
+-- the goals of bands::push_heads.
 use Rattle.std.proofs.Common.{◌≡◌, ◌+◌, ◌-◌, ◌∷◌, [], inl, inr, ℕ, ℤ, List, arith, refl, map, ap, ◌∙◌, length}
 use Rattle.std.proofs.lemmas.Bool.{cases_lt}
 use Rattle.std.proofs.lemmas.List.{get_or_append_left, get_or_push, length-append}
@@ -7,10 +7,11 @@ use Rattle.amd_model.specs.Input.Pattern.{graph_of}
 use Rattle.amd_edges.specs.Visits.{start_of}
 use Rattle.amd_edges.proofs.Forms.{pointer_read}
 use Rattle.amd_words.specs.Words.{num}
-use Rattle.amd_workspace.specs.Lower.{earlier_of, own_from, own_of, own_start}
+use Rattle.amd_workspace.specs.Lower.{earlier_of, own_of, own_start}
+use Rattle.amd_workspace.specs.Bands.{own_from}
 use Rattle.amd_workspace.proofs.LowerColumns.{slice_long}
 use Rattle.amd_workspace.proofs.LowerWords.{degree_is, list_room, next_end}
-use Rattle.amd_workspace.proofs.lower.push_heads.Goals as goal
+use Rattle.amd_workspace.proofs.bands.push_heads.Goals as goal
 
 pub columns-init : goal.columns-init
 unfolding start_of sum_below

@@ -1,4 +1,4 @@
--- the goals of lower::spread_band.
+-- the goals of bands::spread_band.
 use Rattle.std.proofs.Common.{◌≡◌, ◌+◌, ◌<◌, inl, inr, ℕ, ℤ, List, arith, cond, ltb, refl, sym, subst, ◌∙◌, length, set}
 use Rattle.std.proofs.Common.{get_or-set_same, get_or-set_other}
 use Rattle.std.proofs.lemmas.Bool.{cases_eq, cases_lt, lt-ltb}
@@ -7,11 +7,11 @@ use Rattle.amd_model.specs.Below.{sum_below}
 use Rattle.amd_model.specs.Input.Pattern.{graph_of}
 use Rattle.amd_edges.specs.Visits.{start_of}
 use Rattle.amd_words.specs.Words.{num}
-use Rattle.amd_workspace.specs.Lower.{Matrix, HasHeads, IsReadyForBand, IsReadyForPart, SpreadsColumns, banded, own_from, own_start}
-use Rattle.amd_workspace.specs.Lower.{spread_to}
-use Rattle.amd_workspace.proofs.Bands.{band_ends, band_next, band_starts, none_in_band, not_lt}
+use Rattle.amd_workspace.specs.Lower.{Matrix, SpreadsColumns, own_start}
+use Rattle.amd_workspace.specs.Bands.{HasHeads, IsReadyForBand, IsReadyForPart, banded, own_from, spread_to}
+use Rattle.amd_workspace.proofs.BandWords.{band_ends, band_next, band_starts, none_in_band, not_lt}
 use Rattle.amd_workspace.proofs.LowerWords.{list_room, next_end, spreads_same}
-use Rattle.amd_workspace.proofs.lower.spread_band.Goals as goal
+use Rattle.amd_workspace.proofs.bands.spread_band.Goals as goal
 
 module _ (m : Matrix) (lo hi : ℕ) (degrees : List ℕ) (a b : ℕ) (next : List ℕ) (iw : List ℤ) (heads : List ℕ)
     (r : IsReadyForBand m lo hi degrees a b next iw heads) where

@@ -1,6 +1,7 @@
 use Rattle.std.proofs.Common.{◌≡◌, ◌≤◌, ◌-◌, length}
-use Rattle.amd_workspace.specs.Lower.{Matrix, HasColumns, HasHeads, SpreadsColumns, spread_to}
-use Rattle.amd_workspace.proofs.lower.spread_bands.Given as goal
+use Rattle.amd_workspace.specs.Lower.{Matrix, HasColumns, SpreadsColumns}
+use Rattle.amd_workspace.specs.Bands.{HasHeads, spread_to}
+use Rattle.amd_workspace.proofs.bands.spread_bands.Given as goal
 
 abbrev pub invariant-bands : goal.invariant-bands
 invariant-bands g l = record {

@@ -9,8 +9,8 @@ use Rattle.amd_model.proofs.Counting.Below.{clash}
 use Rattle.amd_edges.proofs.Orders.{list_gap}
 use Rattle.amd_words.specs.Words.{num, place, word}
 use Rattle.amd_workspace.specs.Copying.{is_other}
-use Rattle.amd_workspace.specs.Lower.{IsLower, Matrix, SpreadsColumns, banded, earlier_below, earlier_of, is_earlier, own_from, own_of}
-use Rattle.amd_workspace.specs.Lower.{own_start, spread_to}
+use Rattle.amd_workspace.specs.Lower.{IsLower, Matrix, SpreadsColumns, earlier_below, earlier_of, is_earlier, own_of, own_start}
+use Rattle.amd_workspace.specs.Bands.{banded, own_from, spread_to}
 use Rattle.amd_workspace.proofs.LowerLists.{IsNth, length_grows, length_more, nth_below}
 use Rattle.amd_workspace.proofs.LowerWords.{early_other, other_early, rows_nth, spreads_more, spreads_same, v_inside}
 

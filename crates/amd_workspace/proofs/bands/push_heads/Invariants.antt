@@ -1,8 +1,9 @@
 use Rattle.std.proofs.Common.{◌≡◌, ◌<◌, ◌≤◌, ℕ, map, length}
 use Rattle.std.specs.Vec.{vec_capacity}
 use Rattle.amd_words.specs.Words.{num}
-use Rattle.amd_workspace.specs.Lower.{own_from, own_start}
-use Rattle.amd_workspace.proofs.lower.push_heads.Given as goal
+use Rattle.amd_workspace.specs.Lower.{own_start}
+use Rattle.amd_workspace.specs.Bands.{own_from}
+use Rattle.amd_workspace.proofs.bands.push_heads.Given as goal
 
 abbrev pub invariant-columns : goal.invariant-columns
 invariant-columns g l = record {

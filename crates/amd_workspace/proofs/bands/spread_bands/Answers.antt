@@ -1,13 +1,14 @@
--- the goals of lower::spread_bands.
+-- the goals of bands::spread_bands.
 use Rattle.std.proofs.Common.{◌≡◌, ◌≤◌, ℕ, ℤ, List, arith, refl, sym, ◌∙◌, length}
 use Rattle.std.proofs.lemmas.Bool.{lt-ltb}
 use Rattle.amd_model.specs.Below.{list_below}
 use Rattle.amd_model.specs.Input.Pattern.{graph_of}
-use Rattle.amd_workspace.specs.Lower.{Matrix, HasColumns, HasHeads, IsReadyForBand, SpreadsColumns, earlier_below, spread_to}
-use Rattle.amd_workspace.proofs.Bands.{not_lt}
+use Rattle.amd_workspace.specs.Lower.{Matrix, HasColumns, SpreadsColumns, earlier_below}
+use Rattle.amd_workspace.specs.Bands.{HasHeads, IsReadyForBand, spread_to}
+use Rattle.amd_workspace.proofs.BandWords.{not_lt}
 use Rattle.amd_workspace.proofs.LowerWords.{spread_lists_are, spreads_same}
-use Rattle.amd_workspace.proofs.lower.spread_bands.Goals as goal
-use Rattle.amd_workspace.proofs.lower.spread_bands.Goals.{then-n-lo, else-n-lo}
+use Rattle.amd_workspace.proofs.bands.spread_bands.Goals as goal
+use Rattle.amd_workspace.proofs.bands.spread_bands.Goals.{then-n-lo, else-n-lo}
 
 module _ (m : Matrix) (degrees : List ℕ) (a b : ℕ) (next : List ℕ) (iw : List ℤ) (h : HasColumns m degrees a b next iw) where
   rows_long : length degrees ≡ m.n

@@ -1,6 +1,7 @@
 use Rattle.std.proofs.Common.{◌≡◌, ℕ, cond, length, ltb}
-use Rattle.amd_workspace.specs.Lower.{Matrix, HasHeads, IsReadyForBand, SpreadsColumns, banded, own_start}
-use Rattle.amd_workspace.proofs.lower.spread_band.Given as goal
+use Rattle.amd_workspace.specs.Lower.{Matrix, SpreadsColumns, own_start}
+use Rattle.amd_workspace.specs.Bands.{HasHeads, IsReadyForBand, banded}
+use Rattle.amd_workspace.proofs.bands.spread_band.Given as goal
 
 abbrev pub invariant-columns : goal.invariant-columns
 invariant-columns g l = record {
