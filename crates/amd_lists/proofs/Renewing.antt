@@ -2,6 +2,7 @@
 use Rattle.std.proofs.Common.{ℕ, ℤ, Bool, List, [], ◌∷◌, ◌++◌, zero, suc, ◌≡◌, ◌<◌, ◌≤◌, ◌+◌, ◌-◌, ◌⊎◌, inl, inr, refl, sym, ap, ◌∙◌}
 use Rattle.std.proofs.Common.{arith, length, filter, sum_by, pos, set, length-set, get_or-set_same, get_or-set_other}
 use Rattle.std.proofs.lemmas.Bool.{cases_eq, cases_lt}
+use Rattle.std.proofs.lemmas.List.{set-set}
 use Rattle.amd_model.specs.Figures.{cut}
 use Rattle.amd_model.specs.Quotient.{turned}
 use Rattle.amd_round_laws.proofs.Lists.Cuts.{cut_more}
@@ -99,6 +100,42 @@ module _ (iw : List ℤ) (from mid end me : ℕ) (down : from ≤ mid) (on : mid
             (ap is_place w ∙ b.0, (let e = ap place w in let s = b.1 in omega (arith, e, s))))
       ]
     ]
+  ]
+
+-- what is put does not depend on the word at `end`, which is written first
+abbrev put_over : List ℤ → ℕ → ℕ → ℕ → ℕ → List ℤ
+put_over iw from mid end me = set (set (set iw end (word iw mid)) mid (word (set iw end (word iw mid)) from)) from (pos me)
+
+module _ (iw : List ℤ) (from mid end me : ℕ) (v : ℤ) where
+  abbrev any : List ℤ
+  any = set iw end v
+
+  abbrev first : List ℤ
+  first = set iw end (word iw mid)
+
+  abbrev first_any : List ℤ
+  first_any = set any end (word any mid)
+
+  -- where mid is end, the first two writes come down to the second one
+  both : mid ≡ end → (x : ℤ) → set first mid x ≡ set iw end x
+  both q x = ap (λ k. set first k x) q ∙ set-set iw end (word iw mid) x
+
+  both_any : mid ≡ end → (x : ℤ) → set first_any mid x ≡ set iw end x
+  both_any q x = ap (λ k. set first_any k x) q ∙ set-set any end (word any mid) x ∙ set-set iw end v x
+
+  -- and where from is end too, all come down to the last one
+  last : (x : ℤ) → from ≡ end → set (set iw end x) from (pos me) ≡ set iw end (pos me)
+  last x r = ap (λ k. set (set iw end x) k (pos me)) r ∙ set-set iw end x (pos me)
+
+  pub put_any : put_over iw from mid end me ≡ put_over any from mid end me
+  put_any = elim (cases_eq mid end) [
+    | inl q ↦ ap (λ l. set l from (pos me)) (both q (word first from)) ∙ elim (cases_eq from end) [
+      | inl r ↦ last (word first from) r ∙ sym (last (word first_any from) r)
+      | inr ne ↦ ap (λ x. set (set iw end x) from (pos me)) (get_or-set_other iw end from (word iw mid) (pos 0) ne
+          ∙ sym (get_or-set_other iw end from v (pos 0) ne) ∙ sym (get_or-set_other any end from (word any mid) (pos 0) ne))
+    ] ∙ ap (λ l. set l from (pos me)) (sym (both_any q (word first_any from)))
+    | inr ne ↦ ap (λ o. set (set o mid (word o from)) from (pos me))
+        (sym (ap (set any end) (get_or-set_other iw end mid v (pos 0) ne) ∙ set-set iw end v (word iw mid)))
   ]
 
 -- the words behind the elements name rows after these were moved

@@ -69,10 +69,12 @@ pub record KeepsWords (narrow : Bool) (less : ℕ) (w : List ℕ) (iw : List ℤ
   pub small : narrow ≡ true → sum ≤ 4294967295 * count
 
 -- of count words, which name variables, those of classes outside the front stand from `to` to `end` now; sum is their
--- number of rows on top of first, cut, and hash is their sum on top of another one, as a word wraps it
+-- number of rows on top of first, cut, and hash is their sum on top of another one, as a word wraps it. The word at
+-- which they end is left open
 pub record KeepsVariables (nv : List ℤ) (first before : ℕ) (iw : List ℤ) (from count to : ℕ) (iw' : List ℤ)
     (end sum hash : ℕ) : Type 0 where
-  pub filters : Filters (length nv) (is_outside nv) (size_of nv) first iw from count to iw' end sum
+  pub filters : Filters (length nv) (is_outside nv) (size_of nv) first iw from count to
+      (slice_set iw' end (word iw end)) end sum
   pub hash_is : hash ≡ hashed before (filter (is_outside nv) (rows iw from count))
 
 -- what a list keeps: the standing ones among its first words, and the classes outside the front among the others

@@ -1,14 +1,24 @@
 // The list of one class of a front is renewed in its place: the new element comes in front, and what the new element
 // absorbed or holds itself goes. Source: Amestoy, Davis and Duff 1996 (element absorption). Called by `fronts`.
 
-ghost use Rattle.std.specs.Prelude.{◌≡◌, ◌<◌, ◌≤◌, ◌+◌, ◌*◌, ◌^◌, pos, cond, length, slice_set, true};
+ghost use Rattle.std.specs.Prelude.{◌≡◌, ◌<◌, ◌≤◌, ◌+◌, ◌*◌, ◌^◌, pos, cond, length, nat_lt, slice_set, true};
 ghost use Rattle.amd_model.specs.Figures.{cut};
-ghost use Rattle.amd_words.specs.Words.{word, rows};
+ghost use Rattle.amd_words.specs.Words.{word, rows, size_of};
 ghost use Rattle.amd_lists.specs.Spans.{IsSpan};
 ghost use Rattle.amd_lists.specs.Renewal.{AreMet, IsExact, KeepsWords, KeepsVariables, CanRenew, RenewsList};
+ghost use Rattle.amd_lists.specs.Renewal.{is_outside};
 
 use amd_words::words::{is_open, named, put_row, size_outside};
-use amd_words::{Cell, Signed, Unsigned, Word, cell_at, copy_word};
+use amd_words::{Cell, Signed, Unsigned, Word, cell_at, copy_word, word_at};
+
+/// So many rows of a list are looked at, beside the first one.
+const FIRST: usize = 7;
+
+/// A list of more rows is long.
+const MANY: usize = 256;
+
+/// So far apart rows are near.
+const NEAR: usize = 64;
 
 /// The number where a word is kept, and 0 where it is not.
 fn where_kept(kept: bool, number: usize) -> usize
@@ -89,9 +99,99 @@ fn keep_elements<S: Signed, U: Unsigned>(
     (end, outside, hash)
 }
 
+/// The number of rows of a class outside the front, and 0 for every other row.
+fn open_size<S: Signed>(nv: &[Word<S>], j: usize) -> usize
+    requires { j < length nv.now }
+    ensures pass { is_outside nv.now j ≡ nat_lt 0 result }
+    ensures size { is_outside nv.now j ≡ true → result ≡ size_of nv.now j }
+    ensures small { result ≤ S.MOST }
+{
+    if is_open(nv, j) {
+        size_outside(nv, j)
+    } else {
+        0
+    }
+}
+
+/// `count` words from `from` on, of which some are moved to the words from `to` on.
+#[derive(Clone, Copy, Drop)]
+struct Part {
+    from: usize,
+    count: usize,
+    to: usize,
+}
+
+/// Which words are written where a list is filtered.
+trait Writing {
+    /// Whether the word of a class with `more` rows outside the front is written; `more` is 0 for every other row.
+    fn writes(more: usize) -> bool
+        ensures { 0 < more → result ≡ true };
+}
+
+/// Those that are kept: a branch for each word, which is fast where it is easy to foresee.
+struct Kept;
+
+/// All: each is written behind those that are kept, and the next one over it if it is not kept, as in `keep_words`.
+struct Each;
+
+impl Writing for Kept {
+    fn writes(more: usize) -> bool {
+        more > 0
+    }
+}
+
+impl Writing for Each {
+    fn writes(_more: usize) -> bool {
+        true
+    }
+}
+
+/// As `keep_variables`, with or without a branch for each word.
+fn keep_part<W: Writing, S: Signed>(
+    iw: &mut [Word<S>],
+    nv: &[Word<S>],
+    part: Part,
+    first: usize,
+    sum: usize,
+    narrow: bool,
+) -> (usize, usize, usize)
+    requires span { IsSpan (length nv.now) iw.old part.from part.count }
+    requires down { part.to ≤ part.from }
+    requires narrow { narrow ≡ true → IsExact S.MOST part.count × (first + 4294967295 * part.count < 2 ^ 64) }
+    ensures { KeepsVariables nv.now first sum iw.old part.from part.count part.to iw.new result.0 result.1 result.2 }
+{
+    let mut end = part.to;
+    let mut outside = first;
+    let mut hash = sum;
+    for p in part.from..part.from + part.count {
+        let j = named(iw, p);
+        let more = open_size(nv, j);
+        if W::writes(more) {
+            copy_word(iw, p, end);
+            outside = add_up(outside, more, narrow);
+            hash = hash.wrapping_add(where_kept(more > 0, j));
+            end += where_kept(more > 0, 1);
+        }
+    }
+    (end, outside, hash)
+}
+
+/// Whether the first of `count` rows are far apart. In a front of rows of neighbouring numbers it is mostly clear which
+/// ones are kept, and in a long list nearly all are; otherwise it is hard to foresee.
+fn are_scattered<S: Signed>(iw: &[Word<S>], from: usize, count: usize) -> bool
+    requires { from + count ≤ length iw.now }
+{
+    if count <= FIRST || MANY < count {
+        return false;
+    }
+    let gap = word_at(iw, from + FIRST).wrapping_sub(word_at(iw, from));
+    gap.unsigned_abs() > NEAR
+}
+
 /// Moves the classes outside the front among the variables that `count` words name to the words from `to` on. Returns
 /// where they end, the number of their rows on top of `first`, at most the greatest `usize`, and their sum on top of
-/// `sum`, which wraps. Where it is `narrow`, no size has more than 32 bits, so that the number of rows is exact.
+/// `sum`, which wraps. Of the word at which they end nothing is said. Where it is `narrow`, no size has more than 32
+/// bits, so that the number of rows is exact.
 fn keep_variables<S: Signed>(
     iw: &mut [Word<S>],
     nv: &[Word<S>],
@@ -107,20 +207,11 @@ fn keep_variables<S: Signed>(
     requires narrow { narrow ≡ true → IsExact S.MOST count × (first + 4294967295 * count < 2 ^ 64) }
     ensures { KeepsVariables nv.now first sum iw.old from count to iw.new result.0 result.1 result.2 }
 {
-    let mut end = to;
-    let mut outside = first;
-    let mut hash = sum;
-    for p in from..from + count {
-        let j = named(iw, p);
-        if is_open(nv, j) {
-            let more = size_outside(nv, j);
-            copy_word(iw, p, end);
-            outside = add_up(outside, more, narrow);
-            hash = hash.wrapping_add(j);
-            end += 1;
-        }
+    let part = Part { from, count, to };
+    if are_scattered(iw, from, count) {
+        return keep_part::<Each, S>(iw, nv, part, first, sum, narrow);
     }
-    (end, outside, hash)
+    keep_part::<Kept, S>(iw, nv, part, first, sum, narrow)
 }
 
 /// Puts the new element in front of the kept elements, which stand from `from` to `middle`, and the kept variables,

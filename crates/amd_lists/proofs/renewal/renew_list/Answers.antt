@@ -1,7 +1,7 @@
-use Rattle.std.proofs.Common.{ℕ, List, ◌≡◌, ◌+◌, ◌-◌, sym, ap, ◌∙◌, arith, subst, length, length-set, filter}
-use Rattle.amd_words.specs.Words.{num, size_of, rows, Names}
+use Rattle.std.proofs.Common.{ℕ, ℤ, List, set, ◌≡◌, ◌+◌, ◌-◌, sym, ap, ◌∙◌, arith, subst, length, length-set, filter}
+use Rattle.amd_words.specs.Words.{num, size_of, rows, word, Names}
 use Rattle.amd_lists.specs.Renewal.{is_kept, is_outside, hashed, Filters}
-use Rattle.amd_lists.proofs.Renewing.{names_after, renew_fit, renews, renew_outside}
+use Rattle.amd_lists.proofs.Renewing.{names_after, put_any, renew_fit, renews, renew_outside}
 use Rattle.amd_words.proofs.RowLists.{rows_same}
 use Rattle.amd_lists.proofs.Filtering.{hashed_both}
 use Rattle.std.proofs.Common.{lt_of_lt_of_le, le_trans, le_refl, le_of_eq, add-le-add}
@@ -20,36 +20,48 @@ keep_variables-end-requires-clause-span g c = record {
 
 pub put_first-requires-clause-inside : goal.put_first-requires-clause-inside
 put_first-requires-clause-inside g c =
+    let clean : List ℤ = set c.keep_variables-end.new.iw c.keep_variables-end.result.0
+    (word c.keep_elements-middle.new.iw c.keep_variables-end.result.0) in
     let g = subst (λ m. Filters m (is_outside c.args.nv.now) (size_of c.args.nv.now)
     c.keep_elements-middle.result.1 c.keep_elements-middle.new.iw (c.args.from + c.args.n_elements) (c.args.count - c.args.n_elements)
-    c.keep_elements-middle.result.0 c.keep_variables-end.new.iw c.keep_variables-end.result.0 c.keep_variables-end.result.1)
+    c.keep_elements-middle.result.0 clean c.keep_variables-end.result.0 c.keep_variables-end.result.1)
     c.requires.lengths c.keep_variables-end.ensures.filters in
-    renew_fit (length c.args.w.now) (is_kept c.args.w.now) (is_outside c.args.nv.now) (λ e.
+    lt_of_lt_of_le (renew_fit (length c.args.w.now) (is_kept c.args.w.now) (is_outside c.args.nv.now) (λ e.
     num c.args.w.now e - c.args.flag) (size_of c.args.nv.now)
-    c.args.iw.now c.keep_elements-middle.new.iw c.keep_variables-end.new.iw c.args.from c.args.n_elements c.args.count
+    c.args.iw.now c.keep_elements-middle.new.iw clean c.args.from c.args.n_elements c.args.count
     c.keep_elements-middle.result.0 c.keep_elements-middle.result.1 c.keep_variables-end.result.0 c.keep_variables-end.result.1
     c.args.me c.keep_elements-middle.ensures.filters c.keep_elements-middle.ensures.behind g
-    c.requires.parts c.requires.row.0 c.requires.inside c.requires.room
+    c.requires.parts c.requires.row.0 c.requires.inside c.requires.room)
+    (le_of_eq (length-set c.keep_variables-end.new.iw c.keep_variables-end.result.0 _))
 
 pub returns : goal.returns
 returns g c = record {
-  renews = (let g = subst (λ m. Filters m (is_outside c.args.nv.now) (size_of c.args.nv.now)
+  renews = (let clean : List ℤ = set c.keep_variables-end.new.iw c.keep_variables-end.result.0
+      (word c.keep_elements-middle.new.iw c.keep_variables-end.result.0) in
+      let g = subst (λ m. Filters m (is_outside c.args.nv.now) (size_of c.args.nv.now)
       c.keep_elements-middle.result.1 c.keep_elements-middle.new.iw (c.args.from + c.args.n_elements) (c.args.count - c.args.n_elements)
-      c.keep_elements-middle.result.0 c.keep_variables-end.new.iw c.keep_variables-end.result.0 c.keep_variables-end.result.1)
+      c.keep_elements-middle.result.0 clean c.keep_variables-end.result.0 c.keep_variables-end.result.1)
       c.requires.lengths c.keep_variables-end.ensures.filters in
-      rw c.put_first.ensures (renews (length c.args.w.now) (is_kept c.args.w.now) (is_outside c.args.nv.now) (λ e.
+      rw (
+        c.put_first.ensures,
+        put_any c.keep_variables-end.new.iw c.args.from c.keep_elements-middle.result.0
+            c.keep_variables-end.result.0 c.args.me (word c.keep_elements-middle.new.iw c.keep_variables-end.result.0),
+      )
+      (renews (length c.args.w.now) (is_kept c.args.w.now) (is_outside c.args.nv.now) (λ e.
       num c.args.w.now e - c.args.flag) (size_of c.args.nv.now)
-      c.args.iw.now c.keep_elements-middle.new.iw c.keep_variables-end.new.iw c.args.from c.args.n_elements c.args.count
+      c.args.iw.now c.keep_elements-middle.new.iw clean c.args.from c.args.n_elements c.args.count
       c.keep_elements-middle.result.0 c.keep_elements-middle.result.1 c.keep_variables-end.result.0 c.keep_variables-end.result.1
       c.args.me c.keep_elements-middle.ensures.filters c.keep_elements-middle.ensures.behind g
       c.requires.parts c.requires.row.0 c.requires.inside c.requires.room));
-  outside = (let g = subst (λ m. Filters m (is_outside c.args.nv.now) (size_of c.args.nv.now)
+  outside = (let clean : List ℤ = set c.keep_variables-end.new.iw c.keep_variables-end.result.0
+      (word c.keep_elements-middle.new.iw c.keep_variables-end.result.0) in
+      let g = subst (λ m. Filters m (is_outside c.args.nv.now) (size_of c.args.nv.now)
       c.keep_elements-middle.result.1 c.keep_elements-middle.new.iw (c.args.from + c.args.n_elements) (c.args.count - c.args.n_elements)
-      c.keep_elements-middle.result.0 c.keep_variables-end.new.iw c.keep_variables-end.result.0 c.keep_variables-end.result.1)
+      c.keep_elements-middle.result.0 clean c.keep_variables-end.result.0 c.keep_variables-end.result.1)
       c.requires.lengths c.keep_variables-end.ensures.filters in
       renew_outside (length c.args.w.now) (is_kept c.args.w.now) (is_outside c.args.nv.now) (λ e.
       num c.args.w.now e - c.args.flag) (size_of c.args.nv.now)
-      c.args.iw.now c.keep_elements-middle.new.iw c.keep_variables-end.new.iw c.args.from c.args.n_elements c.args.count
+      c.args.iw.now c.keep_elements-middle.new.iw clean c.args.from c.args.n_elements c.args.count
       c.keep_elements-middle.result.0 c.keep_elements-middle.result.1 c.keep_variables-end.result.0 c.keep_variables-end.result.1
       c.args.me c.keep_elements-middle.ensures.filters c.keep_elements-middle.ensures.behind g
       c.requires.parts c.requires.row.0 c.requires.inside c.requires.room);
