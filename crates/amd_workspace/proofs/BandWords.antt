@@ -149,11 +149,11 @@ module _ (n : ℕ) (ap' ai : List ℤ) (lower : IsLower n ap' ai) (lo hi j : ℕ
           let s = ap length before_is in omega (arith, w, s)
 
       pub part_inside : num next i < length iw
-      part_inside = v_inside n ap' ai lower (banded n ap' ai lo hi j r) (banded n ap' ai lo hi j (i + 1)) next iw i j h
+      part_inside = v_inside n ap' ai lower (omega arith) (banded n ap' ai lo hi j r) (banded n ap' ai lo hi j (i + 1)) next iw i j h
           (omega (arith, i_in, rows_in)) j_in fits few (λ a. most r a r_in) here there
 
       pub part_step : SpreadsColumns n ap' ai (banded n ap' ai lo hi j (i + 1)) (set next i (num next i + 1)) (set iw (num next i) (pos j))
-      part_step = spreads_more n ap' ai lower (banded n ap' ai lo hi j r) (banded n ap' ai lo hi j (i + 1)) next iw i j h
+      part_step = spreads_more n ap' ai lower (omega arith) (banded n ap' ai lo hi j r) (banded n ap' ai lo hi j (i + 1)) next iw i j h
           (omega (arith, i_in, rows_in)) j_in fits few (λ a. most r a r_in) here there
 
       pub part_count : length (list_below (i + 1) (is_other n ap' ai j)) ≡ k + 1

@@ -90,9 +90,12 @@ module _ (n : ℕ) (ap' ai : List ℕ) (form : IsSortedForm n ap' ai) (i stop : 
 
 -- the rows of a column are low where its first one is
 module _ (n : ℕ) (ap' ai : List ℤ) (form : IsColumnForm (pos n) n ap' ai) (j : ℕ) (j_in : j < n) where
+  pub no_entry : get_or (counts ap') j 0 ≡ get_or (counts ap') (j + 1) 0 → (i : ℕ) → is_pair n ap' ai i j ≡ true → ⊥
+  no_entry same i e = let r = entry_gives (counts ap') (counts ai) n i j (sym (same_pair n ap' ai form i j) ∙ e) in
+      let a = r.2 in let b = r.3 in omega (arith, a, b, same)
+
   pub none_low : get_or (counts ap') j 0 ≡ get_or (counts ap') (j + 1) 0 → (i : ℕ) → is_pair n ap' ai i j ≡ true → j ≤ i
-  none_low same i e = let r = entry_gives (counts ap') (counts ai) n i j (sym (same_pair n ap' ai form i j) ∙ e) in
-      let a = r.2 in let b = r.3 in absurd (omega (arith, a, b, same))
+  none_low same i e = absurd (no_entry same i e)
 
   module _ (sorted : IsSorted n ap' ai) where
     rise : IsSortedForm n (counts ap') (counts ai)
@@ -117,6 +120,26 @@ module _ (n : ℕ) (ap' ai : List ℤ) (form : IsColumnForm (pos n) n ap' ai) (j
     low_first first stop a b inside h = h (get_or (counts ai) first 0) (same_pair n ap' ai form (get_or (counts ai) first 0) j
         ∙ entry_from (counts ap') (counts ai) n (get_or (counts ai) first 0) j first j_in (omega (arith, a))
         (omega (arith, inside, b)) refl)
+
+    -- no row is behind the last one
+    module _ (first stop : ℕ) (first_is : first ≡ get_or (counts ap') j 0) (stop_is : stop ≡ get_or (counts ap') (j + 1) 0)
+        (inside : first < stop) where
+      pub all_until : (i : ℕ) → is_pair n ap' ai i j ≡ true → i ≤ get_or (counts ai) (stop - 1) 0
+      all_until i e =
+          let r = entry_gives (counts ap') (counts ai) n i j (sym (same_pair n ap' ai form i j) ∙ e) in
+          let x = r.2 in let y = r.3 in let z = r.4 in elim (cases_eq r.0 (stop - 1)) [
+            | inl same ↦ (let w = ap (λ q. get_or (counts ai) q 0) same in omega (arith, w, z))
+            | inr ne ↦ (let w = rise.ascend j r.0 (stop - 1) j_in x (omega (arith, y, ne, stop_is)) (omega (arith, inside, stop_is)) in
+                omega (arith, w, z))
+          ]
+
+      pub last_in : get_or (counts ai) (stop - 1) 0 < n
+      last_in = rise.rows j (stop - 1) j_in (omega (arith, inside, first_is)) (omega (arith, inside, stop_is))
+
+      pub last_low : IsLower n ap' ai → j ≤ get_or (counts ai) (stop - 1) 0
+      last_low lower = lower (get_or (counts ai) (stop - 1) 0) j (same_pair n ap' ai form (get_or (counts ai) (stop - 1) 0) j
+          ∙ entry_from (counts ap') (counts ai) n (get_or (counts ai) (stop - 1) 0) j (stop - 1) j_in
+          (omega (arith, inside, first_is)) (omega (arith, inside, stop_is)) refl)
 
     module _ (lower : IsLower n ap' ai) where
       low_entry : (a b : ℕ) → is_entry n (counts ap') (counts ai) a b ≡ true → b ≤ a

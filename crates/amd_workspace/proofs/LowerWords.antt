@@ -10,12 +10,12 @@ use Rattle.std.proofs.lemmas.List.{get_or-append-add, get_or-append_right, lengt
 use Rattle.std.specs.Cmp.{both_ways}
 use Rattle.std.specs.Prelude.{replicate}
 use Rattle.amd_round_laws.proofs.Lists.Rising.{list_yes, list_no}
-use Rattle.amd_model.specs.Below.{list_below, count_below}
+use Rattle.amd_model.specs.Below.{list_below, count_below, sum_below}
 use Rattle.amd_model.specs.Input.Pattern.{graph_of, is_pair}
 use Rattle.amd_model.specs.Quotient.{starting_list}
 use Rattle.amd_model.proofs.Counting.Below.{clash}
 use Rattle.amd_types.specs.Counts.{counts}
-use Rattle.amd_edges.specs.Visits.{AreCounts}
+use Rattle.amd_edges.specs.Visits.{AreCounts, start_of}
 use Rattle.amd_edges.proofs.Listing.{start_later}
 use Rattle.amd_edges.proofs.Orders.{list_gap}
 use Rattle.amd_words.specs.Words.{num, is_place, place, word, rows}
@@ -28,7 +28,9 @@ use Rattle.amd_workspace.specs.Lower.{
   own_of,
   own_start,
   HoldsOwn,
+  LaysRows,
   SpreadsColumns,
+  SpreadsFirst,
   earlier_below,
   HasColumns,
 }
@@ -104,8 +106,15 @@ module _ (n : ℕ) (ap' ai : List ℤ) (lower : IsLower n ap' ai) where
   unfolding graph_of
   later_list i j l m = let a = start_later (graph_of n ap' ai) i j l in let b = degree_parts i (omega (arith, l, m)) in omega (arith, a, b)
 
-  pub spreads_same : (early early' : ℕ → List ℕ) (next : List ℕ) (iw : List ℤ) → ((a : ℕ) → a < n → early' a ≡ early a) →
-      SpreadsColumns n ap' ai early next iw → SpreadsColumns n ap' ai early' next iw
+  -- the lists of more rows end later
+  pub later_start : (i j : ℕ) → i ≤ j → j ≤ n → own_start n ap' ai i ≤ own_start n ap' ai j
+  later_start i j l m = elim (cases_eq i j) [
+    | inl e ↦ (let s = ap (own_start n ap' ai) e in omega (arith, s))
+    | inr ne ↦ (let a = later_list i j (omega (arith, l, ne)) m in omega (arith, a))
+  ]
+
+  pub spreads_same : {m : ℕ} (early early' : ℕ → List ℕ) (next : List ℕ) (iw : List ℤ) → ((a : ℕ) → a < n → early' a ≡ early a) →
+      SpreadsFirst n ap' ai m early next iw → SpreadsFirst n ap' ai m early' next iw
   spreads_same early early' next iw same h = record {
     held = h.held;
     long = h.long;
@@ -114,10 +123,14 @@ module _ (n : ℕ) (ap' ai : List ℤ) (lower : IsLower n ap' ai) where
   }
 
   -- one earlier neighbour more
-  module _ (early early' : ℕ → List ℕ) (next : List ℕ) (iw : List ℤ) (i j : ℕ) (h : SpreadsColumns n ap' ai early next iw) (i_in : i < n)
-      (j_in : j < n) (fits : own_start n ap' ai n ≤ length iw) (few : length (early i) < length (earlier_of n ap' ai i))
+  module _ {m : ℕ} (within : m ≤ n) (early early' : ℕ → List ℕ) (next : List ℕ) (iw : List ℤ) (i j : ℕ)
+      (h : SpreadsFirst n ap' ai m early next iw) (i_laid : i < m) (j_in : j < n) (fits : own_start n ap' ai m ≤ length iw)
+      (few : length (early i) < length (earlier_of n ap' ai i))
       (most : (a : ℕ) → a < n → length (early a) ≤ length (earlier_of n ap' ai a))
       (here : early' i ≡ early i ++ j ∷ []) (there : (a : ℕ) → a < n → a ≢ i → early' a ≡ early a) where
+    i_in : i < n
+    i_in = omega (arith, i_laid, within)
+
     v : ℕ
     v = num next i
 
@@ -126,7 +139,7 @@ module _ (n : ℕ) (ap' ai : List ℤ) (lower : IsLower n ap' ai) where
     v_is = h.ends i i_in
 
     pub v_inside : num next i < length iw
-    v_inside = let a = h.ends i i_in in let b = later_list i n i_in (omega arith) in omega (arith, a, b, few, fits)
+    v_inside = let a = h.ends i i_in in let b = later_list i m i_laid within in omega (arith, a, b, few, fits)
 
     new : List ℤ
     new = set iw (num next i) (pos j)
@@ -145,14 +158,14 @@ module _ (n : ℕ) (ap' ai : List ℤ) (lower : IsLower n ap' ai) where
       | inr ne ↦ rw (still k ne) (h.held.words k)
     ]
 
-    own_kept : (a : ℕ) → a < n → rows new (own_start n ap' ai a + length (earlier_of n ap' ai a)) (length (own_of n ap' ai a))
+    own_kept : (a : ℕ) → a < m → rows new (own_start n ap' ai a + length (earlier_of n ap' ai a)) (length (own_of n ap' ai a))
         ≡ own_of n ap' ai a
     own_kept a l = rows_same iw new _ _ (length (own_of n ap' ai a)) (λ k x. still _ (λ w. let e = h.ends i i_in in elim (cases_lt a i) [
       | inl y ↦ (let z = later_list a i y (omega (arith, i_in)) in omega (arith, z, w, e, x))
       | inr y ↦ elim (cases_eq a i) [
         | inl s ↦ (let f = ap (own_start n ap' ai) s in let g = ap (λ t. length (earlier_of n ap' ai t)) s in
             omega (arith, w, e, f, g, few))
-        | inr ne ↦ (let z = later_list i a (omega (arith, y, ne)) (omega (arith, l)) in omega (arith, z, w, e, few))
+        | inr ne ↦ (let z = later_list i a (omega (arith, y, ne)) (omega (arith, l, within)) in omega (arith, z, w, e, few))
       ]
     ])) ∙ h.held.own a l
 
@@ -176,7 +189,7 @@ module _ (n : ℕ) (ap' ai : List ℤ) (lower : IsLower n ap' ai) where
         ∙ ap (λ xs. xs ++ place (word new (own_start n ap' ai i + length (early i))) ∷ []) before_kept
         ∙ ap (λ x. early i ++ x ∷ []) (ap (λ k. place (word new k)) (sym (h.ends i i_in)) ∙ ap place now) ∙ sym here
 
-    pub spreads_more : SpreadsColumns n ap' ai early' (set next i (num next i + 1)) (set iw (num next i) (pos j))
+    pub spreads_more : SpreadsFirst n ap' ai m early' (set next i (num next i + 1)) (set iw (num next i) (pos j))
     unfolding new
     spreads_more = record {
       held = record { words = names; own = own_kept };
@@ -255,20 +268,25 @@ module _ (n : ℕ) (ap' ai : List ℤ) (lower : IsLower n ap' ai) where
     early_all = list_gap (is_earlier n ap' ai j) j n (omega (arith, j_in)) (λ x low high. false_from_ne_true _ (λ e.
         let v = ltb-true x j (and_parts _ _ e).0 in omega (arith, v, low)))
 
-    module _ (k i from : ℕ) (next : List ℕ) (iw : List ℤ) (fits : own_start n ap' ai n ≤ length iw)
-        (h : SpreadsColumns n ap' ai (partly n ap' ai j k) next iw) (k_in : k < length (own_of n ap' ai j))
+    module _ (m k i from : ℕ) (next : List ℕ) (iw : List ℤ) (within : m ≤ n) (j_laid : j < m)
+        (laid : (a : ℕ) → is_pair n ap' ai a j ≡ true → a < m) (fits : own_start n ap' ai m ≤ length iw)
+        (h : SpreadsFirst n ap' ai m (partly n ap' ai j k) next iw) (k_in : k < length (own_of n ap' ai j))
         (from_is : from ≡ own_start n ap' ai j + length (earlier_of n ap' ai j)) (is : word iw (from + k) ≡ pos i) where
       row_is : i ≡ get_or (own_of n ap' ai j) k 0
       unfolding place
       row_is = sym (ap place is) ∙ ap (λ f. place (word iw (f + k))) from_is
           ∙ sym (rows_nth iw (own_start n ap' ai j + length (earlier_of n ap' ai j)) (length (own_of n ap' ai j)) k k_in)
-          ∙ ap (λ xs. get_or xs k 0) (h.held.own j j_in)
+          ∙ ap (λ xs. get_or xs k 0) (h.held.own j j_laid)
 
       nth : IsNth n (is_other n ap' ai j) k i
       nth = subst (IsNth n (is_other n ap' ai j) k) (sym row_is) (nth_below n (is_other n ap' ai j) k k_in)
 
       pub spread_row : i < n
       spread_row = nth.small
+
+      row_laid : i < m
+      unfolding is_other
+      row_laid = laid i (and_parts _ _ nth.passes).1
 
       not_yet : ltb (length (list_below i (is_other n ap' ai j))) k ≡ false
       not_yet = false_from_ne_true _ (λ w. let v = ltb-true (length (list_below i (is_other n ap' ai j))) k w in let b = nth.before in
@@ -299,11 +317,12 @@ module _ (n : ℕ) (ap' ai : List ℤ) (lower : IsLower n ap' ai) where
           omega (arith, w, s)
 
       pub spread_inside : num next i < length iw
-      spread_inside = v_inside (partly n ap' ai j k) (partly n ap' ai j (k + 1)) next iw i j h spread_row j_in fits few (partly_most k)
+      spread_inside = v_inside within (partly n ap' ai j k) (partly n ap' ai j (k + 1)) next iw i j h row_laid j_in fits few (partly_most k)
           here_more there_same
 
-      pub spread_step : SpreadsColumns n ap' ai (partly n ap' ai j (k + 1)) (set next i (num next i + 1)) (set iw (num next i) (pos j))
-      spread_step = spreads_more (partly n ap' ai j k) (partly n ap' ai j (k + 1)) next iw i j h spread_row j_in fits few (partly_most k)
+      pub spread_step : SpreadsFirst n ap' ai m (partly n ap' ai j (k + 1)) (set next i (num next i + 1)) (set iw (num next i) (pos j))
+      spread_step = spreads_more within (partly n ap' ai j k) (partly n ap' ai j (k + 1)) next iw i j h row_laid j_in fits few
+          (partly_most k)
           here_more there_same
 
   -- ---- all rows
@@ -379,10 +398,92 @@ module _ (n : ℕ) (ap' ai : List ℤ) (lower : IsLower n ap' ai) where
         ];
       }
 
+  -- what is spread stays where words come behind it
+  spreads_append : (m : ℕ) (early : ℕ → List ℕ) (next : List ℕ) (xs ys : List ℤ) → m ≤ n → own_start n ap' ai m ≤ length xs →
+      HoldRows n ys → ((a : ℕ) → m ≤ a → early a ≡ []) →
+      ((a : ℕ) → a < n → length (early a) ≤ length (earlier_of n ap' ai a)) → SpreadsFirst n ap' ai m early next xs →
+      SpreadsFirst n ap' ai m early next (xs ++ ys)
+  spreads_append m early next xs ys few inside names none most h = record {
+    held = held_append m xs ys few inside names h.held;
+    long = h.long;
+    ends = h.ends;
+    first = λ a l. elim (cases_lt a m) [
+      | inl x ↦ rows_same xs (xs ++ ys) _ _ (length (early a)) (λ k y. get_or_append_left xs ys (pos 0) _
+          (let w = later_list a m x few in let z = most a l in omega (arith, w, y, z, inside))) ∙ h.first a l
+      | inr x ↦ subst (λ zs. rows (xs ++ ys) (own_start n ap' ai a) (length zs) ≡ zs) (sym (none a x))
+          (rows_none (xs ++ ys) (own_start n ap' ai a))
+    ];
+  }
+
+  -- the list of one row more
+  pub lays_row : (j degree : ℕ) (early : ℕ → List ℕ) (next : List ℕ) (xs : List ℤ) → j < n →
+      degree ≡ length (earlier_of n ap' ai j) + length (own_of n ap' ai j) → LaysRows n ap' ai j early next xs →
+      LaysRows n ap' ai (j + 1) early next
+      ((xs ++ replicate (degree - length (own_of n ap' ai j)) (pos j)) ++ map pos (own_of n ap' ai j))
+  lays_row j degree early next xs j_in parts h =
+      let room = replicate (degree - length (own_of n ap' ai j)) (pos j) in let own = map pos (own_of n ap' ai j) in
+      let long = h.long in let first = length-append xs room in let all = length-append (xs ++ room) own in
+      let filled = length-replicate (degree - length (own_of n ap' ai j)) (pos j) in let column = length-map (own_of n ap' ai j) pos in
+      let next_start = next_list j j_in in
+      let a = spreads_append j early next xs room h.few (omega (arith, long)) (replicate_rows n j _ j_in) h.none h.most h.spreads in
+      let b = spreads_append j early next (xs ++ room) own h.few (omega (arith, long, first))
+      (column_rows n (is_other n ap' ai j) (omega (arith, j_in))) h.none h.most a in
+      record {
+        few = omega (arith, j_in);
+        long = omega (arith, long, first, all, filled, column, next_start, parts);
+        none = λ a l. h.none a (omega (arith, l));
+        most = h.most;
+        spreads = record {
+          held = held_column j degree xs j_in parts long h.spreads.held;
+          long = b.long;
+          ends = b.ends;
+          first = b.first;
+        };
+      }
+
+  -- the rows of one column are spread
+  pub lays_column : (m j : ℕ) (next next' : List ℕ) (iw iw' : List ℤ) → j < n →
+      ((a : ℕ) → is_pair n ap' ai a j ≡ true → a < m) → length iw' ≡ length iw →
+      LaysRows n ap' ai m (earlier_below n ap' ai j) next iw → SpreadsFirst n ap' ai m (earlier_below n ap' ai (j + 1)) next' iw' →
+      LaysRows n ap' ai m (earlier_below n ap' ai (j + 1)) next' iw'
+  unfolding is_earlier
+  lays_column m j next next' iw iw' j_in within same h so = record {
+    few = h.few;
+    long = same ∙ h.long;
+    none = λ a l. list_no (is_earlier n ap' ai a) j (false_from_ne_true _ (λ e.
+        let v = within a (and_parts _ _ e).1 in omega (arith, v, l))) ∙ h.none a l;
+    most = λ a l. length_more n (j + 1) (is_earlier n ap' ai a) (omega (arith, j_in));
+    spreads = so;
+  }
+
+  -- the words behind the last list
+  pub lays_end : (early : ℕ → List ℕ) (next : List ℕ) (xs : List ℤ) (j count : ℕ) → j < n → LaysRows n ap' ai n early next xs →
+      SpreadsColumns n ap' ai early next (xs ++ replicate count (pos j))
+  lays_end early next xs j count j_in h = let long = h.long in
+      spreads_append n early next xs (replicate count (pos j)) h.few (omega (arith, long)) (replicate_rows n j count j_in) h.none h.most
+      h.spreads
+
   pub held_none : (xs : List ℤ) → 0 < n → length xs ≡ 0 → HoldsOwn n ap' ai 0 xs
   held_none xs some none = record {
     words = λ k. row_word n _ 0 (get_or_past xs k (pos 0) (omega (arith, none))) some;
     own = λ i l. absurd (omega (arith, l));
+  }
+
+  -- before the first row
+  pub lays_none : (next : List ℕ) (xs : List ℤ) → 0 < n → length xs ≡ 0 → length next ≡ n →
+      ((i : ℕ) → i < n → num next i ≡ own_start n ap' ai i) → LaysRows n ap' ai 0 (earlier_below n ap' ai 0) next xs
+  unfolding list_below start_of sum_below
+  lays_none next xs some none long starts = record {
+    few = omega arith;
+    long = none;
+    none = λ a l. refl;
+    most = λ a l. omega arith;
+    spreads = record {
+      held = held_none xs some none;
+      long = long;
+      ends = λ i l. (let e = starts i l in omega (arith, e));
+      first = λ i l. rows_none xs (own_start n ap' ai i);
+    };
   }
 
   -- no earlier neighbour is written yet

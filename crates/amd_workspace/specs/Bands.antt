@@ -2,11 +2,9 @@
 -- those of one band of rows.
 use Rattle.std.specs.Prelude.{ℕ, ℤ, List, [], length, ◌≡◌, ◌<◌, ◌≤◌, ◌+◌, cond, nat_lt}
 use Rattle.amd_model.specs.Below.{list_below}
-use Rattle.amd_model.specs.Input.Pattern.{graph_of}
-use Rattle.amd_edges.specs.Visits.{AreCounts}
 use Rattle.amd_words.specs.Words.{num}
 use Rattle.amd_workspace.specs.Copying.{is_other}
-use Rattle.amd_workspace.specs.Lower.{Matrix, IsLower, SpreadsColumns, earlier_below, earlier_of, own_start}
+use Rattle.amd_workspace.specs.Lower.{AreNeighbourCounts, Matrix, IsLower, SpreadsColumns, earlier_below, earlier_of, own_start}
 
 -- the earlier neighbours that are written while a band is: those of the rows before lo all, of the rows before r those up
 -- to column j, and of the other rows before hi those before it
@@ -46,7 +44,7 @@ pub record IsReadyForBand (m : Matrix) (lo hi : ℕ) (degrees : List ℕ) (most_
   pub lower : IsLower m.n m.ap m.ai
   pub band : lo ≤ hi
   pub rows_in : hi ≤ m.n
-  pub counts : AreCounts (graph_of m.n m.ap m.ai) ((graph_of m.n m.ap m.ai).edge) degrees
+  pub counts : AreNeighbourCounts m.n m.ap m.ai degrees
   pub room : own_start m.n m.ap m.ai m.n ≤ length iw
   pub rows : m.n ≤ most_word
   pub places : length iw ≤ most_cell

@@ -1,20 +1,17 @@
-// The earlier neighbours of all rows of a pattern that has no entry above the diagonal, written behind one another as
-// `lower` does, or band by band: of each column in turn only those of one band of rows, so that the words that are
-// written are close together. Our own. Called by `lower`.
+// The lists of a pattern that has no entry above the diagonal, where the rows of a column stand far apart. All columns
+// are written first, and then the earlier neighbours, band by band: of each column in turn only those of one band of
+// rows, so that the words that are written are close together. Our own. Called by `lower`.
 
 ghost use Rattle.std.specs.Prelude.{◌≡◌, ◌<◌, ◌≤◌, ◌+◌, ◌-◌, ℕ, map, length, pos, ◌/◌, ◌^◌};
 ghost use Rattle.std.specs.Vec.{vec_capacity};
-ghost use Rattle.amd_model.specs.Input.Columns.{IsColumnForm, IsSorted};
-ghost use Rattle.amd_model.specs.Input.Pattern.{graph_of, is_pair};
-ghost use Rattle.amd_edges.specs.Visits.{AreCounts};
-ghost use Rattle.amd_model.specs.Quotient.{starting_list};
-ghost use Rattle.amd_words.specs.Words.{num, rows};
-ghost use Rattle.amd_workspace.specs.Copying.{HoldRows};
-ghost use Rattle.amd_workspace.specs.Lower.{IsLower, Matrix, own_start, SpreadsColumns, HasColumns};
+ghost use Rattle.amd_model.specs.Input.Columns.{IsColumnForm};
+ghost use Rattle.amd_words.specs.Words.{num};
+ghost use Rattle.amd_workspace.specs.Lower.{IsLowerForm, AreNeighbourCounts, Matrix, HoldsOwn, HoldsLists, own_start};
+ghost use Rattle.amd_workspace.specs.Lower.{SpreadsColumns, HasColumns};
 ghost use Rattle.amd_workspace.specs.Bands.{IsReadyForPart, banded, own_from, HasHeads, IsReadyForBand, spread_to};
 
 use crate::laying::append;
-use crate::lower::{own_first, spread_lists};
+use crate::lower::{own_first, push_list, push_rows};
 use amd_types::index::Index;
 use amd_types::internal::count_at;
 use amd_words::{Cell, Signed, Unsigned, Word, row_at};
@@ -28,6 +25,35 @@ const LARGE: usize = 1 << 20;
 
 /// So many columns are looked at.
 const SAMPLES: usize = 64;
+
+/// Appends the lists of `size` rows, each with the room for the earlier neighbours of its row before its column below
+/// the diagonal, and rows after the last list, `room` words in all.
+fn push_lists<I: Index, S: Signed, A: Allocator>(
+    size: usize,
+    a_p: &[I],
+    a_i: &[I],
+    degrees: &[usize],
+    room: usize,
+    iw: &mut Vec<Word<S>, A>,
+)
+    requires input { IsLowerForm size (map I.value a_p.now) (map I.value a_i.now) }
+    requires some { 0 < size }
+    requires degrees { AreNeighbourCounts size (map I.value a_p.now) (map I.value a_i.now) degrees.now }
+    requires room { own_start size (map I.value a_p.now) (map I.value a_i.now) size ≤ room }
+    requires empty { length iw.old.items ≡ 0 }
+    requires capacity { room ≤ vec_capacity iw.old }
+    requires fits { size ≤ S.MOST }
+    ensures long { length iw.new.items ≡ room }
+    ensures own { HoldsOwn size (map I.value a_p.now) (map I.value a_i.now) size iw.new.items }
+{
+    let mut free = 0;
+    'rows: for j in 0..size {
+        let degree = degrees[j];
+        push_list(size, a_p, a_i, j, degree, iw);
+        free += degree;
+    }
+    push_rows(iw, size - 1, room - free);
+}
 
 /// Writes row `j` after the earlier neighbours of the next rows of its own column below the diagonal, those before row
 /// `hi`. They stand in `iw` from the word `place` on, and the column ends before the word `end`. Returns where the
@@ -94,8 +120,7 @@ fn spread_bands<S: Signed, U: Unsigned>(
     ensures long { length iw.new ≡ length iw.old }
     ensures lists { (m : Matrix) → HasColumns m degrees.now S.MOST U.MOST next.old iw.old →
         HasHeads m (λ j. 0) heads.old →
-        HoldRows m.n iw.new × ((i : ℕ) → i < m.n → rows iw.new (own_start m.n m.ap m.ai i) (num degrees.now i) ≡
-        starting_list m.n (is_pair m.n m.ap m.ai) i) }
+        HoldsLists m.n m.ap m.ai degrees.now iw.new }
 {
     let n = degrees.len();
     let width = n / BANDS + 1;
@@ -115,11 +140,8 @@ fn push_heads<I: Index, A: Allocator>(
     degrees: &[usize],
     heads: &mut Vec<usize, A>,
 )
-    requires form { IsColumnForm (pos size) size (map I.value a_p.now) (map I.value a_i.now) }
-    requires sorted { IsSorted size (map I.value a_p.now) (map I.value a_i.now) }
-    requires lower { IsLower size (map I.value a_p.now) (map I.value a_i.now) }
-    requires degrees { AreCounts (graph_of size (map I.value a_p.now) (map I.value a_i.now))
-        ((graph_of size (map I.value a_p.now) (map I.value a_i.now)).edge) degrees.now }
+    requires input { IsLowerForm size (map I.value a_p.now) (map I.value a_i.now) }
+    requires degrees { AreNeighbourCounts size (map I.value a_p.now) (map I.value a_i.now) degrees.now }
     requires total { own_start size (map I.value a_p.now) (map I.value a_i.now) size < 2 ^ 64 }
     requires empty { length heads.old.items ≡ 0 }
     requires room { size ≤ vec_capacity heads.old }
@@ -144,10 +166,14 @@ fn is_wide<I: Index>(size: usize, a_p: &[I], a_i: &[I], j: usize) -> bool
     first < stop && count_at(a_i, stop - 1) > count_at(a_i, first).saturating_add(size / 8)
 }
 
-/// Whether many of the columns that are looked at, at most 64 of them, are wide, so that their rows stand in any order.
-fn is_scattered<I: Index>(size: usize, a_p: &[I], a_i: &[I]) -> bool
+/// Whether `room` words are many, and of the columns that are looked at, at most 64 of them, many are wide, so that
+/// their rows stand in any order.
+pub fn is_scattered<I: Index>(size: usize, a_p: &[I], a_i: &[I], room: usize) -> bool
     requires form { IsColumnForm (pos size) size (map I.value a_p.now) (map I.value a_i.now) }
 {
+    if room < LARGE {
+        return false;
+    }
     let step = size / SAMPLES + 1;
     let mut wide = 0usize;
     let mut j = 0;
@@ -160,32 +186,32 @@ fn is_scattered<I: Index>(size: usize, a_p: &[I], a_i: &[I]) -> bool
     wide >= SAMPLES / 4
 }
 
-/// Writes the earlier neighbours of all of `size` rows: band by band, where there are many words and the rows of the
-/// columns stand in any order. `heads` has room for a number of each column.
-pub fn spread_all<I: Index, S: Signed, U: Unsigned, A: Allocator>(
+/// Lays the lists of `size` rows in `room` words, and writes the earlier neighbours band by band. `heads` has room for
+/// a number of each column.
+pub fn lay_bands<I: Index, S: Signed, U: Unsigned, A: Allocator>(
     size: usize,
     a_p: &[I],
     a_i: &[I],
     degrees: &[usize],
+    room: usize,
     next: &mut [Cell<U>],
-    iw: &mut [Word<S>],
+    iw: &mut Vec<Word<S>, A>,
     heads: &mut Vec<usize, A>,
 )
-    requires form { IsColumnForm (pos size) size (map I.value a_p.now) (map I.value a_i.now) }
-    requires sorted { IsSorted size (map I.value a_p.now) (map I.value a_i.now) }
-    requires laid { HasColumns (record { n = size; ap = map I.value a_p.now; ai = map I.value a_i.now }) degrees.now
-        S.MOST U.MOST next.old iw.old }
-    requires empty { length heads.old.items ≡ 0 }
-    requires room { size ≤ vec_capacity heads.old }
-    ensures long { length iw.new ≡ length iw.old }
-    ensures lists { HoldRows size iw.new × ((i : ℕ) → i < size →
-        rows iw.new (own_start size (map I.value a_p.now) (map I.value a_i.now) i) (num degrees.now i) ≡
-        starting_list size (is_pair size (map I.value a_p.now) (map I.value a_i.now)) i) }
+    requires input { IsLowerForm size (map I.value a_p.now) (map I.value a_i.now) }
+    requires some { 0 < size }
+    requires degrees { AreNeighbourCounts size (map I.value a_p.now) (map I.value a_i.now) degrees.now }
+    requires room { own_start size (map I.value a_p.now) (map I.value a_i.now) size ≤ room }
+    requires empty { (length iw.old.items ≡ 0) × (length heads.old.items ≡ 0) }
+    requires capacity { (room ≤ vec_capacity iw.old) × (size ≤ vec_capacity heads.old) }
+    requires fits { (size ≤ S.MOST) × (room ≤ U.MOST) }
+    requires next { length next.old ≡ size }
+    requires starts { (i : ℕ) → i < size →
+        num next.old i ≡ own_start size (map I.value a_p.now) (map I.value a_i.now) i }
+    ensures long { length iw.new.items ≡ room }
+    ensures lists { HoldsLists size (map I.value a_p.now) (map I.value a_i.now) degrees.now iw.new.items }
 {
-    if iw.len() < LARGE || !is_scattered(size, a_p, a_i) {
-        spread_lists(next, iw, degrees);
-        return;
-    }
+    push_lists(size, a_p, a_i, degrees, room, iw);
     push_heads(size, a_p, a_i, degrees, heads);
     spread_bands(next, iw, heads, degrees);
 }

@@ -1,23 +1,22 @@
 // The lists of a pattern that has no entry above the diagonal. There the list of a row is its earlier neighbours,
-// rising, and then its column below the diagonal. Two passes write all lists, and neither searches for a place. The
-// first one writes the columns, each behind the room for the earlier neighbours of its row. The second one reads each
-// column back, and adds its row to the earlier neighbours of each row that it names. Source: Amestoy, Davis and Duff
+// rising, and then its column below the diagonal. No pass searches for a place. One writes the columns, each behind the
+// room for the earlier neighbours of its row. Another one reads each column back, and adds its row to the earlier
+// neighbours of each row that it names; it follows the first one as soon as it can. Source: Amestoy, Davis and Duff
 // 2004 (the forming of A + A'). Called by `laying`.
 
-ghost use Rattle.std.specs.Prelude.{◌≡◌, ◌<◌, ◌≤◌, ◌+◌, ◌-◌, ◌++◌, ℕ, true, map, length, pos, replicate, slice_index};
-ghost use Rattle.std.specs.Prelude.{slice_range, IfOk, ◌/◌};
+ghost use Rattle.std.specs.Prelude.{◌≡◌, ◌<◌, ◌≤◌, ◌+◌, ◌-◌, ◌++◌, ◌/◌, ℕ, List, true, map, length, pos, replicate};
+ghost use Rattle.std.specs.Prelude.{slice_index, slice_range, IfOk};
 ghost use Rattle.std.specs.Vec.{vec_capacity};
 ghost use Rattle.amd_model.specs.Input.Columns.{IsColumnForm, IsSorted};
-ghost use Rattle.amd_model.specs.Input.Pattern.{graph_of, is_pair};
+ghost use Rattle.amd_model.specs.Input.Pattern.{is_pair};
 ghost use Rattle.amd_types.specs.Counts.{counts};
-ghost use Rattle.amd_edges.specs.Visits.{AreCounts};
 ghost use Rattle.amd_model.specs.Quotient.{starting_list};
 ghost use Rattle.amd_words.specs.Words.{num, rows};
 ghost use Rattle.amd_workspace.specs.Copying.{HoldRows};
-ghost use Rattle.amd_workspace.specs.Lower.{IsLower, Matrix, own_start, own_of, earlier_below, HoldsOwn};
-ghost use Rattle.amd_workspace.specs.Lower.{SpreadsColumns, HasColumns, IsReadyForColumn};
+ghost use Rattle.amd_workspace.specs.Lower.{IsLower, IsLowerForm, AreNeighbourCounts, Matrix, HoldsLists, LaysRows};
+ghost use Rattle.amd_workspace.specs.Lower.{own_start, own_of, earlier_below, SpreadsFirst, IsReadyForColumn};
 
-use crate::bands::spread_all;
+use crate::bands::{is_scattered, lay_bands};
 use crate::laying::append;
 use amd_types::index::Index;
 use amd_types::internal::count_at;
@@ -74,9 +73,7 @@ pub fn has_long_lower<I: Index>(size: usize, a_p: &[I], a_i: &[I], free: usize) 
 /// The place in `a_i` of the first row of column `j` below the diagonal, or the end of the column. No row is above the
 /// diagonal.
 pub fn own_first<I: Index>(size: usize, a_p: &[I], a_i: &[I], j: usize) -> usize
-    requires form { IsColumnForm (pos size) size (map I.value a_p.now) (map I.value a_i.now) }
-    requires sorted { IsSorted size (map I.value a_p.now) (map I.value a_i.now) }
-    requires lower { IsLower size (map I.value a_p.now) (map I.value a_i.now) }
+    requires input { IsLowerForm size (map I.value a_p.now) (map I.value a_i.now) }
     requires row { j < size }
     ensures from { slice_index (counts (map I.value a_p.now)) j ≤ result }
     ensures to { result ≤ slice_index (counts (map I.value a_p.now)) (j + 1) }
@@ -135,7 +132,7 @@ pub fn push_column<I: Index, S: Signed, A: Allocator>(
 
 /// Appends the list of row `j`, one of `size`: its own number, once for each earlier neighbour, to hold their room, and
 /// then its column below the diagonal.
-fn push_list<I: Index, S: Signed, A: Allocator>(
+pub fn push_list<I: Index, S: Signed, A: Allocator>(
     size: usize,
     a_p: &[I],
     a_i: &[I],
@@ -143,9 +140,7 @@ fn push_list<I: Index, S: Signed, A: Allocator>(
     degree: usize,
     iw: &mut Vec<Word<S>, A>,
 )
-    requires form { IsColumnForm (pos size) size (map I.value a_p.now) (map I.value a_i.now) }
-    requires sorted { IsSorted size (map I.value a_p.now) (map I.value a_i.now) }
-    requires lower { IsLower size (map I.value a_p.now) (map I.value a_i.now) }
+    requires input { IsLowerForm size (map I.value a_p.now) (map I.value a_i.now) }
     requires row { j < size }
     requires degree { length (own_of size (map I.value a_p.now) (map I.value a_i.now) j) ≤ degree }
     requires room { length iw.old.items + degree ≤ vec_capacity iw.old }
@@ -162,45 +157,55 @@ fn push_list<I: Index, S: Signed, A: Allocator>(
     push_column(size, a_p, a_i, j, first, iw);
 }
 
-/// Appends the lists of `size` rows, each with the room for the earlier neighbours of its row before its column below
-/// the diagonal, and rows after the last list, `room` words in all.
-fn push_lists<I: Index, S: Signed, A: Allocator>(
+/// One more than the last row of column `j`, one of `size`, and more than `j`.
+fn past_column<I: Index>(size: usize, a_p: &[I], a_i: &[I], j: usize) -> usize
+    requires input { IsLowerForm size (map I.value a_p.now) (map I.value a_i.now) }
+    requires row { j < size }
+    ensures past { j < result }
+    ensures few { result ≤ size }
+    ensures all { (i : ℕ) → is_pair size (map I.value a_p.now) (map I.value a_i.now) i j ≡ true → i < result }
+{
+    let stop = count_at(a_p, j + 1);
+    if count_at(a_p, j) == stop {
+        return j + 1;
+    }
+    count_at(a_i, stop - 1) + 1
+}
+
+/// Appends the lists of the rows from `laid` to `past`, as `push_list`.
+fn push_until<I: Index, S: Signed, A: Allocator>(
     size: usize,
     a_p: &[I],
     a_i: &[I],
     degrees: &[usize],
-    room: usize,
+    laid: usize,
+    past: usize,
     iw: &mut Vec<Word<S>, A>,
 )
-    requires form { IsColumnForm (pos size) size (map I.value a_p.now) (map I.value a_i.now) }
-    requires sorted { IsSorted size (map I.value a_p.now) (map I.value a_i.now) }
-    requires lower { IsLower size (map I.value a_p.now) (map I.value a_i.now) }
-    requires some { 0 < size }
-    requires degrees { AreCounts (graph_of size (map I.value a_p.now) (map I.value a_i.now))
-        ((graph_of size (map I.value a_p.now) (map I.value a_i.now)).edge) degrees.now }
-    requires room { own_start size (map I.value a_p.now) (map I.value a_i.now) size ≤ room }
-    requires empty { length iw.old.items ≡ 0 }
-    requires capacity { room ≤ vec_capacity iw.old }
+    requires input { IsLowerForm size (map I.value a_p.now) (map I.value a_i.now) }
+    requires degrees { AreNeighbourCounts size (map I.value a_p.now) (map I.value a_i.now) degrees.now }
+    requires rows { (laid ≤ past) × (past ≤ size) }
+    requires laid { (early : ℕ → List ℕ) × (next : List ℕ) ×
+        LaysRows size (map I.value a_p.now) (map I.value a_i.now) laid early next iw.old.items }
+    requires room { own_start size (map I.value a_p.now) (map I.value a_i.now) size ≤ vec_capacity iw.old }
     requires fits { size ≤ S.MOST }
-    ensures long { length iw.new.items ≡ room }
-    ensures own { HoldsOwn size (map I.value a_p.now) (map I.value a_i.now) size iw.new.items }
+    ensures laid { (early : ℕ → List ℕ) (next : List ℕ) →
+        LaysRows size (map I.value a_p.now) (map I.value a_i.now) laid early next iw.old.items →
+        LaysRows size (map I.value a_p.now) (map I.value a_i.now) past early next iw.new.items }
+    ensures capacity { vec_capacity iw.old ≤ vec_capacity iw.new }
 {
-    let mut free = 0;
-    'rows: for j in 0..size {
-        let degree = degrees[j];
-        push_list(size, a_p, a_i, j, degree, iw);
-        free += degree;
+    'rows: for row in laid..past {
+        push_list(size, a_p, a_i, row, degrees[row], iw);
     }
-    push_rows(iw, size - 1, room - free);
 }
 
 /// Writes row `j` after the earlier neighbours of each row of its own column below the diagonal. That column is in
 /// `iw`, after the earlier neighbours of row `j`, up to the word `end`.
 fn spread<S: Signed, U: Unsigned>(next: &mut [Cell<U>], iw: &mut [Word<S>], j: usize, end: usize)
-    requires ready { (m : Matrix) × IsReadyForColumn m j end S.MOST U.MOST next.old iw.old }
+    requires ready { (x : Matrix) × (m : ℕ) × IsReadyForColumn x m j end S.MOST U.MOST next.old iw.old }
     ensures long { length iw.new ≡ length iw.old }
-    ensures after { (m : Matrix) → IsReadyForColumn m j end S.MOST U.MOST next.old iw.old →
-        SpreadsColumns m.n m.ap m.ai (earlier_below m.n m.ap m.ai (j + 1)) next.new iw.new }
+    ensures after { (x : Matrix) (m : ℕ) → IsReadyForColumn x m j end S.MOST U.MOST next.old iw.old →
+        SpreadsFirst x.n x.ap x.ai m (earlier_below x.n x.ap x.ai (j + 1)) next.new iw.new }
 {
     let from = cell_at(next, j);
     'words: for place in from..end {
@@ -209,23 +214,56 @@ fn spread<S: Signed, U: Unsigned>(next: &mut [Cell<U>], iw: &mut [Word<S>], j: u
     }
 }
 
-/// Writes the earlier neighbours of all rows, whose numbers of neighbours are `degrees`, before their own columns.
-pub fn spread_lists<S: Signed, U: Unsigned>(
+/// As `spread`, in a vector.
+fn spread_in<S: Signed, U: Unsigned, A: Allocator>(
     next: &mut [Cell<U>],
-    iw: &mut [Word<S>],
-    degrees: &[usize],
+    iw: &mut Vec<Word<S>, A>,
+    j: usize,
+    end: usize,
 )
-    requires laid { (m : Matrix) × HasColumns m degrees.now S.MOST U.MOST next.old iw.old }
-    ensures long { length iw.new ≡ length iw.old }
-    ensures lists { (m : Matrix) → HasColumns m degrees.now S.MOST U.MOST next.old iw.old → HoldRows m.n iw.new ×
-        ((i : ℕ) → i < m.n → rows iw.new (own_start m.n m.ap m.ai i) (num degrees.now i) ≡
-        starting_list m.n (is_pair m.n m.ap m.ai) i) }
+    requires ready { (x : Matrix) × (m : ℕ) × IsReadyForColumn x m j end S.MOST U.MOST next.old iw.old.items }
+    ensures long { length iw.new.items ≡ length iw.old.items }
+    ensures after { (x : Matrix) (m : ℕ) → IsReadyForColumn x m j end S.MOST U.MOST next.old iw.old.items →
+        SpreadsFirst x.n x.ap x.ai m (earlier_below x.n x.ap x.ai (j + 1)) next.new iw.new.items }
+    ensures capacity { vec_capacity iw.old ≤ vec_capacity iw.new }
 {
+    spread(next, iw, j, end);
+}
+
+/// Lays the lists of `size` rows in `room` words. A column is spread as soon as the lists of its rows are laid, so that
+/// where its rows are close together the words that are written are too.
+fn lay_rows<I: Index, S: Signed, U: Unsigned, A: Allocator>(
+    size: usize,
+    a_p: &[I],
+    a_i: &[I],
+    degrees: &[usize],
+    room: usize,
+    next: &mut [Cell<U>],
+    iw: &mut Vec<Word<S>, A>,
+)
+    requires input { IsLowerForm size (map I.value a_p.now) (map I.value a_i.now) }
+    requires some { 0 < size }
+    requires degrees { AreNeighbourCounts size (map I.value a_p.now) (map I.value a_i.now) degrees.now }
+    requires room { own_start size (map I.value a_p.now) (map I.value a_i.now) size ≤ room }
+    requires empty { length iw.old.items ≡ 0 }
+    requires capacity { room ≤ vec_capacity iw.old }
+    requires fits { (size ≤ S.MOST) × (room ≤ U.MOST) }
+    requires next { length next.old ≡ size }
+    requires starts { (i : ℕ) → i < size →
+        num next.old i ≡ own_start size (map I.value a_p.now) (map I.value a_i.now) i }
+    ensures long { length iw.new.items ≡ room }
+    ensures lists { HoldsLists size (map I.value a_p.now) (map I.value a_i.now) degrees.now iw.new.items }
+{
+    let mut laid = 0;
     let mut end = 0;
-    'rows: for j in 0..degrees.len() {
+    'columns: for j in 0..size {
+        let past = past_column(size, a_p, a_i, j).max(laid);
+        push_until(size, a_p, a_i, degrees, laid, past, iw);
+        laid = past;
         end += degrees[j];
-        spread(next, iw, j, end);
+        spread_in(next, iw, j, end);
     }
+    push_rows(iw, size - 1, room - end);
 }
 
 /// Lays the lists of a pattern of `size` rows that has no entry above the diagonal in a workspace of `room` words. Each
@@ -246,12 +284,9 @@ pub fn lower_lists<I: Index, S: Signed, U: Unsigned, A: Allocator>(
     next: &mut [Cell<U>],
     pointers: &mut Vec<usize, A>,
 ) -> Result<Vec<Word<S>, A>, AllocError>
-    requires form { IsColumnForm (pos size) size (map I.value a_p.now) (map I.value a_i.now) }
-    requires sorted { IsSorted size (map I.value a_p.now) (map I.value a_i.now) }
-    requires lower { IsLower size (map I.value a_p.now) (map I.value a_i.now) }
+    requires input { IsLowerForm size (map I.value a_p.now) (map I.value a_i.now) }
     requires some { 0 < size }
-    requires degrees { AreCounts (graph_of size (map I.value a_p.now) (map I.value a_i.now))
-        ((graph_of size (map I.value a_p.now) (map I.value a_i.now)).edge) degrees.now }
+    requires degrees { AreNeighbourCounts size (map I.value a_p.now) (map I.value a_i.now) degrees.now }
     requires room { own_start size (map I.value a_p.now) (map I.value a_i.now) size ≤ room }
     requires fits { (size ≤ S.MOST) × (room ≤ U.MOST) }
     requires empty { length pointers.old.items ≡ 0 }
@@ -266,7 +301,10 @@ pub fn lower_lists<I: Index, S: Signed, U: Unsigned, A: Allocator>(
         starting_list size (is_pair size (map I.value a_p.now) (map I.value a_i.now)) i) }
 {
     let mut iw = Vec::with_capacity(alloc, room)?;
-    push_lists(size, a_p, a_i, degrees, room, &mut iw);
-    spread_all(size, a_p, a_i, degrees, next, &mut iw, pointers);
+    if is_scattered(size, a_p, a_i, room) {
+        lay_bands(size, a_p, a_i, degrees, room, next, &mut iw, pointers);
+    } else {
+        lay_rows(size, a_p, a_i, degrees, room, next, &mut iw);
+    }
     Ok(iw)
 }

@@ -29,11 +29,12 @@ bounds-degrees-j g c = let a = c.requires.degrees.size in let b = c.columns-test
 pub overflow_add-end : goal.overflow_add-end
 overflow_add-end g c =
     let total = c.requires.total in
-    let d = list_room c.args.size (map g.I.Index.value c.args.a_p.now) (map g.I.Index.value c.args.a_i.now) c.requires.lower
+    let d = list_room c.args.size (map g.I.Index.value c.args.a_p.now) (map g.I.Index.value c.args.a_i.now) c.requires.input.lower
     c.args.degrees.now c.requires.degrees c.columns.j c.columns.end c.columns-test.true c.columns.invariant.end in omega (arith, d, total)
 
 pub count_at-requires : goal.count_at-requires
-count_at-requires g c = let p = pointer_read g.I.Index.value c.args.a_p.now c.args.a_i.now c.args.size c.requires.form (c.columns.j + 1)
+count_at-requires g c = let p = pointer_read g.I.Index.value c.args.a_p.now c.args.a_i.now c.args.size c.requires.input.form
+    (c.columns.j + 1)
     (let l = c.columns-test.true in omega (arith, l)) (omega (arith, c.well_formed)) in record { within = p.0; fits = p.1 }
 
 pub offset_bounds-degrees-j : goal.offset_bounds-degrees-j
@@ -50,10 +51,11 @@ module _ (n : ℕ) (ap' ai : List ℤ) (j end degree own : ℕ) (is : end ≡ ow
 pub overflow_sub-end : goal.overflow_sub-end
 overflow_sub-end g c =
     let ap' = map g.I.Index.value c.args.a_p.now in let ai = map g.I.Index.value c.args.a_i.now in
-    let long = slice_long c.args.size ap' ai c.requires.form c.columns.j c.columns-test.true c.requires.sorted c.requires.lower
+    let long = slice_long c.args.size ap' ai c.requires.input.form c.columns.j c.columns-test.true c.requires.input.sorted
+    c.requires.input.lower
     c.own_first.result c.own_first.ensures.rows in
     let is = c.count_at.ensures.count in
-    let d = degree_is c.args.size ap' ai c.requires.lower c.args.degrees.now c.requires.degrees c.columns.j c.columns-test.true in
+    let d = degree_is c.args.size ap' ai c.requires.input.lower c.args.degrees.now c.requires.degrees c.columns.j c.columns-test.true in
     omega (arith, long, is, d)
 
 pub columns-preserved : goal.columns-preserved
@@ -61,13 +63,13 @@ columns-preserved g c =
     let ap' = map g.I.Index.value c.args.a_p.now in let ai = map g.I.Index.value c.args.a_i.now in let n = c.args.size in
     let i = c.columns.invariant in let j = c.columns.j in
     let v = c.columns.end + num c.args.degrees.now j - (c.count_at.result - c.own_first.result) in
-    let long = slice_long n ap' ai c.requires.form j c.columns-test.true c.requires.sorted c.requires.lower
+    let long = slice_long n ap' ai c.requires.input.form j c.columns-test.true c.requires.input.sorted c.requires.input.lower
     c.own_first.result c.own_first.ensures.rows in
     let count = c.count_at.ensures.count in
     let head = head_is n ap' ai j c.columns.end (num c.args.degrees.now j) (c.count_at.result - c.own_first.result) i.end
-    (degree_is n ap' ai c.requires.lower c.args.degrees.now c.requires.degrees j c.columns-test.true) (omega (arith, long, count)) in
+    (degree_is n ap' ai c.requires.input.lower c.args.degrees.now c.requires.degrees j c.columns-test.true) (omega (arith, long, count)) in
     let items = c.push_reserved.ensures.items in record {
-      end = next_end n ap' ai c.requires.lower c.args.degrees.now c.requires.degrees j c.columns.end c.columns-test.true i.end;
+      end = next_end n ap' ai c.requires.input.lower c.args.degrees.now c.requires.degrees j c.columns.end c.columns-test.true i.end;
       long = ap length items ∙ length-append c.columns.heads.items (v ∷ []) ∙ (let l = i.long in omega (arith, l));
       capacity = (let x = i.capacity in let y = c.push_reserved.ensures.capacity in omega (arith, x, y));
       each = λ k l. ap (λ xs. num xs k) items ∙ elim (cases_lt k j) [

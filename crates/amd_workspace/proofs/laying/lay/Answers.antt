@@ -91,8 +91,12 @@ returns-clause-lists g c = λ i l.
     c.if-has_long_lower.iw.items _ i l list
 
 -- what both ways and the choice between them ask for
-pub lower_lists-requires-clause-lower : goal.lower_lists-requires-clause-lower
-lower_lists-requires-clause-lower g c = c.has_long_lower.ensures.yes c.if-has_long_lower.true
+pub lower_lists-requires-clause-input : goal.lower_lists-requires-clause-input
+lower_lists-requires-clause-input g c = record {
+  form = c.requires.form;
+  sorted = c.requires.sorted;
+  lower = c.has_long_lower.ensures.yes c.if-has_long_lower.true;
+}
 
 pub lower_lists-requires-clause-room : goal.lower_lists-requires-clause-room
 unfolding graph_of

@@ -1,5 +1,5 @@
-use Rattle.std.proofs.Common.{◌≡◌, ◌≤◌, ◌-◌, length}
-use Rattle.amd_workspace.specs.Lower.{Matrix, IsReadyForColumn, SpreadsColumns}
+use Rattle.std.proofs.Common.{◌≡◌, ◌≤◌, ◌-◌, ℕ, length}
+use Rattle.amd_workspace.specs.Lower.{Matrix, IsReadyForColumn, SpreadsFirst}
 use Rattle.amd_workspace.proofs.LowerWords.{partly}
 use Rattle.amd_workspace.proofs.lower.spread.Given as goal
 
@@ -8,6 +8,6 @@ invariant-words g l = record {
   from : l.from ≤ l.place;
   to : l.place ≤ l.end;
   long : length l.iw ≡ length l.fn.iw;
-  spreads : (m : Matrix) → IsReadyForColumn m l.j l.end g.S.Signed.MOST g.U.Unsigned.MOST l.fn.next l.fn.iw →
-      SpreadsColumns m.n m.ap m.ai (partly m.n m.ap m.ai l.j (l.place - l.from)) l.next l.iw;
+  spreads : (x : Matrix) (m : ℕ) → IsReadyForColumn x m l.j l.end g.S.Signed.MOST g.U.Unsigned.MOST l.fn.next l.fn.iw →
+      SpreadsFirst x.n x.ap x.ai m (partly x.n x.ap x.ai l.j (l.place - l.from)) l.next l.iw;
 }

@@ -1,7 +1,7 @@
 use Rattle.std.proofs.Common.{◌≡◌, ◌≤◌, map, length}
 use Rattle.std.specs.Vec.{vec_capacity}
 use Rattle.amd_workspace.specs.Lower.{own_start, HoldsOwn}
-use Rattle.amd_workspace.proofs.lower.push_lists.Given as goal
+use Rattle.amd_workspace.proofs.bands.push_lists.Given as goal
 
 abbrev pub invariant-rows : goal.invariant-rows
 invariant-rows g l = record {

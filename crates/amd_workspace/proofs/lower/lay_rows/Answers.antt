@@ -1,0 +1,122 @@
+-- the goals of lower::lay_rows.
+use Rattle.std.proofs.Common.{◌≡◌, ◌<◌, ◌≤◌, ◌+◌, ◌-◌, ℕ, ℤ, List, true, arith, map, refl, sym, subst, ap, length, pos}
+use Rattle.std.specs.Prelude.{replicate}
+use Rattle.std.proofs.lemmas.List.{length-append, length-replicate}
+use Rattle.amd_model.specs.Below.{sum_below}
+use Rattle.amd_model.specs.Input.Pattern.{graph_of, is_pair}
+use Rattle.amd_edges.specs.Visits.{AreCounts, start_of}
+use Rattle.amd_words.specs.Words.{num}
+use Rattle.amd_workspace.specs.Lower.{IsLower, IsReadyForColumn, LaysRows, SpreadsColumns, earlier_below, own_start}
+use Rattle.amd_workspace.proofs.LowerWords.{later_start, lays_column, lays_end, lays_none, list_room, next_end, spread_lists_are}
+use Rattle.amd_workspace.proofs.lower.lay_rows.Goals as goal
+
+-- the next column is ready, once the lists of its rows are laid
+module _ (n : ℕ) (ap' ai : List ℤ) (lower : IsLower n ap' ai) (degrees : List ℕ)
+    (counts : AreCounts (graph_of n ap' ai) ((graph_of n ap' ai).edge) degrees) (j past end : ℕ) (j_in : j < n)
+    (end_is : end ≡ own_start n ap' ai j) (after : j < past) (within : (i : ℕ) → is_pair n ap' ai i j ≡ true → i < past)
+    (a b room : ℕ) (next : List ℕ) (iw : List ℤ) (h : LaysRows n ap' ai past (earlier_below n ap' ai j) next iw)
+    (enough : own_start n ap' ai n ≤ room) (small : n ≤ a) (fits : room ≤ b) where
+  ready : IsReadyForColumn (record { n = n; ap = ap'; ai = ai }) past j (end + num degrees j) a b next iw
+  ready = let long = h.long in let whole = later_start n ap' ai lower past n h.few (omega arith) in record {
+    lower = lower;
+    few = h.few;
+    row = after;
+    within = within;
+    end = next_end n ap' ai lower degrees counts j end j_in end_is;
+    room = omega (arith, long);
+    rows = small;
+    places = omega (arith, long, whole, enough, fits);
+    before = h.spreads;
+  }
+
+pub columns-init : goal.columns-init
+unfolding start_of sum_below
+columns-init g c = record {
+  reach = omega arith;
+  end = refl;
+  capacity = c.requires.capacity;
+  laid = lays_none c.args.size (map g.I.Index.value c.args.a_p.now) (map g.I.Index.value c.args.a_i.now) c.requires.input.lower
+      c.args.next.now
+      c.args.iw.now.items c.requires.some c.requires.empty c.requires.next c.requires.starts;
+}
+
+pub bounds-degrees-j : goal.bounds-degrees-j
+unfolding graph_of
+bounds-degrees-j g c = let a = c.requires.degrees.size in let b = c.columns-test.true in omega (arith, a, b)
+
+pub offset_bounds-degrees-j : goal.offset_bounds-degrees-j
+unfolding graph_of
+offset_bounds-degrees-j g c = let a = c.requires.degrees.size in let b = c.columns-test.true in omega (arith, a, b, c.well_formed)
+
+pub overflow_add-end : goal.overflow_add-end
+overflow_add-end g c =
+    let room = c.requires.room in let fits = c.ranges.room.fits in
+    let d = list_room c.args.size (map g.I.Index.value c.args.a_p.now) (map g.I.Index.value c.args.a_i.now) c.requires.input.lower
+    c.args.degrees.now c.requires.degrees c.columns.j c.columns.end c.columns-test.true c.columns.invariant.end in
+    omega (arith, d, room, fits)
+
+pub spread_in-requires : goal.spread_in-requires
+spread_in-requires g c =
+    let ap' = map g.I.Index.value c.args.a_p.now in let ai = map g.I.Index.value c.args.a_i.now in let i = c.columns.invariant in
+    let past = c.past_column.ensures.past in let most = c.max-past.ensures in record {
+      ready = (
+        record { n = c.args.size; ap = ap'; ai = ai },
+        c.max-past.result,
+        ready c.args.size ap' ai c.requires.input.lower c.args.degrees.now c.requires.degrees c.columns.j c.max-past.result c.columns.end
+            c.columns-test.true i.end (omega (arith, past, most))
+            (λ k e. let all = c.past_column.ensures.all k e in omega (arith, all, most)) _ _ c.args.room c.columns.next
+            c.push_until.new.iw.items (c.push_until.ensures.laid _ _ i.laid) c.requires.room c.requires.fits.0 c.requires.fits.1,
+      );
+    }
+
+pub columns-preserved : goal.columns-preserved
+columns-preserved g c =
+    let ap' = map g.I.Index.value c.args.a_p.now in let ai = map g.I.Index.value c.args.a_i.now in let i = c.columns.invariant in
+    let past = c.past_column.ensures.past in let most = c.max-past.ensures in let n = c.args.size in
+    let within : (k : ℕ) → is_pair n ap' ai k c.columns.j ≡ true → k < c.max-past.result =
+    λ k e. let all = c.past_column.ensures.all k e in omega (arith, all, most) in
+    let laid = c.push_until.ensures.laid _ _ i.laid in record {
+      reach = omega (arith, past, most);
+      end = next_end n ap' ai c.requires.input.lower c.args.degrees.now c.requires.degrees c.columns.j c.columns.end c.columns-test.true
+          i.end;
+      capacity = (let x = i.capacity in let y = c.push_until.ensures.capacity in let z = c.spread_in.ensures.capacity in
+          omega (arith, x, y, z));
+      laid = lays_column n ap' ai c.requires.input.lower c.max-past.result c.columns.j c.columns.next c.spread_in.new.next
+          c.push_until.new.iw.items c.spread_in.new.iw.items c.columns-test.true within c.spread_in.ensures.long laid
+          (c.spread_in.ensures.after (record { n = n; ap = ap'; ai = ai }) c.max-past.result
+          (ready n ap' ai c.requires.input.lower c.args.degrees.now c.requires.degrees c.columns.j c.max-past.result c.columns.end
+          c.columns-test.true i.end (omega (arith, past, most)) within _ _ c.args.room c.columns.next c.push_until.new.iw.items laid
+          c.requires.room c.requires.fits.0 c.requires.fits.1));
+    }
+
+-- behind the last column all lists are laid
+module _ (n : ℕ) (ap' ai : List ℤ) (j laid : ℕ) (next : List ℕ) (iw : List ℤ) (reach : j ≤ laid) (last : j ≡ n)
+    (h : LaysRows n ap' ai laid (earlier_below n ap' ai j) next iw) where
+  all_laid : LaysRows n ap' ai n (earlier_below n ap' ai n) next iw
+  all_laid = let few = h.few in let all : laid ≡ n = omega (arith, reach, last, few) in
+      subst (λ k. LaysRows n ap' ai n (earlier_below n ap' ai k) next iw) last
+      (subst (λ m. LaysRows n ap' ai m (earlier_below n ap' ai j) next iw) all h)
+
+pub returns-clause-long : goal.returns-clause-long
+returns-clause-long g c =
+    let ap' = map g.I.Index.value c.args.a_p.now in let ai = map g.I.Index.value c.args.a_i.now in let n = c.args.size in
+    let a = c.columns.auto.j-end in let b = c.columns-test.false in let i = c.columns.invariant in let room = c.requires.room in
+    let last : c.columns.j ≡ n = omega (arith, a, b) in
+    let long = (all_laid n ap' ai c.columns.j c.columns.laid c.columns.next c.columns.iw.items i.reach last i.laid).long in
+    let end = i.end in let start = ap (own_start n ap' ai) last in let count = c.args.room - c.columns.end in
+    let whole = ap length c.push_rows.ensures.items in
+    let size = length-append c.columns.iw.items (replicate count (pos (n - 1))) in
+    let d = length-replicate count (pos (n - 1)) in omega (arith, end, start, room, long, whole, size, d)
+
+pub returns-clause-lists : goal.returns-clause-lists
+returns-clause-lists g c =
+    let ap' = map g.I.Index.value c.args.a_p.now in let ai = map g.I.Index.value c.args.a_i.now in let n = c.args.size in
+    let a = c.columns.auto.j-end in let b = c.columns-test.false in let i = c.columns.invariant in let some = c.requires.some in
+    let so = subst (SpreadsColumns n ap' ai (earlier_below n ap' ai n) c.columns.next) (sym c.push_rows.ensures.items)
+    (lays_end n ap' ai c.requires.input.lower (earlier_below n ap' ai n) c.columns.next c.columns.iw.items (n - 1)
+    (c.args.room - c.columns.end) (omega (arith, some))
+    (all_laid n ap' ai c.columns.j c.columns.laid c.columns.next c.columns.iw.items i.reach (omega (arith, a, b)) i.laid)) in (
+      so.held.words,
+      spread_lists_are n ap' ai c.requires.input.lower c.args.degrees.now c.columns.next c.push_rows.new.iw.items
+          c.requires.degrees so,
+    )
