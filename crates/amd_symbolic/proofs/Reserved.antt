@@ -1,6 +1,6 @@
 -- After an ordering a factor is refused for want of memory alone, and the record of the ordering bounds it.
 use Rattle.std.proofs.Common.{ℕ, ℤ, zero, suc, pos, negsuc, Bool, ◌≡◌, ◌≢◌, ◌<◌, refl, sym, ◌∙◌, ap, subst, arith, List, [], ◌∷◌}
-use Rattle.std.proofs.Common.{length}
+use Rattle.std.proofs.Common.{length, map}
 use Rattle.std.specs.Prelude.{unsigned_abs, slice_index, Option, None, Some}
 use Rattle.amd_model.specs.Below.{sum_below}
 use Rattle.amd_model.specs.Factor.{IsFactor, needed, needed_front}
@@ -126,3 +126,10 @@ fault_for hold z ap' ai Invalid e h form memory = subst (IsFaultHolding hold z a
 fault_for hold z ap' ai OutOfMemory e h form memory = subst (IsFaultHolding hold z ap' ai) (sym (memory (λ q. cc))) (λ some. h.1)
 fault_for hold z ap' ai OK e h form memory = absurd h
 fault_for hold z ap' ai OkButJumbled e h form memory = absurd h
+
+-- an order that is lent as a slice
+pub lent_order : {A : Type 0} {hold : Option (List Bool)} {z t : ℤ} {aggressive : Bool} {a_p a_i q : List ℤ} {info : Info}
+    (value : A → ℤ) {lent items : List A} → lent ≡ items →
+    IsOrderingHolding hold z t aggressive a_p a_i (map value items) q info →
+    IsOrderingHolding hold z t aggressive a_p a_i (map value lent) q info
+lent_order value e ordering = rw e ordering

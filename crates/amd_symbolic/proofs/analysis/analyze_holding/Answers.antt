@@ -1,10 +1,9 @@
 use Rattle.std.proofs.Common.{ℤ, List, Some, ◌≡◌, map, rules}
 use Rattle.std.specs.Prelude.{IfErr}
-use Rattle.amd.specs.Answers.{IsOrderingHolding}
 use Rattle.amd_symbolic.specs.declared.factor.Fault.TheVariants.{OutOfMemory}
 use Rattle.amd_symbolic.specs.Factors.{IsFaultHolding}
 use Rattle.amd_symbolic.proofs.Faults.{memory_of}
-use Rattle.amd_symbolic.proofs.Reserved.{fault_for, input_of}
+use Rattle.amd_symbolic.proofs.Reserved.{fault_for, input_of, lent_order}
 use Rattle.amd_symbolic.proofs.analysis.analyze_holding.Goals as goal
 
 pub returns-in-Err-clause-fault : goal.returns-in-Err-clause-fault
@@ -16,23 +15,15 @@ returns-in-Err-clause-fault g c =
     c.fault_of.ensures.memory
 
 pub reserved_columns-requires : goal.reserved_columns-requires
-reserved_columns-requires g c =
-    let z : ℤ = g.I.Number.value c.args.n in
-    let a_p : List ℤ = map g.I.Number.value c.args.a_p.now in
-    let a_i : List ℤ = map g.I.Number.value c.args.a_i.now in
-    let o : IsOrderingHolding (Some c.args.hold.now) z c.args.control.now.dense c.args.control.now.aggressive a_p a_i
-    (map g.I.Number.value c.deref.result.now) (map g.I.Number.value c.in-Ok.answer.1.items) c.in-Ok.answer.2 =
-    rw c.deref.ensures.value c.in-Ok.ensures.ordering in
-    record {
-      ordering = (
-        (Some c.args.hold.now),
-        c.args.control.now.dense,
-        c.args.control.now.aggressive,
-        map g.I.Number.value
-            c.in-Ok.answer.1.items,
-        o,
-      );
-    }
+reserved_columns-requires g c = record {
+  ordering = (
+    Some c.args.hold.now,
+    c.args.control.now.dense,
+    c.args.control.now.aggressive,
+    map g.I.Number.value c.in-Ok.answer.1.items,
+    lent_order g.I.Number.value c.deref.ensures.value c.in-Ok.ensures.ordering,
+  );
+}
 
 pub returns-in_err-factor-clause-fault : goal.returns-in_err-factor-clause-fault
 returns-in_err-factor-clause-fault g c =
