@@ -7,6 +7,7 @@ use Rattle.std.proofs.lemmas.List.Concat.{flat_map-append}
 use Rattle.amd_words.specs.Words.{num, is_place, place, word, start, size_of, classes, rows, Names}
 use Rattle.amd_elements.specs.Element.{elements_at, variables_at, members_at, IsListLaid, ListsLaid}
 use Rattle.amd_elements.specs.Room.{named_around}
+use Rattle.amd_elements.specs.Visiting.{Visit, CanTake, Takes}
 use Rattle.amd_elements.specs.Premises.{HasListsAround}
 use Rattle.amd_words.proofs.RowLists.{rows_more, rows_same, rows_both, rows_has, rows_at, names_at}
 use Rattle.amd_words.proofs.WordCounts.{within_count, next_place}
@@ -102,7 +103,7 @@ module _ {pivot m : ℕ} {iw nv pe : List ℤ} {len : List ℕ} {end : ℕ} (lis
         pub list_names : Names (length nv) iw' first count
         list_names = still_names first count list_before (names_at iw refl (sym first_is) (sym count_is) element_laid.2)
 
-        pub list_next : flat_map (members_at iw pe len) (rows iw (start pe pivot) (p - from)) ++ rows iw' first count
+        list_next : flat_map (members_at iw pe len) (rows iw (start pe pivot) (p - from)) ++ rows iw' first count
             ≡ flat_map (members_at iw pe len) (rows iw (start pe pivot) (p + 1 - from))
         list_next = ap (λ l. flat_map (members_at iw pe len) (rows iw (start pe pivot) (p - from)) ++ l)
             (still first count list_before ∙ rows_at iw first_is count_is ∙ ap (members_at iw pe len) row_is)
@@ -113,7 +114,7 @@ module _ {pivot m : ℕ} {iw nv pe : List ℤ} {len : List ℕ} {end : ℕ} (lis
         list_rest = flat_map (members_at iw pe len) (rows iw (start pe pivot + (p + 1 - from)) (m - (p + 1 - from)))
             ++ variables_at iw pe len pivot m
 
-        pub list_split : named_around iw pe len pivot m
+        list_split : named_around iw pe len pivot m
             ≡ (flat_map (members_at iw pe len) (rows iw (start pe pivot) (p - from)) ++ rows iw' first count) ++ list_rest
         list_split = let k : ℕ = p + 1 - from in let f : (ℕ → List ℕ) = members_at iw pe len in
             let e : m ≡ k + (m - k) = omega (arith, after, there) in
@@ -124,6 +125,29 @@ module _ {pivot m : ℕ} {iw nv pe : List ℤ} {len : List ℕ} {end : ℕ} (lis
             ∙ append_assoc (flat_map f (rows iw (start pe pivot) k)) (flat_map f (rows iw (start pe pivot + k) (m - k)))
             (variables_at iw pe len pivot m)
             ∙ ap (λ xs. xs ++ list_rest) (sym list_next)
+
+        -- a visit comes to that list, and goes on behind it
+        module _ {V : Type 0} (holds : Visit V) (words sizes : List ℤ) (initial : V) {nv' : List ℤ} {visitor : V} (held : holds end
+            (named_around iw pe len pivot m) (flat_map (members_at iw pe len) (rows iw (start pe pivot) (p - from))) words sizes
+            initial iw' nv' visitor) where
+          pub list_visit : CanTake holds end (rows iw' first count) iw' nv' visitor
+          list_visit = record {
+            all = named_around iw pe len pivot m;
+            taken = flat_map (members_at iw pe len) (rows iw (start pe pivot) (p - from));
+            rest = list_rest;
+            words = words;
+            sizes = sizes;
+            first = initial;
+            split = list_split;
+            held = held;
+          }
+
+          pub list_visited : {iw2 nv2 : List ℤ} {after : V} → Takes holds end (rows iw' first count) iw' nv' visitor iw2 nv2 after →
+              holds end (named_around iw pe len pivot m) (flat_map (members_at iw pe len) (rows iw (start pe pivot) (p + 1 - from)))
+              words sizes initial iw2 nv2 after
+          unfolding list_visit
+          list_visited {iw2} {nv2} {after} takes = subst (λ xs. holds end (named_around iw pe len pivot m) xs words sizes initial
+              iw2 nv2 after) list_next (takes list_visit)
 
   -- the rest of the pivot's words
   module _ {count : ℕ} (count_is : count ≡ num len pivot) where
@@ -137,12 +161,35 @@ module _ {pivot m : ℕ} {iw nv pe : List ℤ} {len : List ℕ} {end : ℕ} (lis
     rest_names = still_names (from + m) (count - m) rest_before
         (names_at iw refl (sym (ap (λ s. s + m) from_is)) (sym (ap (λ c. c - m) count_is)) own_rest.1)
 
-    pub rest_next : flat_map (members_at iw pe len) (elements_at iw pe pivot m) ++ rows iw' (from + m) (count - m)
+    rest_next : flat_map (members_at iw pe len) (elements_at iw pe pivot m) ++ rows iw' (from + m) (count - m)
         ≡ named_around iw pe len pivot m
     rest_next = ap (λ l. flat_map (members_at iw pe len) (elements_at iw pe pivot m) ++ l) (still (from + m) (count - m) rest_before
         ∙ rows_at iw (ap (λ s. s + m) from_is) (ap (λ c. c - m) count_is))
 
-    pub rest_split : named_around iw pe len pivot m
+    rest_split : named_around iw pe len pivot m
         ≡ (flat_map (members_at iw pe len) (elements_at iw pe pivot m) ++ rows iw' (from + m) (count - m)) ++ []
     rest_split = sym rest_next ∙ sym (append-nil (flat_map (members_at iw pe len) (elements_at iw pe pivot m)
         ++ rows iw' (from + m) (count - m)))
+
+    -- a visit comes to them, and ends behind them
+    module _ {V : Type 0} (holds : Visit V) (words sizes : List ℤ) (initial : V) {nv' : List ℤ} {visitor : V} (held : holds end
+        (named_around iw pe len pivot m) (flat_map (members_at iw pe len) (elements_at iw pe pivot m)) words sizes initial iw' nv'
+        visitor) where
+      pub rest_visit : CanTake holds end (rows iw' (from + m) (count - m)) iw' nv' visitor
+      rest_visit = record {
+        all = named_around iw pe len pivot m;
+        taken = flat_map (members_at iw pe len) (elements_at iw pe pivot m);
+        rest = [];
+        words = words;
+        sizes = sizes;
+        first = initial;
+        split = rest_split;
+        held = held;
+      }
+
+      pub rest_visited : {iw2 nv2 : List ℤ} {after : V} →
+          Takes holds end (rows iw' (from + m) (count - m)) iw' nv' visitor iw2 nv2 after →
+          holds end (named_around iw pe len pivot m) (named_around iw pe len pivot m) words sizes initial iw2 nv2 after
+      unfolding rest_visit
+      rest_visited {iw2} {nv2} {after} takes = subst (λ xs. holds end (named_around iw pe len pivot m) xs words sizes initial iw2
+          nv2 after) rest_next (takes rest_visit)

@@ -2,6 +2,7 @@
 pub mod Element
 pub mod Making
 pub mod Room
+pub mod Visiting
 pub mod Compaction
 pub mod Beginning
 pub mod Pivots

@@ -2,11 +2,12 @@
 // One walk goes over them, list after list, and a visitor takes the words of each. Source: Amestoy, Davis and Duff 1996
 // (element formation). Called by `element` and `room`.
 
-ghost use Rattle.std.specs.Prelude.{ℕ, ℤ, List, [], ◌++◌, ◌≡◌, ◌<◌, ◌≤◌, ◌+◌, length};
+ghost use Rattle.std.specs.Prelude.{ℕ, [], ◌≡◌, ◌<◌, ◌≤◌, ◌+◌, length};
 ghost use Rattle.amd_words.specs.Words.{rows, word};
 ghost use Rattle.amd_lists.specs.Spans.{IsSpan};
 ghost use Rattle.amd_elements.specs.Premises.{HasListsAround};
 ghost use Rattle.amd_elements.specs.Room.{named_around};
+ghost use Rattle.amd_elements.specs.Visiting.{CanTake, Takes, Visit};
 
 use amd_words::words::named;
 use amd_words::{Cell, Signed, Unsigned, Word, cell_at};
@@ -15,7 +16,7 @@ use amd_words::{Cell, Signed, Unsigned, Word, cell_at};
 /// `end`, of the rows that all lists name and those that were taken so far, and of the words, the sizes and the visitor
 /// at first and now.
 pub trait ListVisitor {
-    ghost holds: { ℕ → List ℕ → List ℕ → List ℤ → List ℤ → Self → List ℤ → List ℤ → Self → Type 0 };
+    ghost holds: { Visit Self };
 
     /// Takes the rows that `count` words name. No word before `end` changes.
     fn take<S: Signed>(
@@ -28,13 +29,8 @@ pub trait ListVisitor {
     )
         requires span { IsSpan (length nv.old) iw.old from count }
         requires before { from + count ≤ end }
-        requires held { (all taken rest : List ℕ) × (words sizes : List ℤ) × (first : Self) ×
-            holds end all taken words sizes first iw.old nv.old self.old ×
-            (all ≡ (taken ++ rows iw.old from count) ++ rest) }
-        ensures held { (all taken rest : List ℕ) (words sizes : List ℤ) (first : Self) →
-            holds end all taken words sizes first iw.old nv.old self.old →
-            all ≡ (taken ++ rows iw.old from count) ++ rest →
-            holds end all (taken ++ rows iw.old from count) words sizes first iw.new nv.new self.new }
+        requires held { CanTake holds end (rows iw.old from count) iw.old nv.old self.old }
+        ensures held { Takes holds end (rows iw.old from count) iw.old nv.old self.old iw.new nv.new self.new }
         ensures words { (k : ℕ) → k < end → word iw.new k ≡ word iw.old k }
         ensures lengths { (length iw.new ≡ length iw.old) × (length nv.new ≡ length nv.old) };
 }

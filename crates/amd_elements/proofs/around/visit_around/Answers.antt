@@ -1,12 +1,12 @@
-use Rattle.std.proofs.Common.{ℕ, ◌≤◌, ◌+◌, ◌-◌, refl, sym, ap, subst, ◌∙◌, flat_map}
+use Rattle.std.proofs.Common.{ℕ, ◌+◌, ◌-◌, refl, sym, ap, subst, ◌∙◌, flat_map}
 use Rattle.std.proofs.Common.{lt_of_lt_of_le, le_of_eq, le_trans, le-add_right}
 use Rattle.amd_words.specs.Words.{start, rows, Names}
 use Rattle.amd_words.proofs.RowLists.{rows_none}
 use Rattle.amd_words.proofs.WordCounts.{all_passed, none_passed}
 use Rattle.amd_elements.specs.Element.{members_at}
 use Rattle.amd_elements.specs.Room.{named_around}
-use Rattle.amd_elements.proofs.ListsAround.{element_one, element_small, element_laid, list_before, list_names, list_next, list_split}
-use Rattle.amd_elements.proofs.ListsAround.{rest_before, rest_names, rest_next, rest_split}
+use Rattle.amd_elements.proofs.ListsAround.{element_one, element_small, element_laid, list_before, list_names, list_visit, list_visited}
+use Rattle.amd_elements.proofs.ListsAround.{rest_before, rest_names, rest_visit, rest_visited}
 use Rattle.amd_elements.proofs.around.visit_around.Goals as goal
 
 pub loop-p-init : goal.loop-p-init
@@ -51,26 +51,15 @@ take-requires-clause-before g c = list_before c.requires.lists c.loop-p.iw c.loo
     c.loop-p-test.true c.named-e.ensures c.named-first.ensures c.cell_at.ensures.is
 
 pub take-requires-clause-held : goal.take-requires-clause-held
-take-requires-clause-held g c = (
-  _,
-  _,
-  _,
-  _,
-  _,
-  _,
-  c.loop-p.invariant.held,
-  list_split c.requires.lists c.loop-p.iw c.loop-p.invariant.words
-      c.named-from.ensures c.loop-p.auto.p c.loop-p-test.true c.named-e.ensures c.named-first.ensures c.cell_at.ensures.is,
-)
+take-requires-clause-held g c = list_visit c.requires.lists c.loop-p.iw c.loop-p.invariant.words c.named-from.ensures
+    c.loop-p.auto.p c.loop-p-test.true c.named-e.ensures c.named-first.ensures c.cell_at.ensures.is g.V.ListVisitor.holds
+    c.args.iw.now c.args.nv.now c.args.visitor.now c.loop-p.invariant.held
 
 pub loop-p-preserved : goal.loop-p-preserved
 loop-p-preserved g c = record {
-  held = subst (λ xs. g.V.ListVisitor.holds c.args.end (named_around c.args.iw.now c.args.pe.now c.args.len.now c.args.pivot
-      c.args.n_elements) xs c.args.iw.now c.args.nv.now c.args.visitor.now c.take.new.iw c.take.new.nv c.take.new.self)
-      (list_next c.requires.lists c.loop-p.iw c.loop-p.invariant.words c.named-from.ensures c.loop-p.auto.p
-      c.loop-p-test.true c.named-e.ensures c.named-first.ensures c.cell_at.ensures.is)
-      (c.take.ensures.held _ _ _ _ _ _ c.loop-p.invariant.held (list_split c.requires.lists c.loop-p.iw c.loop-p.invariant.words
-      c.named-from.ensures c.loop-p.auto.p c.loop-p-test.true c.named-e.ensures c.named-first.ensures c.cell_at.ensures.is));
+  held = list_visited c.requires.lists c.loop-p.iw c.loop-p.invariant.words c.named-from.ensures
+      c.loop-p.auto.p c.loop-p-test.true c.named-e.ensures c.named-first.ensures c.cell_at.ensures.is g.V.ListVisitor.holds
+      c.args.iw.now c.args.nv.now c.args.visitor.now c.loop-p.invariant.held c.take.ensures.held;
   words = λ k l. c.take.ensures.words k l ∙ c.loop-p.invariant.words k l;
   long = c.take.ensures.lengths.0 ∙ c.loop-p.invariant.long;
   wide = c.take.ensures.lengths.1 ∙ c.loop-p.invariant.wide;
@@ -90,29 +79,18 @@ take-requires-2-clause-before g c = rest_before c.requires.lists c.loop-p.iw c.l
     c.cell_at-2.ensures.is
 
 pub take-requires-2-clause-held : goal.take-requires-2-clause-held
-take-requires-2-clause-held g c =
-    let past : c.loop-p.p ≤ c.named-from.result + c.args.n_elements = c.loop-p.auto.p-end (le-add_right _ _) in (
-      _,
-      _,
-      _,
-      _,
-      _,
-      _,
-      subst (λ k. g.V.ListVisitor.holds c.args.end (named_around c.args.iw.now c.args.pe.now c.args.len.now c.args.pivot
-          c.args.n_elements) (flat_map (members_at c.args.iw.now c.args.pe.now c.args.len.now) (rows c.args.iw.now
-          (start c.args.pe.now c.args.pivot) k)) c.args.iw.now c.args.nv.now c.args.visitor.now c.loop-p.iw c.loop-p.nv c.loop-p.visitor)
-          (all_passed _ _ _ c.loop-p.auto.p past c.loop-p-test.false) c.loop-p.invariant.held,
-      rest_split c.requires.lists c.loop-p.iw c.loop-p.invariant.words c.named-from.ensures c.cell_at-2.ensures.is,
-    )
+take-requires-2-clause-held g c = rest_visit c.requires.lists c.loop-p.iw c.loop-p.invariant.words c.named-from.ensures
+    c.cell_at-2.ensures.is g.V.ListVisitor.holds c.args.iw.now c.args.nv.now c.args.visitor.now
+    (subst (λ k. g.V.ListVisitor.holds c.args.end (named_around c.args.iw.now c.args.pe.now c.args.len.now c.args.pivot
+    c.args.n_elements) (flat_map (members_at c.args.iw.now c.args.pe.now c.args.len.now) (rows c.args.iw.now
+    (start c.args.pe.now c.args.pivot) k)) c.args.iw.now c.args.nv.now c.args.visitor.now c.loop-p.iw c.loop-p.nv c.loop-p.visitor)
+    (all_passed _ _ _ c.loop-p.auto.p (c.loop-p.auto.p-end (le-add_right _ _)) c.loop-p-test.false) c.loop-p.invariant.held)
 
 pub returns-clause-held : goal.returns-clause-held
-returns-clause-held g c =
-    let past : c.loop-p.p ≤ c.named-from.result + c.args.n_elements = c.loop-p.auto.p-end (le-add_right _ _) in
-    subst (λ xs. g.V.ListVisitor.holds c.args.end (named_around c.args.iw.now c.args.pe.now c.args.len.now c.args.pivot
-    c.args.n_elements) xs c.args.iw.now c.args.nv.now c.args.visitor.now c.take-2.new.iw c.take-2.new.nv c.take-2.new.self)
-    (rest_next c.requires.lists c.loop-p.iw c.loop-p.invariant.words c.named-from.ensures c.cell_at-2.ensures.is)
-    (c.take-2.ensures.held _ _ _ _ _ _ (subst (λ k. g.V.ListVisitor.holds c.args.end (named_around c.args.iw.now c.args.pe.now
-    c.args.len.now c.args.pivot c.args.n_elements) (flat_map (members_at c.args.iw.now c.args.pe.now c.args.len.now) (rows c.args.iw.now
+returns-clause-held g c = rest_visited c.requires.lists c.loop-p.iw c.loop-p.invariant.words c.named-from.ensures
+    c.cell_at-2.ensures.is g.V.ListVisitor.holds c.args.iw.now c.args.nv.now c.args.visitor.now
+    (subst (λ k. g.V.ListVisitor.holds c.args.end (named_around c.args.iw.now c.args.pe.now c.args.len.now c.args.pivot
+    c.args.n_elements) (flat_map (members_at c.args.iw.now c.args.pe.now c.args.len.now) (rows c.args.iw.now
     (start c.args.pe.now c.args.pivot) k)) c.args.iw.now c.args.nv.now c.args.visitor.now c.loop-p.iw c.loop-p.nv c.loop-p.visitor)
-    (all_passed _ _ _ c.loop-p.auto.p past c.loop-p-test.false) c.loop-p.invariant.held)
-    (rest_split c.requires.lists c.loop-p.iw c.loop-p.invariant.words c.named-from.ensures c.cell_at-2.ensures.is))
+    (all_passed _ _ _ c.loop-p.auto.p (c.loop-p.auto.p-end (le-add_right _ _)) c.loop-p-test.false) c.loop-p.invariant.held)
+    c.take-2.ensures.held

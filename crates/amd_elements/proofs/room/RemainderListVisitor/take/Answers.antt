@@ -4,6 +4,6 @@ use Rattle.amd_elements.proofs.Meeting.{remainder_more}
 use Rattle.amd_elements.proofs.room.RemainderListVisitor.take.Goals as goal
 
 pub returns-clause-held : goal.returns-clause-held
-returns-clause-held g c = λ all taken rest words sizes first h split.
-    remainder_more (rows c.args.iw.now c.args.from c.args.count) h (rows_length c.args.iw.now c.args.from c.args.count)
+returns-clause-held g c = λ at.
+    remainder_more (rows c.args.iw.now c.args.from c.args.count) at.held (rows_length c.args.iw.now c.args.from c.args.count)
     c.saturating_sub-self.ensures

@@ -2,7 +2,7 @@ use Rattle.amd_elements.proofs.Meeting.{unmarks_then}
 use Rattle.amd_elements.proofs.room.UnmarkingListVisitor.take.Goals as goal
 
 pub returns-clause-held : goal.returns-clause-held
-returns-clause-held g c = λ all taken rest words sizes first h split. record {
-  unmarks = unmarks_then h.unmarks c.unmark_all.ensures;
-  same = h.same;
+returns-clause-held g c = λ at. record {
+  unmarks = unmarks_then at.held.unmarks c.unmark_all.ensures;
+  same = at.held.same;
 }
