@@ -19,7 +19,7 @@ use Rattle.amd_workspace.specs.Copying.{is_other, HoldRows}
 use Rattle.amd_workspace.proofs.Copied.{others_past, same_other}
 use Rattle.amd_workspace.proofs.LowerColumns.{own_rest}
 use Rattle.amd_workspace.proofs.Layings.{row_word, same_are_rows}
-use Rattle.amd_workspace.proofs.LowerWords.{column_rows, rows_behind}
+use Rattle.amd_workspace.proofs.LaidRows.{column_rows, rows_behind}
 use Rattle.amd_workspace.proofs.SymmetricCounts.{next_start, others_room}
 
 -- ---- one column

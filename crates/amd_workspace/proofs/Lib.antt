@@ -8,6 +8,7 @@ pub mod CopiedColumns
 pub mod LowerLists
 pub mod LowerColumns
 pub mod LowerWords
+pub mod LaidRows
 pub mod BandWords
 pub mod Starts
 pub mod Begun

@@ -11,7 +11,7 @@ ghost use Rattle.amd_workspace.specs.Lower.{SpreadsColumns, HasColumns};
 ghost use Rattle.amd_workspace.specs.Bands.{IsReadyForPart, banded, own_from, HasHeads, IsReadyForBand, spread_to};
 
 use crate::laying::append;
-use crate::lower::{own_first, push_list, push_rows};
+use crate::lower::{own_first, push_rows, push_until};
 use amd_types::index::Index;
 use amd_types::internal::count_at;
 use amd_words::{Cell, Signed, Unsigned, Word, row_at};
@@ -25,35 +25,6 @@ const LARGE: usize = 1 << 20;
 
 /// So many columns are looked at.
 const SAMPLES: usize = 64;
-
-/// Appends the lists of `size` rows, each with the room for the earlier neighbours of its row before its column below
-/// the diagonal, and rows after the last list, `room` words in all.
-fn push_lists<I: Index, S: Signed, A: Allocator>(
-    size: usize,
-    a_p: &[I],
-    a_i: &[I],
-    degrees: &[usize],
-    room: usize,
-    iw: &mut Vec<Word<S>, A>,
-)
-    requires input { IsLowerForm size (map I.value a_p.now) (map I.value a_i.now) }
-    requires some { 0 < size }
-    requires degrees { AreNeighbourCounts size (map I.value a_p.now) (map I.value a_i.now) degrees.now }
-    requires room { own_start size (map I.value a_p.now) (map I.value a_i.now) size ≤ room }
-    requires empty { length iw.old.items ≡ 0 }
-    requires capacity { room ≤ vec_capacity iw.old }
-    requires fits { size ≤ S.MOST }
-    ensures long { length iw.new.items ≡ room }
-    ensures own { HoldsOwn size (map I.value a_p.now) (map I.value a_i.now) size iw.new.items }
-{
-    let mut free = 0;
-    'rows: for j in 0..size {
-        let degree = degrees[j];
-        push_list(size, a_p, a_i, j, degree, iw);
-        free += degree;
-    }
-    push_rows(iw, size - 1, room - free);
-}
 
 /// Writes row `j` after the earlier neighbours of the next rows of its own column below the diagonal, those before row
 /// `hi`. They stand in `iw` from the word `place` on, and the column ends before the word `end`. Returns where the
@@ -132,7 +103,7 @@ fn spread_bands<S: Signed, U: Unsigned>(
     }
 }
 
-/// Appends, for each of `size` columns, where its rows below the diagonal stand in words that `push_lists` wrote.
+/// Appends, for each of `size` columns, where its rows below the diagonal stand in the lists of `push_until`.
 fn push_heads<I: Index, A: Allocator>(
     size: usize,
     a_p: &[I],
@@ -211,7 +182,9 @@ pub fn lay_bands<I: Index, S: Signed, U: Unsigned, A: Allocator>(
     ensures long { length iw.new.items ≡ room }
     ensures lists { HoldsLists size (map I.value a_p.now) (map I.value a_i.now) degrees.now iw.new.items }
 {
-    push_lists(size, a_p, a_i, degrees, room, iw);
+    push_until(size, a_p, a_i, degrees, 0, size, iw);
+    let laid = iw.len();
+    push_rows(iw, size - 1, room - laid);
     push_heads(size, a_p, a_i, degrees, heads);
     spread_bands(next, iw, heads, degrees);
 }

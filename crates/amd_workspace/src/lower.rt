@@ -132,7 +132,7 @@ pub fn push_column<I: Index, S: Signed, A: Allocator>(
 
 /// Appends the list of row `j`, one of `size`: its own number, once for each earlier neighbour, to hold their room, and
 /// then its column below the diagonal.
-pub fn push_list<I: Index, S: Signed, A: Allocator>(
+fn push_list<I: Index, S: Signed, A: Allocator>(
     size: usize,
     a_p: &[I],
     a_i: &[I],
@@ -173,7 +173,7 @@ fn past_column<I: Index>(size: usize, a_p: &[I], a_i: &[I], j: usize) -> usize
 }
 
 /// Appends the lists of the rows from `laid` to `past`, as `push_list`.
-fn push_until<I: Index, S: Signed, A: Allocator>(
+pub fn push_until<I: Index, S: Signed, A: Allocator>(
     size: usize,
     a_p: &[I],
     a_i: &[I],

@@ -7,7 +7,8 @@ use Rattle.amd_model.specs.Input.Pattern.{graph_of, is_pair}
 use Rattle.amd_edges.specs.Visits.{AreCounts, start_of}
 use Rattle.amd_words.specs.Words.{num}
 use Rattle.amd_workspace.specs.Lower.{IsLower, IsReadyForColumn, LaysRows, SpreadsColumns, earlier_below, own_start}
-use Rattle.amd_workspace.proofs.LowerWords.{later_start, lays_column, lays_end, lays_none, list_room, next_end, spread_lists_are}
+use Rattle.amd_workspace.proofs.LowerWords.{later_start, list_room, next_end, spread_lists_are}
+use Rattle.amd_workspace.proofs.LaidRows.{lays_column, lays_end, lays_none}
 use Rattle.amd_workspace.proofs.lower.lay_rows.Goals as goal
 
 -- the next column is ready, once the lists of its rows are laid

@@ -3,7 +3,8 @@ use Rattle.std.proofs.Common.{◌+◌, arith, map, sym, subst, length}
 use Rattle.amd_model.specs.Input.Pattern.{graph_of}
 use Rattle.amd_words.specs.Words.{num}
 use Rattle.amd_workspace.specs.Lower.{LaysRows}
-use Rattle.amd_workspace.proofs.LowerWords.{degree_is, lays_row, list_room}
+use Rattle.amd_workspace.proofs.LowerWords.{degree_is, list_room}
+use Rattle.amd_workspace.proofs.LaidRows.{lays_row}
 use Rattle.amd_workspace.proofs.lower.push_until.Goals as goal
 
 pub bounds-degrees-row : goal.bounds-degrees-row
