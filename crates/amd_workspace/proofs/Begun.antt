@@ -29,25 +29,21 @@ rows_of v = record {
   w = v.w;
 }
 
--- a row that is a class
-pub record IsClass (held : ℕ → Bool) (p : Rows) (v : Workspace) (i : ℕ) : Type 0 where
-  pub class : begins_class held p.len i ≡ true
-  pub starts : word v.pe i ≡ word p.pe i
-  pub counts : word v.e_len i ≡ pos 0
-  pub size : word v.nv i ≡ pos 1
-  pub length_is : num v.len i ≡ num p.len i
-  pub bound : num v.degree i ≡ num p.len i
-  pub counter : num v.w i ≡ 1
+-- a row as it has begun, a class or none
+pub record HasBegun (is : Bool) (held : ℕ → Bool) (p : Rows) (v : Workspace) (i : ℕ) : Type 0 where
+  pub class : begins_class held p.len i ≡ is
+  pub starts : word v.pe i ≡ cond is (word p.pe i) (negsuc 0)
+  pub counts : word v.e_len i ≡ cond is (pos 0) (cond (held i) (negsuc 0) (flip_of 1))
+  pub size : word v.nv i ≡ pos (cond is 1 0)
+  pub length_is : num v.len i ≡ cond is (num p.len i) 0
+  pub bound : num v.degree i ≡ cond is (num p.len i) 0
+  pub counter : num v.w i ≡ cond is 1 0
 
--- a row that is none
-record IsAside (held : ℕ → Bool) (p : Rows) (v : Workspace) (i : ℕ) : Type 0 where
-  pub class : begins_class held p.len i ≡ false
-  pub starts : word v.pe i ≡ negsuc 0
-  pub counts : word v.e_len i ≡ cond (held i) (negsuc 0) (flip_of 1)
-  pub size : word v.nv i ≡ pos 0
-  pub length_is : num v.len i ≡ 0
-  pub bound : num v.degree i ≡ 0
-  pub counter : num v.w i ≡ 0
+abbrev pub IsClass : (ℕ → Bool) → Rows → Workspace → ℕ → Type 0
+IsClass held p v i = HasBegun true held p v i
+
+abbrev pub IsAside : (ℕ → Bool) → Rows → Workspace → ℕ → Type 0
+IsAside held p v i = HasBegun false held p v i
 
 -- a row past the last one
 record IsPast (v : Workspace) (i : ℕ) : Type 0 where
@@ -59,20 +55,8 @@ record IsPast (v : Workspace) (i : ℕ) : Type 0 where
   pub counter : num v.w i ≡ 0
 
 module _ (n : ℕ) (held : ℕ → Bool) (p : Rows) (v : Workspace) (begins : BeginsRows n n held p (rows_of v)) where
-  class_row : (i : ℕ) → i < n → begins_class held p.len i ≡ true → IsClass held p v i
-  class_row i l y =
-      let row = begins.rows i l in record {
-        class = y;
-        starts = row.starts ∙ ap (λ b. cond b (word p.pe i) (negsuc 0)) y;
-        counts = row.counts ∙ ap (λ b. cond b (pos 0) (cond (held i) (negsuc 0) (flip_of 1))) y;
-        size = row.sizes ∙ ap (λ b. pos (cond b 1 0)) y;
-        length_is = row.lengths ∙ ap (λ b. cond b (num p.len i) 0) y;
-        bound = row.bounds ∙ ap (λ b. cond b (num p.len i) 0) y;
-        counter = row.counters ∙ ap (λ b. cond b 1 0) y;
-      }
-
-  aside_row : (i : ℕ) → i < n → begins_class held p.len i ≡ false → IsAside held p v i
-  aside_row i l y =
+  begun_row : (is : Bool) (i : ℕ) → i < n → begins_class held p.len i ≡ is → HasBegun is held p v i
+  begun_row is i l y =
       let row = begins.rows i l in record {
         class = y;
         starts = row.starts ∙ ap (λ b. cond b (word p.pe i) (negsuc 0)) y;
@@ -98,8 +82,8 @@ module _ (n : ℕ) (held : ℕ → Bool) (p : Rows) (v : Workspace) (begins : Be
   kind i = elim (cases_lt i n) [
     | inr l ↦ inr (inr (past_row i l))
     | inl l ↦ elim (cases_Bool (begins_class held p.len i)) [
-      | inl y ↦ inl (class_row i l y, l)
-      | inr y ↦ inr (inl (aside_row i l y, l))
+      | inl y ↦ inl (begun_row true i l y, l)
+      | inr y ↦ inr (inl (begun_row false i l y, l))
     ]
   ]
 
@@ -193,10 +177,10 @@ module _ (n : ℕ) (held : ℕ → Bool) (p : Rows) (v : Workspace) (begins : Be
 
   block_is : (e : ℕ) → e < n → block_at e ≡ starting_block (held e) (num p.len e)
   block_is e l = elim (cases_Bool (begins_class held p.len e)) [
-    | inl y ↦ (let k = class_row e l y in let some = ltb-true 0 (num p.len e) (and_parts (nat_lt 0 (num p.len e)) (not (held e)) y).0 in
+    | inl y ↦ (let k = begun_row true e l y in let some = ltb-true 0 (num p.len e) (and_parts (nat_lt 0 (num p.len e)) (not (held e)) y).0 in
         no_block e (plain (word v.e_len e) k.counts).1
         ∙ sym (ap (λ b. cond (b && not (held e)) 1 0) (ne_eqb (num p.len e) 0 (λ z. omega (arith, z, some)))))
-    | inr y ↦ (let k = aside_row e l y in elim (cases_Bool (held e)) [
+    | inr y ↦ (let k = begun_row false e l y in elim (cases_Bool (held e)) [
       | inl h ↦ mark_none e k h ∙ sym (ap (λ b. starting_block b (num p.len e)) h
           ∙ ap (λ b. cond b 1 0) (and-false (nat_eq (num p.len e) 0)))
       | inr f ↦ (mark_one e k f).1 ∙ sym (ap (λ b. starting_block b (num p.len e)) f
