@@ -12,7 +12,6 @@
 //! names the file, and the status is 1.
 #![tactic(auto)]
 
-mod counting;
 mod factors;
 mod memory;
 mod reading;

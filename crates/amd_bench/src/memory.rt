@@ -1,8 +1,8 @@
 // Tells the memory that a call of `order` takes beside its input, by an allocator that counts. Called by `main`.
 
-use crate::counting::Counting;
 use amd::{Control, Info, Status, order};
 use amd_cases::matrix::BinaryMatrix;
+use amd_testing::refusing::Refusing;
 use anyhow::{Context, Result, bail};
 use num_traits::PrimInt;
 use std::alloc::Global;
@@ -31,7 +31,7 @@ fn taken_once<R: Alloc<A = Global>, I: PrimInt>(
     requires { I.fits (I.value matrix.now.n) }
 {
     let control = Control::default();
-    let heap = Counting::new(rt.alloc());
+    let heap = Refusing::new(rt.alloc(), 0);
     let answer = order(&heap, matrix.n, &matrix.a_p, &matrix.a_i, &control);
     let (peak, requests) = (heap.peak(), heap.requests());
     match answer {

@@ -1,2 +1,2 @@
-pub mod Countdown
+pub mod Tallies
 mod Wrapped

@@ -1,6 +1,7 @@
-// An allocator for tests that refuses one request for memory, and counts requests and releases. Code that answers want
-// of memory is run with each request refused in turn, and must leave nothing behind. It also counts the requests of one
-// size, which tell how long a list is that nothing else shows. Called by tests alone.
+// An allocator that counts requests for memory, the blocks that come back, and the most bytes that stand at once; for
+// tests it refuses one request. Code that answers want of memory is run with each request refused in turn, and must
+// leave nothing behind. It also counts the requests of one size, which tell how long a list is that nothing else shows.
+// Called by tests, and by the program that tells the memory of a call.
 
 use std::alloc::{AllocError, Allocator, Global};
 use std::cell::Cell;
@@ -8,25 +9,29 @@ use std::cell::Cell;
 /// More requests than any call makes that a test runs with each of them refused.
 const MANY: u64 = 1000;
 
-/// The requests so far. Both counters wrap below 0.
+/// Which request is refused, and what was counted so far. Each counter wraps.
 #[derive(Drop)]
-struct Requests {
-    // how many there are up to and with the one to refuse
-    left: Cell<u64>,
-    // the size of those that are counted apart, in bytes
+struct Tally {
+    // the number of the request to refuse, from 1, or 0
+    refuse_at: u64,
+    // the size of the requests that are counted apart, in bytes
     size: usize,
-    // 0 less how many had that size
+    requests: Cell<u64>,
+    // those of the size that is counted apart
     sized: Cell<u64>,
+    // the blocks that came back
+    released: Cell<u64>,
+    // the bytes of the blocks that did not
+    standing: Cell<u64>,
+    // the most bytes that stood at once
+    peak: Cell<u64>,
 }
 
 /// Hands each request on to the allocator inside, but for the one that has the chosen number. A `&` to it is an
 /// allocator that can be copied.
 pub struct Refusing<B: Allocator> {
     inner: B,
-    requests: Requests,
-    // 0 less the blocks that came back; it wraps below 0
-    kept: Cell<u64>,
-    refuse_at: u64,
+    tally: Tally,
 }
 
 impl<B: Allocator> Refusing<B> {
@@ -39,29 +44,31 @@ impl<B: Allocator> Refusing<B> {
     pub fn counting(inner: B, refuse_at: u64, size: usize) -> Refusing<B> {
         Refusing {
             inner,
-            requests: Requests {
-                left: Cell::new(refuse_at),
+            tally: Tally {
+                refuse_at,
                 size,
+                requests: Cell::new(0),
                 sized: Cell::new(0),
+                released: Cell::new(0),
+                standing: Cell::new(0),
+                peak: Cell::new(0),
             },
-            kept: Cell::new(0),
-            refuse_at,
         }
     }
 
     /// How many requests were made, the refused one among them.
     pub fn requests(&self) -> u64 {
-        self.refuse_at.wrapping_sub(self.requests.left.get())
+        self.tally.requests.get()
     }
 
     /// How many of them had the size that is counted apart.
     pub fn of_size(&self) -> u64 {
-        0u64.wrapping_sub(self.requests.sized.get())
+        self.tally.sized.get()
     }
 
     /// Whether a request was refused.
     pub fn refused(&self) -> bool {
-        self.refuse_at != 0 && self.requests() >= self.refuse_at
+        self.tally.refuse_at != 0 && self.requests() >= self.tally.refuse_at
     }
 
     /// How many blocks were granted: one for each request but the refused one, where the allocator inside refused none.
@@ -71,48 +78,61 @@ impl<B: Allocator> Refusing<B> {
 
     /// How many blocks came back.
     pub fn released(&self) -> u64 {
-        0u64.wrapping_sub(self.kept.get())
+        self.tally.released.get()
+    }
+
+    /// The most bytes that stood at once, where the allocator inside refused none.
+    pub fn peak(&self) -> u64 {
+        self.tally.peak.get()
     }
 }
 
 impl<B: Allocator> Drop for Refusing<B> {
     fn drop(self) {
-        let Self {
-            inner: _,
-            requests: _,
-            kept: _,
-            refuse_at: _,
-        } = self;
+        let Self { inner: _, tally: _ } = self;
     }
 }
 
-/// Takes one off a counter, which wraps below 0, and says whether something is left of it.
-fn counts_down(counter: &Cell<u64>) -> bool {
-    let now = counter.get().wrapping_sub(1);
+/// Counts one more, and returns how many there are now.
+fn count(counter: &Cell<u64>) -> u64 {
+    let now = counter.get().wrapping_add(1);
     counter.set(now);
-    now != 0
+    now
 }
 
-/// Takes a request of `size` bytes, and says whether it is granted.
-fn grants(requests: &Requests, size: usize) -> bool {
-    if size == requests.size {
-        let _ = counts_down(&requests.sized);
+/// Counts a request for `size` bytes, and says whether it is granted.
+fn grants(tally: &Tally, size: usize) -> bool {
+    if size == tally.size {
+        let _ = count(&tally.sized);
     }
-    counts_down(&requests.left)
+    let granted = count(&tally.requests) != tally.refuse_at;
+    if granted {
+        let standing = tally.standing.get().wrapping_add(size as u64);
+        tally.standing.set(standing);
+        tally.peak.set(tally.peak.get().max(standing));
+    }
+    granted
+}
+
+/// Counts a block of `size` bytes that comes back.
+fn takes_back(tally: &Tally, size: usize) {
+    let _ = count(&tally.released);
+    let standing = tally.standing.get().wrapping_sub(size as u64);
+    tally.standing.set(standing);
 }
 
 unsafe impl<B: Allocator> Allocator for Refusing<B> {
     ghost dealloc_token = { λ heap ty ptr. B.dealloc_token heap.inner ty ptr };
 
     fn allocate(&self, size: usize, align: usize) -> Result<*mut u8, AllocError> {
-        if grants(&self.requests, size) {
+        if grants(&self.tally, size) {
             return self.inner.allocate(size, align);
         }
         Err(AllocError)
     }
 
     unsafe fn deallocate(&self, ptr: *mut u8, size: usize, align: usize) {
-        let _ = counts_down(&self.kept);
+        takes_back(&self.tally, size);
         self.inner.deallocate(ptr, size, align);
     }
 }
@@ -132,7 +152,7 @@ pub enum Slip {
 
 /// What a run did wrong, if anything.
 fn slip_of<B: Allocator>(heap: &Refusing<B>, answered: bool) -> Option<Slip> {
-    let refuse_at = heap.refuse_at;
+    let refuse_at = heap.tally.refuse_at;
     if heap.granted() != heap.released() {
         return Some(Slip::Unbalanced(refuse_at));
     }

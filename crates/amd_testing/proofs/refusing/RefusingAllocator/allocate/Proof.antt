@@ -37,7 +37,7 @@ use denote.Triple.Call.{calls_at}
 use Rattle.std.proofs.alloc.Shapes.{after}
 use Rattle.std.proofs.alloc.Calls.{Al, α, seen, Answer, answer_val, Answer-typed, Answer-Ok, Answer-err, takes_key, Takes, at_takes}
 use Rattle.std.proofs.alloc.Calls.{Answered, Takes-goes, Takes-gives, answers}
-use Rattle.amd_testing.proofs.Countdown.{Requests, Grants, at_grants, Grants-goes, Grants-gives}
+use Rattle.amd_testing.proofs.Tallies.{Counters, Grants, at_counters, counters_go, grants_gives}
 use Rattle.amd_testing.proofs.refusing.grants.Symbol as c_sym
 use Rattle.amd_testing.proofs.refusing.grants.Met as c_met
 use Rattle.amd_testing.proofs.Wrapped.{args, self}
@@ -80,8 +80,8 @@ module _ (Z : Al) {M : Type 1} {𝓤 : Ura M} (𝓛 : Logic 𝓤) (at_mem : Memo
         let h : Z.row.Denot = r.now.inner in
         let p : ℕ × ℕ = (r.ref_ptr.0, r.ref_ptr.1 + up (align (α Z)) 0) in
         let c : ℕ × ℕ = (r.ref_ptr.0, r.ref_ptr.1 + up 8 (up (align (α Z)) 0 + size (α Z))) in
-        let m : Requests.Denot = r.now.requests in
-        let g : (Grants 𝓛 at_mem run).Ghost = at_grants 𝓛 at_mem run κ₁ q₁ c m n in
+        let m : Counters.Denot = r.now.tally in
+        let g : (Grants 𝓛 at_mem run).Ghost = at_counters 𝓛 at_mem run κ₁ q₁ c m n in
         let y : (Takes Z 𝓛 at_mem run).Ghost = at_takes Z 𝓛 at_mem run κ₁ q₁ p h n a τ in
         let Said : Type 0 = (capped (size τ) ≡ n) × (capped (align τ) ≡ a) in
         qed 𝓛 (((‵ (flft κ₁ q₁) ⊛ ‵ (flft κ₂ q₂) ⊛ ‵ ftrue) ⊛ ‵ (owns (types_at (ended Z).signature.params bound.0.0) bound.0.3 bound.0.4))
@@ -92,11 +92,11 @@ module _ (Z : Al) {M : Type 1} {𝓤 : Ura M} (𝓛 : Logic 𝓤) (at_mem : Memo
         enter ! 𝓣.C 𝓣.Λ (here Z)
         vs _ $ alloc_all ! (λ l. pass_all ! refl ((tt, tt), ((tt, record { fits = fn }), ((tt, record { fits = fa }), tt))) $
         sets ! (addr ! (through ! refl (fld ! refl (stop !)))) refl (tt, tt) $
-        use2 𝓛 (raw ((Grants 𝓛 at_mem run).pre g)) (Grants-goes 𝓛 at_mem run κ₁ q₁ c m n fn) $
+        use2 𝓛 (raw ((Grants 𝓛 at_mem run).pre g)) (counters_go 𝓛 at_mem run κ₁ q₁ c m n fn) $
         calls_at ! (fm_of 𝓤 H 𝓛.laws 𝓣) (Grants 𝓛 at_mem run) kn g
         (and_then ! (get ! refl) (and_then ! (get ! refl) (no_more !))) (λ u.
         use1 𝓛 (later (some (λ (y : Bool). given (u ≡ vbool y) (‵ (flft κ₁ q₁)))))
-        (Grants-gives 𝓛 at_mem run κ₁ q₁ c m n u) $ await ! tt $ pick !
+        (grants_gives 𝓛 at_mem run κ₁ q₁ c m n u) $ await ! tt $ pick !
         (λ granted. learn ! (λ eu. lands_as ! eu refl (tt, tt) $ move ! (1 ∷ []) $
         let there : Env 𝓤 H = env (here Z).locals l in
         first ! $ branches ! (get ! refl)

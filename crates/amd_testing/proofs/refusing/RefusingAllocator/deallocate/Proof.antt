@@ -1,8 +1,8 @@
--- It counts the release, and gives the block back to the inner allocator. Assumes `Logic`.
-use Rattle.std.proofs.Common.{◌≡◌, ℕ, ◌+◌, ◌^◌, ◌<◌, List, [], ◌∷◌, Bool, refl, w64, Bor}
+-- It counts the block that comes back, and gives the block back to the inner allocator. Assumes `Logic`.
+use Rattle.std.proofs.Common.{◌≡◌, ℕ, ◌+◌, ◌^◌, ◌<◌, List, [], ◌∷◌, refl, w64, Bor}
 use seplogic.Ra.Ura.{Ura}
 use mir.Syntax.{Ty, Fn}
-use mir.Val.{Val, vbool, vint, vptr}
+use mir.Val.{Val, vint, vptr}
 use mir.MapTy.{inst_fn}
 use base.Logic.{SProp, ent, id⊢}
 use base.Fml.{Lft, Share, ftrue, flft}
@@ -30,7 +30,7 @@ use denote.Triple.Walked.{Stays, stay_dropped, walk_of, ends_at, walked, Goes-dr
 use mir.Val.{vunit}
 use base.Logic.{never_e}
 use base.Fml.{ffalse, fsep, froom}
-use types.Kit.{Item, ‵, raw, ◌⊛◌, later, given, some, pick, ◌$◌, ◌∵◌, !, qed, by, move, keep, use1, use2, split, split3, join, learn}
+use types.Kit.{Item, ‵, raw, ◌⊛◌, later, given, ◌$◌, ◌∵◌, !, qed, by, move, keep, use1, use2, split, split3, join, learn}
 use types.Kit.{fsplit, fjoin, feq_i, suffices, await, done}
 use types.Run.{unit_lit}
 use types.ByLocal.{alloc_all, pass_all, free_all, look_at, get, through, sets, lands_as}
@@ -38,9 +38,9 @@ use denote.RawPtr.{Ptr, block_ptr, null_ptr, ptr_val, rawptr_vals, rawptr_Tells}
 use denote.Builtin.{usize, RawPtr}
 use denote.Triple.Call.{calls_at}
 use Rattle.std.proofs.alloc.Calls.{Al, α, seen, token, gives_key, Gives, at_gives, Gives-goes, Gives-Gives}
-use Rattle.amd_testing.proofs.Countdown.{CountsDown, at_counts_down, CountsDown-goes, CountsDown-gives}
-use Rattle.amd_testing.proofs.refusing.counts_down.Symbol as c_sym
-use Rattle.amd_testing.proofs.refusing.counts_down.Met as c_met
+use Rattle.amd_testing.proofs.Tallies.{Counters, TakesBack, at_counters, counters_go, takes_back_gives}
+use Rattle.amd_testing.proofs.refusing.takes_back.Symbol as c_sym
+use Rattle.amd_testing.proofs.refusing.takes_back.Met as c_met
 use Rattle.amd_testing.proofs.Wrapped.{args, self}
 use Rattle.amd_testing.specs.contracts.refusing.Refusing as wrapper
 use Rattle.amd_testing.specs.contracts.refusing.RefusingAllocator.deallocate as F
@@ -62,7 +62,7 @@ module _ (Z : Al) where
   )
 
 module _ (Z : Al) {M : Type 1} {𝓤 : Ura M} (𝓛 : Logic 𝓤) (at_mem : Memory → SProp 𝓤) (run : Routine → Fun 𝓤) (𝓣 : Tables 𝓤 𝓛.H)
-    (de : Triple 𝓤 (𝓣.C (gives_key Z)) (Gives Z 𝓛 at_mem run)) (kn : Triple 𝓤 (𝓣.C c_sym.name) (CountsDown 𝓛 at_mem run)) where
+    (de : Triple 𝓤 (𝓣.C (gives_key Z)) (Gives Z 𝓛 at_mem run)) (kn : Triple 𝓤 (𝓣.C c_sym.name) (TakesBack 𝓛 at_mem run)) where
   open 𝓛 use {H}
 
   abbrev held : Clauses 𝓤 (ended Z)
@@ -103,22 +103,22 @@ module _ (Z : Al) {M : Type 1} {𝓤 : Ura M} (𝓛 : Logic 𝓤) (at_mem : Memo
     walk fn fa (block_ptr b o) =
         let h : Z.row.Denot = r.now.inner in
         let p : ℕ × ℕ = (r.ref_ptr.0, r.ref_ptr.1 + up (align (α Z)) 0) in
-        let c : ℕ × ℕ = (r.ref_ptr.0, r.ref_ptr.1 + up 8 (up 8 (up (align (α Z)) 0 + size (α Z)) + 24)) in
+        let c : ℕ × ℕ = (r.ref_ptr.0, r.ref_ptr.1 + up 8 (up (align (α Z)) 0 + size (α Z))) in
         let x : Ptr = block_ptr b o in
+        let m : Counters.Denot = r.now.tally in
+        let g : (TakesBack 𝓛 at_mem run).Ghost = at_counters 𝓛 at_mem run κ₁ q₁ c m n in
         let y : (Gives Z 𝓛 at_mem run).Ghost = at_gives Z 𝓛 at_mem run κ₁ q₁ p h b o n a τ in
         qed 𝓛 (entry x ∷ (raw (fact 𝓤 (κ₂ ⊑ Z.row.lives)) ⊛ raw (fact 𝓤 Said) ⊛ ‵ (fsep (froom τ b o) (token Z h τ x))) ∷ []) ∵
         move ! (1 ∷ []) $ split3 ! $ heard ! (κ₂ ⊑ Z.row.lives) (λ le. heard ! Said (λ said. move ! (1 ∷ []) $
-        split ! $ split ! $ move ! (2 ∷ []) $ fsplit ! $ fsplit ! $ move ! (1 ∷ []) $ unhide ! $ fsplit ! $ fsplit ! $ use1 𝓛
-        (‵ (seen Z κ₁ p h)) (id⊢ 𝓤 _) $ move ! (1 ∷ []) $ fsplit ! $ move ! (1 ∷ []) $ fsplit ! $ keep ! (0 ∷ 7 ∷ 3 ∷ 8 ∷ 9 ∷ []) $
+        split ! $ split ! $ move ! (2 ∷ []) $ fsplit ! $ fsplit ! $ move ! (1 ∷ []) $ unhide ! $ fsplit ! $ fsplit ! $
+        use1 𝓛 (‵ (seen Z κ₁ p h)) (id⊢ 𝓤 _) $ move ! (1 ∷ []) $ fsplit ! $ keep ! (0 ∷ 6 ∷ 2 ∷ 7 ∷ 8 ∷ []) $
         enter ! 𝓣.C 𝓣.Λ (here Z) (vs x) _ $ alloc_all ! (λ l.
         pass_all ! refl ((tt, tt), ((tt, tt), ((tt, record { fits = fn }), ((tt, record { fits = fa }), tt)))) $
         sets ! (addr ! (through ! refl (fld ! refl (stop !)))) refl (tt, tt) $
-        use2 𝓛 (raw ((CountsDown 𝓛 at_mem run).pre (at_counts_down 𝓛 at_mem run κ₁ q₁ c))) (CountsDown-goes 𝓛 at_mem run κ₁ q₁ c) $
-        calls_at ! (fm_of 𝓤 H 𝓛.laws 𝓣) (CountsDown 𝓛 at_mem run) kn (at_counts_down 𝓛 at_mem run κ₁ q₁ c)
-        (and_then ! (get ! refl) (no_more !)) (λ u.
-        use1 𝓛 (later (some (λ (y : Bool). given (u ≡ vbool y) (‵ (flft κ₁ q₁)))))
-        (CountsDown-gives 𝓛 at_mem run κ₁ q₁ c u) $ await ! tt $ pick !
-        (λ some_left. learn ! (λ eu. lands_as ! eu refl (tt, tt) $ move ! (1 ∷ []) $
+        use2 𝓛 (raw ((TakesBack 𝓛 at_mem run).pre g)) (counters_go 𝓛 at_mem run κ₁ q₁ c m n fn) $
+        calls_at ! (fm_of 𝓤 H 𝓛.laws 𝓣) (TakesBack 𝓛 at_mem run) kn g (and_then ! (get ! refl) (and_then ! (get ! refl) (no_more !))) (λ u.
+        use1 𝓛 (later (given (u ≡ vunit) (‵ (flft κ₁ q₁)))) (takes_back_gives 𝓛 at_mem run κ₁ q₁ c m n u) $ await ! tt $
+        learn ! (λ eu. lands_as ! eu refl (tt, tt) $ move ! (1 ∷ []) $
         sets ! (addr ! (through ! refl (fld ! refl (stop !)))) refl (tt, tt) $
         join ! $ move ! (2 ∷ []) $ fsplit ! $ move ! (1 ∷ 2 ∷ []) $ join ! $ move ! (1 ∷ 0 ∷ []) $ join ! $
         use1 𝓛 (raw ((Gives Z 𝓛 at_mem run).pre y)) (Gives-goes Z 𝓛 at_mem run κ₁ q₁ p h (⊑_trans κ₁ κ₂ Z.row.lives inn le) b o n a τ said.0
@@ -130,7 +130,7 @@ module _ (Z : Al) {M : Type 1} {𝓤 : Ura M} (𝓛 : Logic 𝓤) (at_mem : Memo
         suffices ! _ (ends_at 𝓛 (ended Z) (stayed Z) held (bound x) vunit tt (tt, (tt, (tt, (tt, tt)))) (tt, (tt, (tt, (tt, tt))))) $
         nothing ! $ feq_i ! (List Val) (vunit ∷ []) (vunit ∷ [])
         refl $ nothing ! $ nothing ! $ fjoin ! $ nothing ! $ fjoin ! $ nothing ! $ fjoin ! $ nothing ! $ fjoin ! $ join ! $
-        move ! (2 ∷ 3 ∷ []) $ join ! $ join ! $ done !))))))))
+        move ! (2 ∷ 3 ∷ []) $ join ! $ join ! $ done !)))))))
 
 pub deallocate_spec : {M : Type 1} → stated.statement M
 unfolding tables_of
@@ -152,5 +152,5 @@ deallocate_spec 𝓤 𝓛 𝓜 𝓡 wired Y L g d d' met _ =
     (λ κs. ((λ r vs s. s.0), (rawptr_Tells, (uint_Tells w64, (uint_Tells w64, tt)))))
     (λ κs qs bounds a τ are. walk Z 𝓛 𝓜.mem 𝓡.returns 𝓣 (met.deallocate d')
     (cited 𝓤 𝓛.H _ 𝓜 𝓡 𝓡.env c_sym.name (𝓡.env c_sym.name) refl
-    (c_met.met 𝓤 𝓛 𝓜 𝓡 (code.calls-amd_testing::refusing::counts_down 𝓡.env wired))) κs.0 κs.1.0 qs.0 qs.1.0 bounds.0 a.0 a.1.1.0
+    (c_met.met 𝓤 𝓛 𝓜 𝓡 (code.calls-amd_testing::refusing::takes_back 𝓡.env wired))) κs.0 κs.1.0 qs.0 qs.1.0 bounds.0 a.0 a.1.1.0
     a.1.1.1.0 τ are.1.1.0.1 are.1.1.1.0.1 a.1.0)))

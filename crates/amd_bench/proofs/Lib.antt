@@ -1,2 +1,0 @@
-pub mod Tallies
-mod Wrapped
