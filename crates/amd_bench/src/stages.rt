@@ -9,6 +9,7 @@ ghost use Rattle.amd_model.specs.Graph.{Graph};
 ghost use Rattle.amd_model.specs.Input.Columns.{IsColumnForm, IsInput, IsSorted, IsSortedInput};
 ghost use Rattle.amd_model.specs.Input.Pattern.{graph_of};
 ghost use Rattle.amd_edges.specs.Visits.{AreCounts, start_of};
+ghost use Rattle.amd_rounds.specs.Laid.{AreWideEnough};
 ghost use Rattle.amd_workspace.specs.Laying.{IsLaidOut};
 ghost use Rattle.amd_engine.specs.InPlace.{LaysGraph};
 
@@ -102,11 +103,11 @@ fn workspace_words(nzaat: usize, n: usize) -> Option<usize>
 }
 
 /// Eliminates in lists that are laid, and lists the rows.
-fn time_rounds<R: time::Clock + Alloc<A = Global>, I: Index, S: Signed, U: Unsigned>(
+fn time_rounds<R: time::Clock + Alloc<A = Global>, I: Index, S: Signed, P: Signed, U: Unsigned>(
     rt: &R,
     clock: &mut Clock,
     n: I,
-    pe: &mut [Word<S>],
+    pe: &mut [Word<P>],
     iw: &mut [Word<S>],
     len: &mut [Cell<U>],
     free: usize,
@@ -116,8 +117,7 @@ fn time_rounds<R: time::Clock + Alloc<A = Global>, I: Index, S: Signed, U: Unsig
     requires laid { IsLaidOut (length len.old) iw.old pe.old len.old free }
     requires graph { (g : Graph) × (lists : ℕ → List ℕ) × LaysGraph g lists iw.old pe.old len.old }
     requires room { free + length len.old ≤ length iw.old }
-    requires narrow { (length iw.old ≤ S.MOST) × (length iw.old ≤ U.MOST) × (length len.old + 2 ≤ S.MOST) ×
-        (length len.old + 2 ≤ U.MOST) }
+    requires narrow { AreWideEnough S.MOST P.MOST U.MOST (length len.old) (length iw.old) }
 {
     let control = Control::default();
     let threshold = dense_threshold(len.len(), &control);
@@ -157,7 +157,13 @@ fn time_rounds<R: time::Clock + Alloc<A = Global>, I: Index, S: Signed, U: Unsig
 }
 
 /// Lays the lists of rows of known degrees, eliminates and lists, in words of these widths.
-fn time_elimination<R: time::Clock + Alloc<A = Global>, I: Index, S: Signed, U: Unsigned>(
+fn time_elimination<
+    R: time::Clock + Alloc<A = Global>,
+    I: Index,
+    S: Signed,
+    P: Signed,
+    U: Unsigned,
+>(
     rt: &R,
     clock: &mut Clock,
     n: I,
@@ -176,11 +182,10 @@ fn time_elimination<R: time::Clock + Alloc<A = Global>, I: Index, S: Signed, U: 
         ((graph_of (length degrees.now) (map I.value a_p.now) (map I.value a_i.now)).edge) degrees.now }
     requires room { start_of (graph_of (length degrees.now) (map I.value a_p.now) (map I.value a_i.now))
         (length degrees.now) + length degrees.now ≤ room }
-    requires narrow { (length degrees.now + 2 ≤ S.MOST) × (length degrees.now + 2 ≤ U.MOST) × (room ≤ S.MOST) ×
-        (room ≤ U.MOST) }
+    requires narrow { AreWideEnough S.MOST P.MOST U.MOST (length degrees.now) room }
 {
     let size = degrees.len();
-    let mut laid: Laid<S, U, Global> = lay(rt.alloc(), size, a_p, a_i, degrees, room)?;
+    let mut laid: Laid<S, P, U, Global> = lay(rt.alloc(), size, a_p, a_i, degrees, room)?;
     clock.end(rt, "lay");
     time_rounds(
         rt,
@@ -215,13 +220,13 @@ fn time_sorted<R: time::Clock + Alloc<A = Global>, I: PrimInt>(
     let Some(room) = workspace_words(nzaat, count) else {
         bail!("out of memory");
     };
-    if holds::<i32, u32>(count, room, 2) {
-        return time_elimination::<R, I, i32, u32>(rt, clock, n, a_p, a_i, &degrees, room);
+    if holds::<i32, i32, u32>(count, room, 2) {
+        return time_elimination::<R, I, i32, i32, u32>(rt, clock, n, a_p, a_i, &degrees, room);
     }
-    if holds::<isize, usize>(count, room, 2) {
-        return time_elimination::<R, I, isize, usize>(rt, clock, n, a_p, a_i, &degrees, room);
+    if holds::<i32, isize, u32>(count, room, 2) {
+        return time_elimination::<R, I, i32, isize, u32>(rt, clock, n, a_p, a_i, &degrees, room);
     }
-    bail!("out of memory")
+    bail!("too large to time its stages")
 }
 
 /// Orders a matrix by the default control.

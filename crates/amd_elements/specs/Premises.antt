@@ -1,6 +1,6 @@
--- What the parts of making an element ask of a workspace. The greatest word and the greatest cell are given where
--- something is to be written.
-use Rattle.std.specs.Prelude.{ℕ, ℤ, pos, true, false, List, ◌≡◌, ◌<◌, ◌≤◌, ◌+◌, ◌-◌, ◌^◌, ◌⊎◌, length, sum_by}
+-- What the parts of making an element ask of a workspace. The greatest number of a word, of a place and of a cell are
+-- given where something is to be written.
+use Rattle.std.specs.Prelude.{ℕ, ℤ, pos, true, false, List, ◌≡◌, ◌<◌, ◌≤◌, ◌+◌, ◌-◌, ◌^◌, ◌⊎◌, length, sum_by, unsigned_abs}
 use Rattle.amd_model.specs.Quotient.{has}
 use Rattle.amd_words.specs.Words.{num, word, is_place, start, size_of, in_front, classes, rows, Names}
 use Rattle.amd_lists.specs.Lengths.{AreWide}
@@ -20,29 +20,29 @@ pub record IsPivot (me : ℕ) (iw nv pe e_len : List ℤ) (len : List ℕ) (free
   pub clear : (j : ℕ) → in_front nv j ≡ false
 
 -- a pivot that lists no element, whose front is small enough for a mark
-pub record CanBeginOwn (most_word me : ℕ) (iw nv pe e_len : List ℤ) (len : List ℕ) (free : ℕ) : Type 0 where
+pub record CanBeginOwn (most_place me : ℕ) (iw nv pe e_len : List ℤ) (len : List ℕ) (free : ℕ) : Type 0 where
   pub pivot : IsPivot me iw nv pe e_len len free
   pub count : word e_len me ≡ pos 0
-  pub few : sum_by (size_of nv) (front_of iw nv pe len me 0) + 2 ≤ most_word
+  pub few : sum_by (size_of nv) (front_of iw nv pe len me 0) + 2 ≤ most_place
 
 -- a pivot that may list elements, whose new element may have room behind all lists
-pub record CanFit (most_word me : ℕ) (iw nv pe e_len : List ℤ) (len : List ℕ) (free : ℕ) : Type 0 where
+pub record CanFit (most_place me : ℕ) (iw nv pe e_len : List ℤ) (len : List ℕ) (free : ℕ) : Type 0 where
   pub pivot : IsPivot me iw nv pe e_len len free
-  pub wide : AreWide most_word (length nv) iw
+  pub wide : AreWide most_place (length nv) iw
   pub count : is_place (word e_len me) ≡ true
   pub elements : (e : ℕ) → has (elements_in iw pe e_len me) e ≡ true → has_list pe len e ≡ true
 
 -- a pivot that lists elements, whose new element has room behind all lists
-pub record CanMakeElement (most_word most_cell me : ℕ) (iw nv pe e_len : List ℤ) (len w : List ℕ) (free : ℕ) : Type 0
+pub record CanMakeElement (most_place most_cell me : ℕ) (iw nv pe e_len : List ℤ) (len w : List ℕ) (free : ℕ) : Type 0
   where
     pub pivot : IsPivot me iw nv pe e_len len free
     pub counters : length w ≡ length nv
-    pub wide : AreWide most_word (length nv) iw
+    pub wide : AreWide most_place (length nv) iw
     pub cells : length iw ≤ most_cell
     pub count : is_place (word e_len me) ≡ true
     pub elements : HasElements iw pe e_len len me
     pub fits : free + length (built_front iw nv pe e_len len me) ≤ length iw
-    pub few : sum_by (size_of nv) (built_front iw nv pe e_len len me) + 2 ≤ most_word
+    pub few : sum_by (size_of nv) (built_front iw nv pe e_len len me) + 2 ≤ most_place
 
 -- the lists around the class me, which lists n_elements elements, stand before `free`
 pub record HasListsAround (me n_elements : ℕ) (iw nv pe : List ℤ) (len : List ℕ) (free : ℕ) : Type 0 where
@@ -76,36 +76,39 @@ pub record CanGather (iw nv : List ℤ) (from count start free total : ℕ) : Ty
   pub few : sum_by (size_of nv) (grown iw nv start free (classes nv (rows iw from count))) < 2 ^ 63
 
 -- count words name elements, which the row me can absorb
-pub record CanAbsorb (most_word me : ℕ) (iw pe : List ℤ) (w : List ℕ) (from count : ℕ) : Type 0 where
+pub record CanAbsorb (most_place me : ℕ) (iw pe : List ℤ) (w : List ℕ) (from count : ℕ) : Type 0 where
   pub span : IsSpan (length pe) iw from count
   pub lengths : length w ≡ length pe
-  pub small : me + 2 ≤ most_word
+  pub small : me + 2 ≤ most_place
 
 -- the words from one place to another can be the list of the row me, with so many rows
-pub record CanSettle (most_word most_cell me from end total : ℕ) (pe e_len : List ℤ) (len : List ℕ) : Type 0 where
+pub record CanSettle (most_place most_cell me from end total : ℕ) (pe e_len : List ℤ) (len : List ℕ) : Type 0 where
   pub row : (me < length pe) × (me < length e_len) × (me < length len)
-  pub order : (from ≤ end) × (from ≤ most_word)
-  pub few : total + 2 ≤ most_word
+  pub order : (from ≤ end) × (from ≤ most_place)
+  pub few : total + 2 ≤ most_place
   pub fits : end - from ≤ most_cell
 
--- the list of the row j can lend its first word to a mark
-pub record CanMark (most_word j : ℕ) (iw pe : List ℤ) : Type 0 where
+-- the list of the row j can lend its first word to a mark, and that word can stand in place of its start
+pub record CanMark (most_word most_place j : ℕ) (iw pe : List ℤ) : Type 0 where
   pub row : j < length pe
-  pub small : j + 2 ≤ most_word
+  pub small : (j + 2 ≤ most_word) × (most_word ≤ most_place)
   pub is_one : is_place (word pe j) ≡ true
   pub inside : start pe j < length iw
 
--- the list of the row j can move down
-pub record CanMove (most_word j : ℕ) (iw pe : List ℤ) (from to count : ℕ) : Type 0 where
+-- the list of the row j, whose first word is its start, can move down
+pub record CanMove (most_word most_place j : ℕ) (iw pe : List ℤ) (from to count : ℕ) : Type 0 where
   pub row : j < length pe
+  pub first : unsigned_abs (word pe j) ≤ most_word
   pub some : 0 < count
   pub inside : from + count ≤ length iw
   pub down : to ≤ from
-  pub small : to ≤ most_word
+  pub small : to ≤ most_place
 
 -- all lists can move down
-pub record CanCompact (most_word : ℕ) (iw pe : List ℤ) (len : List ℕ) (free : ℕ) : Type 0 where
+pub record CanCompact (most_word most_place : ℕ) (iw pe : List ℤ) (len : List ℕ) (free : ℕ) : Type 0 where
   pub lengths : length pe ≡ length len
-  pub wide : AreWide most_word (length len) iw
+  pub wide : AreWide most_place (length len) iw
+  pub words : (length len + 2 ≤ most_word) × (most_word ≤ most_place)
+  pub fits : (k : ℕ) → k < free → unsigned_abs (word iw k) ≤ most_word
   pub end : free ≤ length iw
   pub layout : Spaced iw pe len free

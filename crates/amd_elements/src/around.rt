@@ -37,11 +37,11 @@ pub trait ListVisitor {
 
 /// Lets a visitor take the lists around the pivot: those of its first `n_elements` words, which name elements, and the
 /// rest of its own words. All of them stand before `end`.
-pub fn visit_around<S: Signed, U: Unsigned, V: ListVisitor>(
+pub fn visit_around<S: Signed, P: Signed, U: Unsigned, V: ListVisitor>(
     visitor: &mut V,
     iw: &mut [Word<S>],
     nv: &mut [Word<S>],
-    pe: &[Word<S>],
+    pe: &[Word<P>],
     len: &[Cell<U>],
     pivot: usize,
     n_elements: usize,

@@ -39,16 +39,16 @@ fn take_pivot<S: Signed>(nv: &mut [Word<S>], me: usize) -> usize
 
 /// Begins the element of a pivot that lists no element, in the place of its list. `pe` is only read.
 #[tactic(none)]
-pub fn begin_own<S: Signed, U: Unsigned>(
+pub fn begin_own<S: Signed, P: Signed, U: Unsigned>(
     iw: &mut [Word<S>],
     nv: &mut [Word<S>],
-    e_len: &mut [Word<S>],
+    e_len: &mut [Word<P>],
     len: &mut [Cell<U>],
-    pe: &mut [Word<S>],
+    pe: &mut [Word<P>],
     me: usize,
     free: usize,
 ) -> Begun
-    requires { CanBeginOwn S.MOST me iw.old nv.old pe.old e_len.old len.old free }
+    requires { CanBeginOwn P.MOST me iw.old nv.old pe.old e_len.old len.old free }
     ensures { BeginsOwn me iw.old nv.old pe.old e_len.old len.old free iw.new nv.new pe.new e_len.new len.new result }
 {
     let (_, total) = make_own(iw, nv, e_len, len, pe, me, free);
@@ -59,17 +59,17 @@ pub fn begin_own<S: Signed, U: Unsigned>(
 /// Begins the element of a pivot that lists elements, behind all lists, where there is room for it. The elements that
 /// it lists end.
 #[tactic(none)]
-pub fn begin_built<S: Signed, U: Unsigned>(
+pub fn begin_built<S: Signed, P: Signed, U: Unsigned>(
     iw: &mut [Word<S>],
     nv: &mut [Word<S>],
-    pe: &mut [Word<S>],
-    e_len: &mut [Word<S>],
+    pe: &mut [Word<P>],
+    e_len: &mut [Word<P>],
     len: &mut [Cell<U>],
     w: &mut [Cell<U>],
     me: usize,
     free: usize,
 ) -> Begun
-    requires { CanMakeElement S.MOST U.MOST me iw.old nv.old pe.old e_len.old len.old w.old free }
+    requires { CanMakeElement P.MOST U.MOST me iw.old nv.old pe.old e_len.old len.old w.old free }
     ensures { BeginsBuilt me iw.old nv.old pe.old e_len.old len.old w.old free iw.new nv.new pe.new e_len.new len.new
         w.new result }
 {

@@ -12,8 +12,8 @@ use amd_words::words::{flipped, named, names_one, put_flip, put_row};
 use amd_words::{Cell, Signed, Unsigned, Word, cell_at, copy_word, put_word, word_at};
 
 /// Puts the mark of row j in place of the first word of its list, and that word in place of its start.
-fn mark_row<S: Signed>(iw: &mut [Word<S>], pe: &mut [Word<S>], j: usize)
-    requires { CanMark S.MOST j iw.old pe.old }
+fn mark_row<S: Signed, P: Signed>(iw: &mut [Word<S>], pe: &mut [Word<P>], j: usize)
+    requires { CanMark S.MOST P.MOST j iw.old pe.old }
     ensures words { iw.new ≡ slice_set iw.old (start pe.old j) (flip_of j) }
     ensures starts { pe.new ≡ slice_set pe.old j (word iw.old (start pe.old j)) }
 {
@@ -34,15 +34,15 @@ fn move_words<S: Signed>(iw: &mut [Word<S>], from: usize, to: usize, count: usiz
 }
 
 /// Moves the list of row j, whose first word is its start, from one place to another.
-fn move_list<S: Signed>(
+fn move_list<S: Signed, P: Signed>(
     iw: &mut [Word<S>],
-    pe: &mut [Word<S>],
+    pe: &mut [Word<P>],
     j: usize,
     from: usize,
     to: usize,
     count: usize,
 )
-    requires { CanMove S.MOST j iw.old pe.old from to count }
+    requires { CanMove S.MOST P.MOST j iw.old pe.old from to count }
     ensures starts { pe.new ≡ slice_set pe.old j (pos to) }
     ensures moves { Moves (slice_set iw.old from (word pe.old j)) iw.new from to count }
 {
@@ -53,13 +53,13 @@ fn move_list<S: Signed>(
 
 /// Moves the lists down so that no word lies between them. Returns the new free end: how many words they have.
 #[cold]
-pub fn compact<S: Signed, U: Unsigned>(
+pub fn compact<S: Signed, P: Signed, U: Unsigned>(
     iw: &mut [Word<S>],
-    pe: &mut [Word<S>],
+    pe: &mut [Word<P>],
     len: &mut [Cell<U>],
     free: usize,
 ) -> usize
-    requires { CanCompact S.MOST iw.old pe.old len.old free }
+    requires { CanCompact S.MOST P.MOST iw.old pe.old len.old free }
     ensures compacts { Compacts iw.old pe.old len.old free iw.new pe.new result }
     ensures same { len.new ≡ len.old }
 {

@@ -67,10 +67,10 @@ impl ListVisitor for Gathering {
 /// Builds the list of the pivot's new element behind the lists: the classes of the pivot's elements, element after
 /// element, and then those of its variables, each at its first occurrence and without the pivot. They and the pivot are
 /// in the front then. Returns the new end, and the number of rows of the front.
-pub fn build<S: Signed, U: Unsigned>(
+pub fn build<S: Signed, P: Signed, U: Unsigned>(
     iw: &mut [Word<S>],
     nv: &mut [Word<S>],
-    pe: &[Word<S>],
+    pe: &[Word<P>],
     len: &[Cell<U>],
     pivot: usize,
     n_elements: usize,

@@ -10,15 +10,15 @@ use amd_words::words::{named, put_flip, put_row};
 use amd_words::{Cell, Signed, Unsigned, Word, put_cell};
 
 /// Ends the elements that some words name: `me` absorbs them.
-pub fn absorb_own<S: Signed, U: Unsigned>(
+pub fn absorb_own<S: Signed, P: Signed, U: Unsigned>(
     iw: &[Word<S>],
-    pe: &mut [Word<S>],
+    pe: &mut [Word<P>],
     w: &mut [Cell<U>],
     from: usize,
     count: usize,
     me: usize,
 )
-    requires { CanAbsorb S.MOST me iw.now pe.old w.old from count }
+    requires { CanAbsorb P.MOST me iw.now pe.old w.old from count }
     ensures { Absorbs me iw.now from count pe.old w.old pe.new w.new }
 {
     for p in from..from + count {
@@ -29,16 +29,16 @@ pub fn absorb_own<S: Signed, U: Unsigned>(
 }
 
 /// Makes the words from `from` to `end` the list of the new element `me`, which has `total` rows.
-pub fn settle<S: Signed, U: Unsigned>(
-    pe: &mut [Word<S>],
-    e_len: &mut [Word<S>],
+pub fn settle<P: Signed, U: Unsigned>(
+    pe: &mut [Word<P>],
+    e_len: &mut [Word<P>],
     len: &mut [Cell<U>],
     me: usize,
     from: usize,
     end: usize,
     total: usize,
 )
-    requires { CanSettle S.MOST U.MOST me from end total pe.old e_len.old len.old }
+    requires { CanSettle P.MOST U.MOST me from end total pe.old e_len.old len.old }
     ensures starts { pe.new ≡ slice_set pe.old me (pos from) }
     ensures counts { e_len.new ≡ slice_set e_len.old me (flip_of total) }
     ensures lengths { len.new ≡ slice_set len.old me (end - from) }

@@ -13,16 +13,16 @@ use amd_words::{Cell, Signed, Unsigned, Word, cell_at, put_cell};
 
 /// Makes the pivot `me`, which lists no element, an element in its own place: the classes that it lists. Returns where
 /// the list ends, and its number of rows.
-pub fn make_own<S: Signed, U: Unsigned>(
+pub fn make_own<S: Signed, P: Signed, U: Unsigned>(
     iw: &mut [Word<S>],
     nv: &mut [Word<S>],
-    e_len: &mut [Word<S>],
+    e_len: &mut [Word<P>],
     len: &mut [Cell<U>],
-    pe: &[Word<S>],
+    pe: &[Word<P>],
     me: usize,
     free: usize,
 ) -> (usize, usize)
-    requires { CanBeginOwn S.MOST me iw.old nv.old pe.now e_len.old len.old free }
+    requires { CanBeginOwn P.MOST me iw.old nv.old pe.now e_len.old len.old free }
     ensures builds { Builds me (front_of iw.old nv.old pe.now len.old me 0) iw.old nv.old (start pe.now me) iw.new
         nv.new result.0 result.1 }
     ensures makes { Makes (length nv.old) me [] (front_of iw.old nv.old pe.now len.old me 0) result.1 iw.old pe.now

@@ -132,10 +132,10 @@ impl ListVisitor for Remainder {
 /// What is left of `room` words when those of the list of the pivot's new element are taken off. The classes of that
 /// list are in the front meanwhile; all that is lent is as before then.
 #[cold]
-fn room_beyond_front<S: Signed, U: Unsigned>(
+fn room_beyond_front<S: Signed, P: Signed, U: Unsigned>(
     iw: &mut [Word<S>],
     nv: &mut [Word<S>],
-    pe: &[Word<S>],
+    pe: &[Word<P>],
     len: &[Cell<U>],
     pivot: usize,
     n_elements: usize,
@@ -156,10 +156,10 @@ fn room_beyond_front<S: Signed, U: Unsigned>(
 }
 
 /// Whether the list of the pivot's new element fits behind `free`. All that is lent is only read, or as before.
-fn fits<S: Signed, U: Unsigned>(
+fn fits<S: Signed, P: Signed, U: Unsigned>(
     iw: &mut [Word<S>],
     nv: &mut [Word<S>],
-    pe: &[Word<S>],
+    pe: &[Word<P>],
     len: &[Cell<U>],
     pivot: usize,
     n_elements: usize,
@@ -178,16 +178,16 @@ fn fits<S: Signed, U: Unsigned>(
 }
 
 /// Whether the list of the new element of the pivot `me` fits behind `free`. All that is lent is only read.
-pub fn has_room<S: Signed, U: Unsigned>(
+pub fn has_room<S: Signed, P: Signed, U: Unsigned>(
     iw: &mut [Word<S>],
     nv: &mut [Word<S>],
-    pe: &mut [Word<S>],
-    e_len: &mut [Word<S>],
+    pe: &mut [Word<P>],
+    e_len: &mut [Word<P>],
     len: &mut [Cell<U>],
     me: usize,
     free: usize,
 ) -> bool
-    requires { CanFit S.MOST me iw.old nv.old pe.old e_len.old len.old free }
+    requires { CanFit P.MOST me iw.old nv.old pe.old e_len.old len.old free }
     ensures fits { result ≡ nat_le (free + length (built_front iw.old nv.old pe.old e_len.old len.old me))
         (length iw.old) }
     ensures same { (iw.new ≡ iw.old) × (nv.new ≡ nv.old) × (pe.new ≡ pe.old) × (e_len.new ≡ e_len.old) ×

@@ -2,3 +2,4 @@ pub mod InPlaceLaw
 pub mod LentPattern
 pub mod RaisedLists
 pub mod EndingLaw
+pub mod Blocks

@@ -9,6 +9,7 @@ ghost use Rattle.amd_model.specs.Input.Held.{HasMarks};
 ghost use Rattle.amd_model.specs.Input.Pattern.{graph_of};
 ghost use Rattle.amd_edges.specs.Visits.{AreCounts, start_of};
 ghost use Rattle.amd_engine_law.specs.Engine.{IsEngineAnswer};
+ghost use Rattle.amd_rounds.specs.Laid.{AreWideEnough};
 
 use crate::amd_2::amd_2_from;
 use amd_types::amd::{Control, Info, Status};
@@ -18,16 +19,21 @@ use amd_workspace::laying::{Laid, lay};
 use num_traits::PrimInt;
 use std::alloc::{AllocError, Allocator};
 
-/// Whether words of these widths hold all numbers of an elimination of `n` rows in `iwlen` words from flag `flag` on.
+/// Whether words, places and cells of these widths hold all numbers of an elimination of `n` rows in `iwlen` words from
+/// flag `flag` on.
 ///
-/// They do where `n + 2` and `iwlen` are at most the maximum of each of the two widths, and `flag` is at most that of
-/// the one without a sign. `n` is below 2^63; any `iwlen` and `flag` are allowed.
-pub fn holds<S: Signed, U: Unsigned>(n: usize, iwlen: usize, flag: usize) -> bool
+/// They do where `n + 2` is at most the maximum of a word, `iwlen` that of a place, `n + 2`, `iwlen` and `flag` that of
+/// a cell, and a place holds any word. `n` is below 2^63; any `iwlen` and `flag` are allowed.
+pub fn holds<S: Signed, P: Signed, U: Unsigned>(n: usize, iwlen: usize, flag: usize) -> bool
     requires { n < 2 ^ 63 }
-    ensures { IsTrue result ↔ ((n + 2 ≤ S.MOST) × (n + 2 ≤ U.MOST) × (iwlen ≤ S.MOST) × (iwlen ≤ U.MOST) ×
-        (flag ≤ U.MOST)) }
+    ensures { IsTrue result ↔ (AreWideEnough S.MOST P.MOST U.MOST n iwlen × (flag ≤ U.MOST)) }
 {
-    n + 2 <= S::MOST && n + 2 <= U::MOST && iwlen <= S::MOST && iwlen <= U::MOST && flag <= U::MOST
+    iwlen <= P::MOST
+        && iwlen <= U::MOST
+        && n + 2 <= S::MOST
+        && n + 2 <= U::MOST
+        && S::MOST <= P::MOST
+        && flag <= U::MOST
 }
 
 /// The largest block, in words of 32 bits, whose return tells the allocator of glibc how much to keep: 32 MB, but for
@@ -72,15 +78,15 @@ fn ask_for_most<A: Allocator + Copy>(alloc: A, n: usize, iwlen: usize) -> Result
 
 /// As `amd_1`, in words of these widths, and with a first flag of 2 or more: the result is the same with each.
 ///
-/// The arguments and results have the shapes that `amd_1` says. Both widths hold `n + 2` and `iwlen`. `amd_1` calls it
-/// with flag 2, and tests with others, in the width that `holds` tells.
+/// The arguments and results have the shapes that `amd_1` says. `amd_1` calls it with flag 2, and tests with others, in
+/// widths that are wide enough, as `holds` tells.
 ///
 /// # Errors
 ///
 /// `OutOfMemory` where a request was refused. What `info` then holds is not said.
 ///
 /// Source: Amestoy, Davis and Duff 1996 and 2004.
-pub fn order_in<I: Index, S: Signed, U: Unsigned, A: Allocator + Copy>(
+pub fn order_in<I: Index, S: Signed, P: Signed, U: Unsigned, A: Allocator + Copy>(
     alloc: A,
     flag: usize,
     n: I,
@@ -101,8 +107,7 @@ pub fn order_in<I: Index, S: Signed, U: Unsigned, A: Allocator + Copy>(
         ((graph_of (length len.now) (map I.value a_p.now) (map I.value a_i.now)).edge) len.now }
     requires room { start_of (graph_of (length len.now) (map I.value a_p.now) (map I.value a_i.now)) (length len.now)
         + length len.now ≤ iwlen }
-    requires narrow { (length len.now + 2 ≤ S.MOST) × (length len.now + 2 ≤ U.MOST) × (iwlen ≤ S.MOST) ×
-        (iwlen ≤ U.MOST) }
+    requires narrow { AreWideEnough S.MOST P.MOST U.MOST (length len.now) iwlen }
     requires flag { 2 ≤ flag }
     requires marks { HasMarks (option_copied hold) (length len.now) }
     ensures orders { IfOk result (λ a. IsEngineAnswer (option_copied hold.entry) (length len.now) control.now.dense
@@ -111,7 +116,7 @@ pub fn order_in<I: Index, S: Signed, U: Unsigned, A: Allocator + Copy>(
     ensures compactions { OnOk result (info.new.n_cmp_a ≤ length len.now) }
     ensures refused { IfErr result (λ e. e ≡ Status.OutOfMemory) }
 {
-    let mut laid: Laid<S, U, A> = lay(alloc, len.len(), a_p, a_i, len, iwlen)?;
+    let mut laid: Laid<S, P, U, A> = lay(alloc, len.len(), a_p, a_i, len, iwlen)?;
     let (_, p_inv, p, _) = amd_2_from(
         alloc,
         flag,
@@ -140,7 +145,7 @@ pub fn order_in<I: Index, S: Signed, U: Unsigned, A: Allocator + Copy>(
 ///
 /// # Errors
 ///
-/// `OutOfMemory` where a request was refused, or neither width of word holds the numbers, which is so only where
+/// `OutOfMemory` where a request was refused, or no width of word holds the numbers, which is so only where
 /// `n + 2` exceeds `isize::MAX`: no memory holds the degrees of so many rows. What `info` then holds is not said.
 ///
 /// Source: Amestoy, Davis and Duff 1996 and 2004.
@@ -174,11 +179,23 @@ pub fn amd_1<I: PrimInt, A: Allocator + Copy>(
 {
     let size = len.len();
     ask_for_most(alloc, size, iwlen)?;
-    if holds::<i32, u32>(size, iwlen, 2) {
-        return order_in::<I, i32, u32, A>(alloc, 2, n, a_p, a_i, len, iwlen, control, hold, info);
+    if holds::<i32, i32, u32>(size, iwlen, 2) {
+        return order_in::<I, i32, i32, u32, A>(
+            alloc, 2, n, a_p, a_i, len, iwlen, control, hold, info,
+        );
     }
-    if holds::<isize, usize>(size, iwlen, 2) {
-        return order_in::<I, isize, usize, A>(
+    if holds::<i32, isize, u32>(size, iwlen, 2) {
+        return order_in::<I, i32, isize, u32, A>(
+            alloc, 2, n, a_p, a_i, len, iwlen, control, hold, info,
+        );
+    }
+    if holds::<i32, isize, usize>(size, iwlen, 2) {
+        return order_in::<I, i32, isize, usize, A>(
+            alloc, 2, n, a_p, a_i, len, iwlen, control, hold, info,
+        );
+    }
+    if holds::<isize, isize, usize>(size, iwlen, 2) {
+        return order_in::<I, isize, isize, usize, A>(
             alloc, 2, n, a_p, a_i, len, iwlen, control, hold, info,
         );
     }

@@ -8,6 +8,7 @@ ghost use Rattle.amd_model.specs.Graph.{Graph};
 ghost use Rattle.amd_model.specs.Input.Held.{HasMarks};
 ghost use Rattle.amd_views.specs.Views.{raised};
 ghost use Rattle.amd_words.specs.Words.{is_place, word};
+ghost use Rattle.amd_rounds.specs.Laid.{AreWideEnough};
 ghost use Rattle.amd_workspace.specs.Laying.{IsLaidOut};
 ghost use Rattle.amd_engine.specs.InPlace.{AnswersInPlace, LaysGraph};
 
@@ -41,38 +42,37 @@ fn tell(told: &Told, info: &mut Info)
     told.figures.write_figures(info);
 }
 
-/// As `amd_2`, in words of a width, with marks, and with a first flag of 2 or more: the result is the same with each.
-/// `amd_1` calls it, and `amd_2`.
+/// As `amd_2`, in words, places and cells of these widths, with marks, and with a first flag of 2 or more: the result
+/// is the same with each. `amd_1` calls it, and `amd_2`.
 ///
-/// The arguments and results have the shapes that `amd_2` says, where `iwlen` is the length of `iw`. Both widths hold
-/// `n + 2` and `iwlen`. `hold`, where it is given, has one mark for each of the `n` rows: those marked are held last
-/// beside the dense ones.
+/// The arguments and results have the shapes that `amd_2` says, where `iwlen` is the length of `iw`. The widths hold an
+/// elimination of `n` rows in `iwlen` words, as `holds` tells. `hold`, where it is given, has one mark for each of the
+/// `n` rows: those marked are held last beside the dense ones.
 ///
 /// # Errors
 ///
 /// `OutOfMemory` where a request was refused. What `info` then holds is not said.
 ///
 /// Source: Amestoy, Davis and Duff 1996 and 2004.
-pub fn amd_2_from<I: Index, S: Signed, U: Unsigned, A: Allocator + Copy>(
+pub fn amd_2_from<I: Index, S: Signed, P: Signed, U: Unsigned, A: Allocator + Copy>(
     alloc: A,
     flag: usize,
     n: I,
-    pe: &mut [Word<S>],
+    pe: &mut [Word<P>],
     iw: &mut [Word<S>],
     len: &mut [Cell<U>],
     pfree: usize,
     control: &Control,
     hold: Option<&[bool]>,
     info: &mut Info,
-) -> Result<(Vec<Word<S>, A>, Vec<I, A>, Vec<I, A>, Vec<Word<S>, A>), Status>
+) -> Result<(Vec<Word<S>, A>, Vec<I, A>, Vec<I, A>, Vec<Word<P>, A>), Status>
     requires fits { I.fits (I.value n) }
     requires size { I.value n ≡ pos (length len.old) }
     requires some { 0 < length len.old }
     requires laid { IsLaidOut (length len.old) iw.old pe.old len.old pfree }
     requires graph { (g : Graph) × (lists : ℕ → List ℕ) × LaysGraph g lists iw.old pe.old len.old }
     requires room { pfree + length len.old ≤ length iw.old }
-    requires narrow { (length iw.old ≤ S.MOST) × (length iw.old ≤ U.MOST) × (length len.old + 2 ≤ S.MOST) ×
-        (length len.old + 2 ≤ U.MOST) }
+    requires narrow { AreWideEnough S.MOST P.MOST U.MOST (length len.old) (length iw.old) }
     requires flag { 2 ≤ flag }
     requires marks { HasMarks (option_copied hold) (length len.old) }
     ensures orders { IfOk result (λ a. (g : Graph) (lists : ℕ → List ℕ) → LaysGraph g lists iw.old pe.old len.old →

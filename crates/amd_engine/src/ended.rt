@@ -31,14 +31,14 @@ fn write_numbers<I: Index, U: Unsigned>(figures: &[Cell<U>], numbers: &mut [I])
 /// and `w`, and writes them into `p` and `p_inv`.
 ///
 /// Each list has `n` places. All but `p` and `p_inv`, in which any numbers are allowed, hold what `run` left. The
-/// caller's type has each number below `n`, and both widths of word hold `n + 2`. For each element, `nv` then has the
-/// number of rows of its block, and `e_len` that of its front; for what is none, 0 and -1. `pe` has the parent of each
-/// element, or -1.
+/// caller's type has each number below `n`, and each width holds `n + 2`. For each element, `nv` then has the number of
+/// rows of its block, and `e_len` that of its front; for what is none, 0 and -1. `pe` has the parent of each element,
+/// or -1.
 ///
 /// Source: Amestoy, Davis and Duff 2004.
-pub fn list_rows<I: Index, S: Signed, U: Unsigned>(
-    pe: &mut [Word<S>],
-    e_len: &mut [Word<S>],
+pub fn list_rows<I: Index, S: Signed, P: Signed, U: Unsigned>(
+    pe: &mut [Word<P>],
+    e_len: &mut [Word<P>],
     nv: &mut [Word<S>],
     degree: &mut [Cell<U>],
     w: &mut [Cell<U>],
@@ -49,7 +49,7 @@ pub fn list_rows<I: Index, S: Signed, U: Unsigned>(
 )
     requires over { AreOver (length pe.old) pe.old e_len.old nv.old degree.old w.old head.old hash.old }
     requires room { (length p.old ≡ length pe.old) × (length p_inv.old ≡ length pe.old) }
-    requires narrow { (length pe.old + 2 ≤ S.MOST) × (length pe.old + 2 ≤ U.MOST) }
+    requires narrow { (length pe.old + 2 ≤ S.MOST) × (S.MOST ≤ P.MOST) × (length pe.old + 2 ≤ U.MOST) }
     requires fits { (k : ℕ) → k < length pe.old → I.fits (pos k) }
     ensures { AreListed (length pe.old) pe.old e_len.old degree.old e_len.new nv.new (map I.value p.new)
         (map I.value p_inv.new) pe.new }

@@ -16,11 +16,11 @@ use std::alloc::{AllocError, Allocator};
 /// After the rounds `head` and `hash` are room for the listing, and `degree` and `w` for the permutation and its
 /// inverse as words.
 #[derive(Drop)]
-pub struct Lists<I: Index, S: Signed, U: Unsigned, A: Allocator> {
+pub struct Lists<I: Index, S: Signed, P: Signed, U: Unsigned, A: Allocator> {
     /// The number of rows of each class, and at the end that of each block.
     pub nv: Vec<Word<S>, A>,
     /// The number of elements of each class, and at the end the number of rows of each front.
-    pub e_len: Vec<Word<S>, A>,
+    pub e_len: Vec<Word<P>, A>,
     /// The bound of each class.
     pub degree: Vec<Cell<U>, A>,
     /// The counter of each row.
@@ -50,18 +50,18 @@ pub fn room_for<I: Index, A: Allocator>(alloc: A, count: usize) -> Result<Vec<I,
 
 /// The lists of an elimination of `n` rows, and room for its result: nine lists of `n` places.
 ///
-/// Both widths hold `n`. Each number of `head` and `hash` is `n`, which names no row. Each number of `nv`, `e_len`,
+/// All widths hold `n`. Each number of `head` and `hash` is `n`, which names no row. Each number of `nv`, `e_len`,
 /// `degree` and `w` is `n` too, which nothing relies on: a loop of stores is faster here than the `memset` that zeros
 /// would become.
 ///
 /// # Errors
 ///
 /// `AllocError` where a request for memory was refused.
-pub fn fresh_lists<I: Index, S: Signed, U: Unsigned, A: Allocator + Copy>(
+pub fn fresh_lists<I: Index, S: Signed, P: Signed, U: Unsigned, A: Allocator + Copy>(
     alloc: A,
     n: usize,
-) -> Result<Lists<I, S, U, A>, AllocError>
-    requires narrow { (n ≤ S.MOST) × (n ≤ U.MOST) }
+) -> Result<Lists<I, S, P, U, A>, AllocError>
+    requires narrow { (n ≤ S.MOST) × (n ≤ P.MOST) × (n ≤ U.MOST) }
     ensures fresh { IfOk result (λ l. AreFresh n l.e_len.items l.nv.items l.degree.items l.w.items l.head.items
         (nexts l.sides.items) (lasts l.sides.items) l.hash.items) }
     ensures rows { IfOk result (λ l. (length l.p.items ≡ n) × (length l.p_inv.items ≡ n)) }

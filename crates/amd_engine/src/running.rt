@@ -6,6 +6,7 @@ ghost use Rattle.std.specs.Option.{option_copied};
 ghost use Rattle.amd_words.specs.Sides.{nexts, lasts};
 ghost use Rattle.amd_model.specs.Graph.{Graph};
 ghost use Rattle.amd_model.specs.Input.Held.{HasMarks};
+ghost use Rattle.amd_rounds.specs.Laid.{AreWideEnough};
 ghost use Rattle.amd_workspace.specs.Laying.{IsLaidOut};
 ghost use Rattle.amd_engine.specs.InPlace.{AreEmpty, AreOver, LaysGraph, RunsInPlace};
 ghost use Rattle.amd_engine.specs.InPlace.{first_sums};
@@ -48,7 +49,7 @@ fn first_figures(n_dense: usize) -> Figures
 /// `iw` is the workspace. The other lists have `n` places each, one for each row. The list of row `i` has `len[i]`
 /// words from `pe[i]` on: its neighbours. The lists fill the first `free` words, and `n` words or more follow them. In
 /// `head` and `hash` each number is `n` or more, so that it names no row; in `e_len`, `nv`, `degree`, `w` and `sides`
-/// any numbers are allowed. Both widths of word hold `n + 2` and the length of `iw`. `flag`, the first one, is 2 or
+/// any numbers are allowed. The widths hold an elimination of `n` rows in so many words. `flag`, the first one, is 2 or
 /// more.
 ///
 /// The rows marked in `hold`, which has one mark for each row where it is given, and those of a degree above
@@ -57,11 +58,11 @@ fn first_figures(n_dense: usize) -> Figures
 /// compacted at most `n` times.
 ///
 /// Source: Amestoy, Davis and Duff 1996 and 2004.
-pub fn run<S: Signed, U: Unsigned>(
+pub fn run<S: Signed, P: Signed, U: Unsigned>(
     iw: &mut [Word<S>],
-    pe: &mut [Word<S>],
+    pe: &mut [Word<P>],
     len: &mut [Cell<U>],
-    e_len: &mut [Word<S>],
+    e_len: &mut [Word<P>],
     nv: &mut [Word<S>],
     degree: &mut [Cell<U>],
     w: &mut [Cell<U>],
@@ -76,8 +77,7 @@ pub fn run<S: Signed, U: Unsigned>(
 ) -> Told
     requires empty { AreEmpty (length len.old) e_len.old nv.old degree.old w.old head.old (nexts sides.old)
         (lasts sides.old) hash.old }
-    requires narrow { (length iw.old ≤ S.MOST) × (length iw.old ≤ U.MOST) × (length len.old + 2 ≤ S.MOST) ×
-        (length len.old + 2 ≤ U.MOST) }
+    requires narrow { AreWideEnough S.MOST P.MOST U.MOST (length len.old) (length iw.old) }
     requires marks { HasMarks (option_copied hold) (length len.old) }
     requires laid { IsLaidOut (length len.old) iw.old pe.old len.old free }
     requires room { free + length len.old ≤ length iw.old }

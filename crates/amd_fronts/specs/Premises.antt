@@ -1,5 +1,6 @@
--- What the parts of turning a front over to its element ask of a workspace. The greatest word and the greatest cell
--- are given where something is to be written.
+-- What the parts of turning a front over to its element ask of a workspace. The greatest word of a row or a size
+-- (most_word), the greatest one of a start or a count (most_place) and the greatest cell are given where something is to
+-- be written.
 use Rattle.std.specs.Prelude.{ℕ, ℤ, true, false, List, ◌≡◌, ◌<◌, ◌≤◌, ◌+◌, length, sum_by}
 use Rattle.amd_model.specs.Quotient.{has, Once}
 use Rattle.amd_words.specs.Words.{num, word, is_place, size_of, in_front, rows, Names}
@@ -18,10 +19,10 @@ pub record CanTouch (most_cell : ℕ) (degree w : List ℕ) (e more flag : ℕ) 
   pub fits : num degree e + flag ≤ most_cell
 
 -- so can that of each element that count words name, which may end in the row me
-pub record CanTouchAll (most_word most_cell me : ℕ) (iw pe : List ℤ) (degree w : List ℕ) (from count more flag : ℕ)
+pub record CanTouchAll (most_place most_cell me : ℕ) (iw pe : List ℤ) (degree w : List ℕ) (from count more flag : ℕ)
     : Type 0 where
   pub lengths : (length degree ≡ length w) × (length pe ≡ length w)
-  pub small : me + 2 ≤ most_word
+  pub small : me + 2 ≤ most_place
   pub inside : from + count ≤ length iw
   pub names : Names (length w) iw from count
   pub once : Once (rows iw from count)
@@ -30,24 +31,24 @@ pub record CanTouchAll (most_word most_cell me : ℕ) (iw pe : List ℤ) (degree
   pub fits : (e : ℕ) → e < length w → num degree e + flag ≤ most_cell
 
 -- the class i, which stands in the list of its bound, can be counted
-pub record CanCountClass (most_word most_cell me : ℕ) (iw pe e_len nv : List ℤ) (degree w head : List ℕ)
+pub record CanCountClass (most_place most_cell me : ℕ) (iw pe e_len nv : List ℤ) (degree w head : List ℕ)
     (sides : List (ℕ × ℕ)) (i flag : ℕ) : Type 0 where
   pub lengths : HasBounds (length w) pe e_len nv degree
   pub more_lengths : HasSides (length w) head sides
   pub row : (i < length w) × (num degree i < length w)
-  pub small : me + 2 ≤ most_word
+  pub small : me + 2 ≤ most_place
   pub listed : IsListed (length w) iw pe e_len nv i
   pub again : (e : ℕ) → has (elements_in iw pe e_len i) e ≡ true → flag ≤ num w e → size_of nv i ≤ num w e
   pub first : (e : ℕ) → has (elements_in iw pe e_len i) e ≡ true → 0 < num w e → size_of nv i ≤ num degree e
   pub fits : (e : ℕ) → e < length w → num degree e + flag ≤ most_cell
 
 -- so can each class of a front, whose list stands in count words, while counters are below the flag
-pub record CanCountFront (most_word most_cell me : ℕ) (iw pe e_len nv : List ℤ) (degree w head : List ℕ)
+pub record CanCountFront (most_place most_cell me : ℕ) (iw pe e_len nv : List ℤ) (degree w head : List ℕ)
     (sides : List (ℕ × ℕ)) (from count flag : ℕ) : Type 0 where
   pub lengths : HasBounds (length w) pe e_len nv degree
   pub more_lengths : HasSides (length w) head sides
   pub inside : from + count ≤ length iw
-  pub small : me + 2 ≤ most_word
+  pub small : me + 2 ≤ most_place
   pub front : NamesFront (length w) iw from count
   pub classes : (i : ℕ) → has (rows iw from count) i ≡ true →
       IsCounted (length w) (rows iw from count) iw pe e_len nv degree i
@@ -63,41 +64,41 @@ pub record CanRenewFlag (most_cell flag : ℕ) (w : List ℕ) : Type 0 where
   pub under : (e : ℕ) → num w e < flag
 
 -- the list of the class i can be renewed
-pub record CanRenewClass (most_word flag me i : ℕ) (iw pe e_len nv : List ℤ) (len w : List ℕ) : Type 0 where
+pub record CanRenewClass (most_word most_place flag me i : ℕ) (iw pe e_len nv : List ℤ) (len w : List ℕ) : Type 0 where
   pub lengths : HasLists (length w) pe e_len len nv
-  pub narrow : length iw ≤ most_word
+  pub narrow : length iw ≤ most_place
   pub row : (me < length w) × (me ≤ most_word)
   pub placed : IsPlaced (length w) iw pe e_len len i
   pub loses : LosesOne (is_kept w) (is_outside nv) iw pe e_len len i
   pub met : AreMet flag w (elements_in iw pe e_len i)
 
 -- the class i of a front can end in the row me
-pub record CanRetire (most_word i me : ℕ) (pe e_len nv : List ℤ) : Type 0 where
+pub record CanRetire (most_place i me : ℕ) (pe e_len nv : List ℤ) : Type 0 where
   pub inside : (i < length pe) × (i < length e_len) × (i < length nv)
-  pub small : me + 2 ≤ most_word
+  pub small : me + 2 ≤ most_place
   pub marked : in_front nv i ≡ true
 
 -- it can be renewed, or end
-pub record CanRenewOrRetire (most_word most_cell flag me i : ℕ) (iw pe e_len nv : List ℤ) (len degree w : List ℕ)
+pub record CanRenewOrRetire (most_word most_place most_cell flag me i : ℕ) (iw pe e_len nv : List ℤ) (len degree w : List ℕ)
     (last : List ℕ) : Type 0 where
   pub lengths : HasLists (length w) pe e_len len nv
   pub more_lengths : (length degree ≡ length w) × (length last ≡ length w)
-  pub narrow : (length iw ≤ most_word) × (length w ≤ most_cell)
-  pub row : (me < length w) × (me + 2 ≤ most_word)
+  pub narrow : (length iw ≤ most_place) × (length w ≤ most_cell)
+  pub row : (me < length w) × (me + 2 ≤ most_place) × (me ≤ most_word)
   pub placed : IsPlaced (length w) iw pe e_len len i
   pub loses : LosesOne (is_kept w) (is_outside nv) iw pe e_len len i
   pub marked : in_front nv i ≡ true
   pub met : AreMet flag w (elements_in iw pe e_len i)
 
 -- so can each class of the front of the new element me
-pub record CanRenewAll (most_word most_cell flag me free : ℕ) (iw pe e_len nv : List ℤ) (len degree w : List ℕ)
+pub record CanRenewAll (most_word most_place most_cell flag me free : ℕ) (iw pe e_len nv : List ℤ) (len degree w : List ℕ)
     (last : List ℕ) : Type 0 where
   pub lengths : HasLists (length w) pe e_len len nv
   pub more_lengths : (length degree ≡ length w) × (length last ≡ length w)
-  pub narrow : (length iw ≤ most_word) × (length w ≤ most_cell)
+  pub narrow : (length iw ≤ most_place) × (length w ≤ most_cell)
   pub end : free ≤ length iw
   pub laid : Layout (length w) iw pe e_len len free
-  pub row : (me < length w) × (me + 2 ≤ most_word)
+  pub row : (me < length w) × (me + 2 ≤ most_place) × (me ≤ most_word)
   pub list : is_place (word pe me) ≡ true
   pub apart : has (list_in iw pe len me) me ≡ false
   pub once : Once (list_in iw pe len me)
@@ -108,14 +109,14 @@ pub record CanRenewAll (most_word most_cell flag me free : ℕ) (iw pe e_len nv 
   pub few : sum_by (size_of nv) (list_in iw pe len me) ≤ most_word
 
 -- the front of the new element me can be turned over to it
-pub record CanTurnFront (most_word most_cell flag me free : ℕ) (iw pe e_len nv : List ℤ) (len degree w head : List ℕ)
+pub record CanTurnFront (most_word most_place most_cell flag me free : ℕ) (iw pe e_len nv : List ℤ) (len degree w head : List ℕ)
     (sides : List (ℕ × ℕ)) : Type 0 where
   pub lengths : HasBounds (length w) pe e_len nv degree × (length len ≡ length w)
   pub more_lengths : HasSides (length w) head sides
-  pub narrow : (length iw ≤ most_word) × (length w ≤ most_cell)
+  pub narrow : (length iw ≤ most_place) × (length w ≤ most_cell)
   pub end : free ≤ length iw
   pub laid : Layout (length w) iw pe e_len len free
-  pub row : (me < length w) × (me + 2 ≤ most_word)
+  pub row : (me < length w) × (me + 2 ≤ most_place) × (me ≤ most_word)
   pub list : IsFrontList iw pe len me free
   pub front : AreTurning (length w) me iw pe e_len nv len degree w
   pub few : sum_by (size_of nv) (list_in iw pe len me) ≤ most_word

@@ -32,8 +32,8 @@ fn touch<U: Unsigned>(w: &mut [Cell<U>], degree: &[Cell<U>], e: usize, more: usi
 
 /// As `touch`. With `aggressive` the pivot `me` absorbs the element if none of its rows is left: its list ends, and its
 /// counter is 0.
-fn touch_or_end<S: Signed, U: Unsigned>(
-    pe: &mut [Word<S>],
+fn touch_or_end<P: Signed, U: Unsigned>(
+    pe: &mut [Word<P>],
     w: &mut [Cell<U>],
     degree: &[Cell<U>],
     e: usize,
@@ -43,7 +43,7 @@ fn touch_or_end<S: Signed, U: Unsigned>(
     aggressive: bool,
 )
     requires touch { CanTouch U.MOST degree.now w.old e more flag }
-    requires end { (e < length pe.old) × (me + 2 ≤ S.MOST) }
+    requires end { (e < length pe.old) × (me + 2 ≤ P.MOST) }
     ensures { TouchesOrEnds aggressive flag more e me degree.now pe.old w.old pe.new w.new }
 {
     touch(w, degree, e, more, flag);
@@ -56,9 +56,9 @@ fn touch_or_end<S: Signed, U: Unsigned>(
 
 /// Takes the `more` rows of a class off the counters of the elements that it lists: they stand in `count` words from
 /// `from` on.
-fn touch_all<S: Signed, U: Unsigned>(
+fn touch_all<S: Signed, P: Signed, U: Unsigned>(
     iw: &[Word<S>],
-    pe: &mut [Word<S>],
+    pe: &mut [Word<P>],
     w: &mut [Cell<U>],
     degree: &[Cell<U>],
     from: usize,
@@ -68,7 +68,7 @@ fn touch_all<S: Signed, U: Unsigned>(
     me: usize,
     aggressive: bool,
 )
-    requires { CanTouchAll S.MOST U.MOST me iw.now pe.old degree.now w.old from count more flag }
+    requires { CanTouchAll P.MOST U.MOST me iw.now pe.old degree.now w.old from count more flag }
     ensures { TouchesAll aggressive flag more me (rows iw.now from count) degree.now pe.old w.old pe.new w.new }
 {
     for q in from..from + count {
@@ -79,12 +79,12 @@ fn touch_all<S: Signed, U: Unsigned>(
 
 /// Takes a class of the front out of the list of its bound, and its rows off the counters of the elements that it
 /// lists.
-fn count_class<S: Signed, U: Unsigned>(
+fn count_class<S: Signed, P: Signed, U: Unsigned>(
     iw: &[Word<S>],
-    e_len: &[Word<S>],
+    e_len: &[Word<P>],
     nv: &[Word<S>],
     degree: &[Cell<U>],
-    pe: &mut [Word<S>],
+    pe: &mut [Word<P>],
     w: &mut [Cell<U>],
     head: &mut [Cell<U>],
     sides: &mut [Sides<U>],
@@ -93,7 +93,7 @@ fn count_class<S: Signed, U: Unsigned>(
     me: usize,
     aggressive: bool,
 )
-    requires { CanCountClass S.MOST U.MOST me iw.now pe.old e_len.now nv.now degree.now w.old head.old sides.old i
+    requires { CanCountClass P.MOST U.MOST me iw.now pe.old e_len.now nv.now degree.now w.old head.old sides.old i
         flag }
     ensures { CountsClass aggressive flag (size_of nv.now i) me i (elements_in iw.now pe.old e_len.now i) degree.now
         pe.old w.old head.old sides.old pe.new w.new head.new sides.new }
@@ -110,10 +110,10 @@ fn count_class<S: Signed, U: Unsigned>(
 /// Counts, for each standing element that a class of the front lists, the rows of its border outside the front: the
 /// rows of each class are taken off the elements that it lists. The front, whose list stands in `count` words from
 /// `from` on, leaves the lists by bound; with `aggressive` the pivot `me` absorbs the elements without rows outside.
-pub fn count_outside<S: Signed, U: Unsigned>(
+pub fn count_outside<S: Signed, P: Signed, U: Unsigned>(
     iw: &[Word<S>],
-    pe: &mut [Word<S>],
-    e_len: &[Word<S>],
+    pe: &mut [Word<P>],
+    e_len: &[Word<P>],
     nv: &[Word<S>],
     degree: &[Cell<U>],
     w: &mut [Cell<U>],
@@ -125,7 +125,7 @@ pub fn count_outside<S: Signed, U: Unsigned>(
     me: usize,
     aggressive: bool,
 )
-    requires { CanCountFront S.MOST U.MOST me iw.now pe.old e_len.now nv.now degree.now w.old head.old sides.old from
+    requires { CanCountFront P.MOST U.MOST me iw.now pe.old e_len.now nv.now degree.now w.old head.old sides.old from
         count flag }
     ensures { CountsOutside aggressive flag me (rows iw.now from count) iw.now pe.old e_len.now nv.now degree.now w.old
         head.old sides.old pe.new w.new head.new sides.new }

@@ -15,18 +15,18 @@ use amd_words::{Cell, Signed, Unsigned, Word, cell_at, put_cell, put_word};
 
 /// Renews the list of the class `i` in its place. Returns the number of its words, the number of rows that it reaches
 /// outside the front, at most the greatest `usize`, and the sum of what it keeps, which wraps.
-fn renew_class<S: Signed, U: Unsigned>(
+fn renew_class<S: Signed, P: Signed, U: Unsigned>(
     iw: &mut [Word<S>],
-    e_len: &mut [Word<S>],
+    e_len: &mut [Word<P>],
     len: &mut [Cell<U>],
-    pe: &[Word<S>],
+    pe: &[Word<P>],
     w: &[Cell<U>],
     nv: &[Word<S>],
     i: usize,
     flag: usize,
     me: usize,
 ) -> (usize, usize, usize)
-    requires { CanRenewClass S.MOST flag me i iw.old pe.now e_len.old nv.now len.old w.now }
+    requires { CanRenewClass S.MOST P.MOST flag me i iw.old pe.now e_len.old nv.now len.old w.now }
     ensures { RenewsClass flag me i iw.old pe.now e_len.old nv.now len.old w.now iw.new e_len.new len.new result.0
         result.1 result.2 }
 {
@@ -60,14 +60,14 @@ fn lower_bound<U: Unsigned>(degree: &mut [Cell<U>], i: usize, outside: usize)
 }
 
 /// Ends a class of the front, whose rows go with the pivot `me`. Returns the number of its rows.
-fn retire<S: Signed>(
-    pe: &mut [Word<S>],
-    e_len: &mut [Word<S>],
+fn retire<S: Signed, P: Signed>(
+    pe: &mut [Word<P>],
+    e_len: &mut [Word<P>],
     nv: &mut [Word<S>],
     i: usize,
     me: usize,
 ) -> usize
-    requires { CanRetire S.MOST i me pe.old e_len.old nv.old }
+    requires { CanRetire P.MOST i me pe.old e_len.old nv.old }
     ensures { Retires i me pe.old e_len.old nv.old pe.new e_len.new nv.new result }
 {
     let gone = size_inside(nv, i);
@@ -79,10 +79,10 @@ fn retire<S: Signed>(
 
 /// Renews the list, the bound and the key of a class of the front, or ends it if it keeps nothing but the new element.
 /// Returns the number of rows that go with the pivot.
-fn renew_or_retire<S: Signed, U: Unsigned>(
+fn renew_or_retire<S: Signed, P: Signed, U: Unsigned>(
     iw: &mut [Word<S>],
-    pe: &mut [Word<S>],
-    e_len: &mut [Word<S>],
+    pe: &mut [Word<P>],
+    e_len: &mut [Word<P>],
     nv: &mut [Word<S>],
     w: &[Cell<U>],
     len: &mut [Cell<U>],
@@ -92,8 +92,8 @@ fn renew_or_retire<S: Signed, U: Unsigned>(
     flag: usize,
     me: usize,
 ) -> usize
-    requires { CanRenewOrRetire S.MOST U.MOST flag me i iw.old pe.old e_len.old nv.old len.old degree.old w.now
-        (lasts sides.old) }
+    requires { CanRenewOrRetire S.MOST P.MOST U.MOST flag me i iw.old pe.old e_len.old nv.old len.old degree.old
+        w.now (lasts sides.old) }
     ensures { RenewsOrRetires flag me i w.now iw.old pe.old e_len.old nv.old len.old degree.old sides.old iw.new pe.new
         e_len.new nv.new len.new degree.new sides.new result }
 {
@@ -109,10 +109,10 @@ fn renew_or_retire<S: Signed, U: Unsigned>(
 /// Renews the list of each class of the new element's list in its place, makes its bound no greater than the number of
 /// rows that it reaches outside the front, and leaves its key in `sides`, in place of the row before it. A class that
 /// keeps nothing but the new element ends. Returns the number of rows of those that ended. All lists end before `free`.
-pub fn renew_all<S: Signed, U: Unsigned>(
+pub fn renew_all<S: Signed, P: Signed, U: Unsigned>(
     iw: &mut [Word<S>],
-    pe: &mut [Word<S>],
-    e_len: &mut [Word<S>],
+    pe: &mut [Word<P>],
+    e_len: &mut [Word<P>],
     nv: &mut [Word<S>],
     len: &mut [Cell<U>],
     degree: &mut [Cell<U>],
@@ -122,8 +122,8 @@ pub fn renew_all<S: Signed, U: Unsigned>(
     me: usize,
     free: usize,
 ) -> usize
-    requires { CanRenewAll S.MOST U.MOST flag me free iw.old pe.old e_len.old nv.old len.old degree.old w.now
-        (lasts sides.old) }
+    requires { CanRenewAll S.MOST P.MOST U.MOST flag me free iw.old pe.old e_len.old nv.old len.old degree.old
+        w.now (lasts sides.old) }
     ensures { RenewsAllClasses flag me w.now free iw.old pe.old e_len.old nv.old len.old degree.old sides.old iw.new
         pe.new e_len.new nv.new len.new degree.new sides.new result }
 {

@@ -15,10 +15,10 @@ use amd_words::{Cell, Signed, Unsigned, Word, cell_at};
 /// outside the front, and renews the lists, bounds and keys of the classes. With `aggressive` the elements without
 /// rows outside end, and a class that keeps nothing but the new element always ends. Returns the number of rows of the
 /// classes that ended. All lists end before `free`.
-pub fn turn<S: Signed, U: Unsigned>(
+pub fn turn<S: Signed, P: Signed, U: Unsigned>(
     iw: &mut [Word<S>],
-    pe: &mut [Word<S>],
-    e_len: &mut [Word<S>],
+    pe: &mut [Word<P>],
+    e_len: &mut [Word<P>],
     nv: &mut [Word<S>],
     len: &mut [Cell<U>],
     degree: &mut [Cell<U>],
@@ -30,8 +30,8 @@ pub fn turn<S: Signed, U: Unsigned>(
     flag: usize,
     aggressive: bool,
 ) -> usize
-    requires { CanTurnFront S.MOST U.MOST flag me free iw.old pe.old e_len.old nv.old len.old degree.old w.old head.old
-        sides.old }
+    requires { CanTurnFront S.MOST P.MOST U.MOST flag me free iw.old pe.old e_len.old nv.old len.old degree.old w.old
+        head.old sides.old }
     ensures { Turns aggressive flag me free iw.old pe.old e_len.old nv.old len.old degree.old w.old head.old
         sides.old iw.new pe.new e_len.new nv.new len.new degree.new w.new head.new sides.new result }
 {

@@ -15,10 +15,10 @@ use amd_words::{Cell, Signed, Unsigned, Word};
 /// which it is linked, `nv` the number of rows of each block, and `f_size` that of each front. `child` and `sibling`
 /// are room, and so are `p` and `p_inv` until the listing is written; what the four held goes. Links are shortened; an
 /// element keeps its parent.
-pub fn listing<S: Signed, U: Unsigned>(
-    link: &mut [Word<S>],
+pub fn listing<S: Signed, P: Signed, U: Unsigned>(
+    link: &mut [Word<P>],
     nv: &[Word<S>],
-    f_size: &[Word<S>],
+    f_size: &[Word<P>],
     child: &mut [Cell<U>],
     sibling: &mut [Cell<U>],
     p: &mut [Cell<U>],
@@ -27,7 +27,7 @@ pub fn listing<S: Signed, U: Unsigned>(
     requires ended { HasEnded link.old nv.now f_size.now }
     requires lengths { (length child.old ≡ length nv.now) × (length sibling.old ≡ length nv.now) ×
         (length p.old ≡ length nv.now) × (length p_inv.old ≡ length nv.now) }
-    requires narrow { (length nv.now + 2 ≤ S.MOST) × (length nv.now + 2 ≤ U.MOST) }
+    requires narrow { (length nv.now + 2 ≤ P.MOST) × (length nv.now + 2 ≤ U.MOST) }
     ensures lists { (rows : List ℕ) × (map pos p.new ≡ map pos rows) × ListsEnded link.old nv.now f_size.now rows }
     ensures inverse { AreInverse (length nv.now) (map pos p.new) (map pos p_inv.new) }
     ensures shortens { Shortens nv.now link.old link.new }

@@ -13,7 +13,7 @@ use amd_words::words::{named, names_one, put_row, size_outside};
 use amd_words::{Cell, Signed, Unsigned, Word, cell_at, put_cell};
 
 /// The element to which the links from a row lead.
-fn root_of<S: Signed>(link: &[Word<S>], nv: &[Word<S>], v: usize) -> usize
+fn root_of<S: Signed, P: Signed>(link: &[Word<P>], nv: &[Word<S>], v: usize) -> usize
     requires led { (home : ℕ → Home) × LinksAre (length nv.now) link.now nv.now home × (gone_at (home v) ≡ true) }
     ensures within { result < length nv.now }
     ensures rows { 0 < size_of nv.now result }
@@ -27,11 +27,11 @@ fn root_of<S: Signed>(link: &[Word<S>], nv: &[Word<S>], v: usize) -> usize
 }
 
 /// Links a row and those on the way from it to their element straight to that.
-fn shortcut<S: Signed>(link: &mut [Word<S>], nv: &[Word<S>], v: usize, root: usize)
+fn shortcut<S: Signed, P: Signed>(link: &mut [Word<P>], nv: &[Word<S>], v: usize, root: usize)
     requires led { (home : ℕ → Home) × LinksAre (length nv.now) link.old nv.now home × (gone_at (home v) ≡ true) }
     requires root { (root < length nv.now) × (0 < size_of nv.now root) }
     requires home { (home : ℕ → Home) → LinksAre (length nv.now) link.old nv.now home → home v ≡ Gone root }
-    requires narrow { length nv.now ≤ S.MOST }
+    requires narrow { length nv.now ≤ P.MOST }
     ensures { Shortens nv.now link.old link.new }
 {
     let mut row = v;
@@ -43,10 +43,10 @@ fn shortcut<S: Signed>(link: &mut [Word<S>], nv: &[Word<S>], v: usize, root: usi
 }
 
 /// The element to which the links from a row lead, where the row is no element. Two or more links are shortened.
-fn element_of<S: Signed>(link: &mut [Word<S>], nv: &[Word<S>], v: usize) -> usize
+fn element_of<S: Signed, P: Signed>(link: &mut [Word<P>], nv: &[Word<S>], v: usize) -> usize
     requires led { (home : ℕ → Home) × LinksAre (length nv.now) link.old nv.now home × (gone_at (home v) ≡ true) }
     requires apart { size_of nv.now v ≡ 0 }
-    requires narrow { length nv.now ≤ S.MOST }
+    requires narrow { length nv.now ≤ P.MOST }
     ensures within { result < length nv.now }
     ensures rows { 0 < size_of nv.now result }
     ensures home { (home : ℕ → Home) → LinksAre (length nv.now) link.old nv.now home → home v ≡ Gone result }
@@ -86,8 +86,8 @@ pub fn put_listed<U: Unsigned>(p: &mut [Cell<U>], p_inv: &mut [Cell<U>], v: usiz
 
 /// Puts the rows that are no element at their places, rising: each at the next place of its block, and those held last
 /// behind all blocks.
-fn place_others<S: Signed, U: Unsigned>(
-    link: &mut [Word<S>],
+fn place_others<S: Signed, P: Signed, U: Unsigned>(
+    link: &mut [Word<P>],
     nv: &[Word<S>],
     place: &mut [Cell<U>],
     end: usize,
@@ -95,7 +95,7 @@ fn place_others<S: Signed, U: Unsigned>(
     p_inv: &mut [Cell<U>],
 )
     requires lengths { (length p.old ≡ length nv.now) × (length p_inv.old ≡ length nv.now) }
-    requires narrow { (length nv.now ≤ S.MOST) × (length nv.now ≤ U.MOST) }
+    requires narrow { (length nv.now ≤ P.MOST) × (length nv.now ≤ U.MOST) }
     requires blocks { (home : ℕ → Home) × (elements : List ℕ) × AreBlocks link.old nv.now place.old end home elements }
     requires pivots { PivotsPlaced nv.now place.old (map pos p.old) (map pos p_inv.old) }
     ensures placed { (home : ℕ → Home) (elements : List ℕ) → AreBlocks link.old nv.now place.old end home elements →
@@ -121,8 +121,8 @@ fn place_others<S: Signed, U: Unsigned>(
 /// Writes the listing of the blocks of the elements and its inverse: of each block, which starts where `starts` says,
 /// the other rows rising before its pivot row, which is there, and from `end` on the rows held last, rising. Links are
 /// shortened, so that an element keeps its parent; what `starts` then holds is not said.
-pub fn place_rows<S: Signed, U: Unsigned>(
-    link: &mut [Word<S>],
+pub fn place_rows<S: Signed, P: Signed, U: Unsigned>(
+    link: &mut [Word<P>],
     nv: &[Word<S>],
     starts: &mut [Cell<U>],
     end: usize,
@@ -131,7 +131,7 @@ pub fn place_rows<S: Signed, U: Unsigned>(
 )
     requires lengths { (length link.old ≡ length nv.now) × (length starts.old ≡ length nv.now) ×
         (length p.old ≡ length nv.now) × (length p_inv.old ≡ length nv.now) }
-    requires narrow { (length nv.now + 2 ≤ S.MOST) × (length nv.now + 2 ≤ U.MOST) }
+    requires narrow { (length nv.now + 2 ≤ P.MOST) × (length nv.now + 2 ≤ U.MOST) }
     requires blocks { (home : ℕ → Home) × (elements : List ℕ) × LinksAre (length nv.now) link.old nv.now home ×
         AreElements (length nv.now) home elements nv.now × AreStarts (length nv.now) elements nv.now starts.old end ×
         ((v : ℕ) → live_at (home v) ≡ false) }

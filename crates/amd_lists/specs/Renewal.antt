@@ -85,11 +85,12 @@ abbrev pub near_words : List ℤ → List ℤ → ℕ → ℕ → ℕ → List �
 near_words nv iw from n_elements count = filter (is_outside nv) (rows iw (from + n_elements) (count - n_elements))
 
 -- a list of count words, the first of which name elements, keeps less than it has, so that there is room for the new
--- element me; words go up to most_word
-pub record CanRenew (most_word flag me : ℕ) (w : List ℕ) (nv iw : List ℤ) (from n_elements count : ℕ) : Type 0 where
+-- element me; words go up to most_word, and other cells up to most_cell
+pub record CanRenew (most_word most_cell flag me : ℕ) (w : List ℕ) (nv iw : List ℤ) (from n_elements count : ℕ) : Type 0 where
   pub lengths : length nv ≡ length w
   pub inside : from + count ≤ length iw
-  pub narrow : length iw ≤ most_word
+  pub long : length iw < 2 ^ 63
+  pub few : count ≤ most_cell
   pub parts : n_elements ≤ count
   pub names : Names (length w) iw from count
   pub row : (me < length w) × (me ≤ most_word)

@@ -243,7 +243,7 @@ pub fn renew_list<S: Signed, U: Unsigned>(
     flag: usize,
     me: usize,
 ) -> (usize, usize, usize, usize)
-    requires { CanRenew S.MOST flag me w.now nv.now iw.old from n_elements count }
+    requires { CanRenew S.MOST U.MOST flag me w.now nv.now iw.old from n_elements count }
     ensures { RenewsList flag me w.now nv.now iw.old from n_elements count iw.new result.0 result.1 result.2 result.3 }
 {
     let narrow = S::MOST <= u32::MAX as usize && U::MOST <= u32::MAX as usize;

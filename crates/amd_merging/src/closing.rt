@@ -11,8 +11,8 @@ use amd_words::{Cell, Signed, Unsigned, Word, put_cell};
 /// Closes the element `me`, whose list stands from `from` to `end` now: writes its length, the rows of block and border
 /// together, and those of the border. If no other list ends behind `from`, the free end may go back to `end`; the
 /// caller moves it.
-pub fn close<S: Signed, U: Unsigned>(
-    e_len: &mut [Word<S>],
+pub fn close<P: Signed, U: Unsigned>(
+    e_len: &mut [Word<P>],
     len: &mut [Cell<U>],
     degree: &mut [Cell<U>],
     me: usize,
@@ -21,7 +21,7 @@ pub fn close<S: Signed, U: Unsigned>(
     block: usize,
     border: usize,
 )
-    requires { CanClose S.MOST U.MOST me from end block border e_len.old len.old degree.old }
+    requires { CanClose P.MOST U.MOST me from end block border e_len.old len.old degree.old }
     ensures { ClosesElement me from end block border e_len.old len.old degree.old e_len.new len.new degree.new }
 {
     put_flip(e_len, me, block + border);

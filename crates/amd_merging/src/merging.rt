@@ -62,8 +62,8 @@ fn all_marked<S: Signed, U: Unsigned>(
 }
 
 /// Whether a class has so many words and elements.
-fn is_as_long<S: Signed, U: Unsigned>(
-    e_len: &[Word<S>],
+fn is_as_long<P: Signed, U: Unsigned>(
+    e_len: &[Word<P>],
     len: &[Cell<U>],
     j: usize,
     count: usize,
@@ -89,8 +89,8 @@ pub fn bucket_at<U: Unsigned>(sides: &[Sides<U>], i: usize, count: usize) -> usi
 }
 
 /// Whether some class of a bucket has the key given and so many words and elements.
-fn any_as_long<S: Signed, U: Unsigned>(
-    e_len: &[Word<S>],
+fn any_as_long<P: Signed, U: Unsigned>(
+    e_len: &[Word<P>],
     len: &[Cell<U>],
     sides: &[Sides<U>],
     head: usize,
@@ -119,8 +119,8 @@ fn any_as_long<S: Signed, U: Unsigned>(
 
 /// Whether the list of the class `i` is to be compared with that of some class of a bucket: one that has its key, and
 /// as many words and elements.
-fn is_compared<S: Signed, U: Unsigned>(
-    e_len: &[Word<S>],
+fn is_compared<P: Signed, U: Unsigned>(
+    e_len: &[Word<P>],
     len: &[Cell<U>],
     sides: &[Sides<U>],
     head: usize,
@@ -142,10 +142,10 @@ fn is_compared<S: Signed, U: Unsigned>(
 }
 
 /// Whether a class has so many words and elements, and each of its words is marked.
-fn is_like<S: Signed, U: Unsigned>(
+fn is_like<S: Signed, P: Signed, U: Unsigned>(
     iw: &[Word<S>],
-    pe: &[Word<S>],
-    e_len: &[Word<S>],
+    pe: &[Word<P>],
+    e_len: &[Word<P>],
     len: &[Cell<U>],
     w: &[Cell<U>],
     j: usize,
@@ -166,10 +166,10 @@ fn is_like<S: Signed, U: Unsigned>(
 }
 
 /// The first class of a bucket with so many words and elements whose words are all marked, or the number of rows.
-fn walk<S: Signed, U: Unsigned>(
+fn walk<S: Signed, P: Signed, U: Unsigned>(
     iw: &[Word<S>],
-    pe: &[Word<S>],
-    e_len: &[Word<S>],
+    pe: &[Word<P>],
+    e_len: &[Word<P>],
     len: &[Cell<U>],
     w: &[Cell<U>],
     sides: &[Sides<U>],
@@ -195,10 +195,10 @@ fn walk<S: Signed, U: Unsigned>(
 
 /// The class of a bucket that keeps the same elements and variables as the class `i`, or the number of rows if there is
 /// none. The words of `i` are marked with the flag.
-fn find<S: Signed, U: Unsigned>(
+fn find<S: Signed, P: Signed, U: Unsigned>(
     iw: &[Word<S>],
-    pe: &[Word<S>],
-    e_len: &[Word<S>],
+    pe: &[Word<P>],
+    e_len: &[Word<P>],
     len: &[Cell<U>],
     w: &mut [Cell<U>],
     sides: &[Sides<U>],
@@ -227,14 +227,14 @@ fn add_inside<S: Signed>(nv: &mut [Word<S>], i: usize, j: usize)
 }
 
 /// Merges a class of the front into another one: it has no rows and no list, and is linked to that one.
-fn merge<S: Signed>(
-    pe: &mut [Word<S>],
-    e_len: &mut [Word<S>],
+fn merge<S: Signed, P: Signed>(
+    pe: &mut [Word<P>],
+    e_len: &mut [Word<P>],
     nv: &mut [Word<S>],
     i: usize,
     j: usize,
 )
-    requires { CanMergeInto S.MOST i j pe.old e_len.old nv.old }
+    requires { CanMergeInto S.MOST P.MOST i j pe.old e_len.old nv.old }
     ensures links { pe.new ≡ slice_set pe.old i (flip_of j) }
     ensures lists { e_len.new ≡ slice_set e_len.old i (negsuc 0) }
     ensures adds { AddsInside i j nv.old nv.new }
@@ -258,10 +258,10 @@ fn push<U: Unsigned>(hash: &mut [Cell<U>], sides: &mut [Sides<U>], i: usize, key
 /// Merges a class of the front into one of its bucket that keeps the same elements and variables, or, if there is none,
 /// puts it into the bucket. The list of the front has `count` words. Returns the next flag, which rises by 1 only where
 /// the list of `i` was spread for comparison.
-fn merge_one<S: Signed, U: Unsigned>(
+fn merge_one<S: Signed, P: Signed, U: Unsigned>(
     iw: &[Word<S>],
-    pe: &mut [Word<S>],
-    e_len: &mut [Word<S>],
+    pe: &mut [Word<P>],
+    e_len: &mut [Word<P>],
     len: &[Cell<U>],
     nv: &mut [Word<S>],
     w: &mut [Cell<U>],
@@ -271,7 +271,8 @@ fn merge_one<S: Signed, U: Unsigned>(
     i: usize,
     flag: usize,
 ) -> usize
-    requires { CanMergeOne S.MOST U.MOST count i flag iw.now pe.old e_len.old nv.old len.now w.old hash.old sides.old }
+    requires { CanMergeOne S.MOST P.MOST U.MOST count i flag iw.now pe.old e_len.old nv.old len.now w.old hash.old
+        sides.old }
     ensures { MergesOne count i flag iw.now pe.old e_len.old nv.old len.now w.old hash.old sides.old pe.new e_len.new
         nv.new w.new hash.new sides.new result }
 {
@@ -302,10 +303,10 @@ fn is_class<S: Signed>(nv: &[Word<S>], i: usize) -> bool
 /// first: the last one represents the others, and the classes that are left are its representatives. The buckets are
 /// empty before; after it the head of each one that is not is a class that is left, which belongs into it. Where
 /// the list names one row at most, all stays as it is. `iw` and `len` are only read. Returns the next flag.
-pub fn merge_front<S: Signed, U: Unsigned>(
+pub fn merge_front<S: Signed, P: Signed, U: Unsigned>(
     iw: &mut [Word<S>],
-    pe: &mut [Word<S>],
-    e_len: &mut [Word<S>],
+    pe: &mut [Word<P>],
+    e_len: &mut [Word<P>],
     len: &mut [Cell<U>],
     nv: &mut [Word<S>],
     w: &mut [Cell<U>],
@@ -315,7 +316,7 @@ pub fn merge_front<S: Signed, U: Unsigned>(
     count: usize,
     flag: usize,
 ) -> usize
-    requires { CanMergeFront S.MOST U.MOST from count flag iw.old pe.old e_len.old nv.old len.old w.old hash.old
+    requires { CanMergeFront S.MOST P.MOST U.MOST from count flag iw.old pe.old e_len.old nv.old len.old w.old hash.old
         sides.old }
     ensures merges { MergesClasses from count flag iw.old pe.old e_len.old nv.old len.old w.old sides.old pe.new
         e_len.new nv.new w.new hash.new sides.new result }

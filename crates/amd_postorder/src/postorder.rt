@@ -17,13 +17,13 @@ use amd_types::internal::EMPTY;
 use std::alloc::Allocator;
 
 /// The parent of a place, if it holds an element that has one.
-fn parent_of<N: Number>(j: usize, parent: &[N], nv: &[N]) -> Option<usize>
+fn parent_of<N: Number, V: Number>(j: usize, parent: &[N], nv: &[V]) -> Option<usize>
     requires in_parent { j < length parent.now }
     requires in_nv { j < length nv.now }
-    ensures { result ≡ cond (is_tree_element (length (N.read nv.now)) (N.read nv.now) j)
+    ensures { result ≡ cond (is_tree_element (length (V.read nv.now)) (V.read nv.now) j)
         (named (at (N.read parent.now) j)) None }
 {
-    if N::number_at(nv, j) > 0 {
+    if V::number_at(nv, j) > 0 {
         usize::try_from(N::number_at(parent, j)).ok()
     } else {
         None
@@ -31,13 +31,13 @@ fn parent_of<N: Number>(j: usize, parent: &[N], nv: &[N]) -> Option<usize>
 }
 
 /// Whether a place holds an element without a parent.
-fn is_root<N: Number>(j: usize, parent: &[N], nv: &[N]) -> bool
+fn is_root<N: Number, V: Number>(j: usize, parent: &[N], nv: &[V]) -> bool
     requires in_parent { j < length parent.now }
     requires in_nv { j < length nv.now }
-    ensures { result ≡ (is_tree_element (length (N.read nv.now)) (N.read nv.now) j &&
+    ensures { result ≡ (is_tree_element (length (V.read nv.now)) (V.read nv.now) j &&
         is_none (named (at (N.read parent.now) j))) }
 {
-    N::number_at(nv, j) > 0 && N::number_at(parent, j) < 0
+    V::number_at(nv, j) > 0 && N::number_at(parent, j) < 0
 }
 
 /// The heavier one of an element, if there is one, and `j`; `j` where they have the same size.
@@ -65,21 +65,21 @@ fn clear_links<L: Link>(links: &mut [L], nn: usize)
 }
 
 /// Links each place to its heaviest child, the last one of those, in two lists alike.
-fn link_heaviest<N: Number, L: Link>(
+fn link_heaviest<N: Number, V: Number, L: Link>(
     nn: usize,
     parent: &[N],
-    nv: &[N],
+    nv: &[V],
     f_size: &[N],
     heaviest: &mut [L],
     child: &mut [L],
 )
-    requires forest { IsElementForest nn (N.read parent.now) (N.read nv.now) (N.read f_size.now) }
+    requires forest { IsElementForest nn (N.read parent.now) (V.read nv.now) (N.read f_size.now) }
     requires numbers { nn ≤ L.reach }
     requires unlinked { AreUnlinked nn (L.read heaviest.old) }
     requires child { AreUnlinked nn (L.read child.old) }
-    ensures heaviest { AreHeaviest (tree_of nn (N.read parent.now) (N.read nv.now) (N.read f_size.now)) nn
+    ensures heaviest { AreHeaviest (tree_of nn (N.read parent.now) (V.read nv.now) (N.read f_size.now)) nn
         (L.read heaviest.new) }
-    ensures child { AreHeaviest (tree_of nn (N.read parent.now) (N.read nv.now) (N.read f_size.now)) nn
+    ensures child { AreHeaviest (tree_of nn (N.read parent.now) (V.read nv.now) (N.read f_size.now)) nn
         (L.read child.new) }
 {
     'elements: for j in 0..nn {
@@ -93,23 +93,23 @@ fn link_heaviest<N: Number, L: Link>(
 }
 
 /// Links the children of each place: rising, before the heaviest one, which is linked alone at first.
-fn link_children<N: Number, L: Link>(
+fn link_children<N: Number, V: Number, L: Link>(
     nn: usize,
     parent: &[N],
-    nv: &[N],
+    nv: &[V],
     heaviest: &[L],
     child: &mut [L],
     sibling: &mut [L],
 )
-    requires heaviest { (f_size : List ℤ) × IsElementForest nn (N.read parent.now) (N.read nv.now) f_size ×
-        AreHeaviest (tree_of nn (N.read parent.now) (N.read nv.now) f_size) nn (L.read heaviest.now) ×
-        AreHeaviest (tree_of nn (N.read parent.now) (N.read nv.now) f_size) nn (L.read child.old) }
+    requires heaviest { (f_size : List ℤ) × IsElementForest nn (N.read parent.now) (V.read nv.now) f_size ×
+        AreHeaviest (tree_of nn (N.read parent.now) (V.read nv.now) f_size) nn (L.read heaviest.now) ×
+        AreHeaviest (tree_of nn (N.read parent.now) (V.read nv.now) f_size) nn (L.read child.old) }
     requires numbers { nn ≤ L.reach }
     requires sibling { AreUnlinked nn (L.read sibling.old) }
-    ensures { (f_size : List ℤ) → IsElementForest nn (N.read parent.now) (N.read nv.now) f_size →
-        AreHeaviest (tree_of nn (N.read parent.now) (N.read nv.now) f_size) nn (L.read heaviest.now) →
-        AreHeaviest (tree_of nn (N.read parent.now) (N.read nv.now) f_size) nn (L.read child.old) →
-        AreLinked (tree_of nn (N.read parent.now) (N.read nv.now) f_size) (L.read child.new) (L.read sibling.new) }
+    ensures { (f_size : List ℤ) → IsElementForest nn (N.read parent.now) (V.read nv.now) f_size →
+        AreHeaviest (tree_of nn (N.read parent.now) (V.read nv.now) f_size) nn (L.read heaviest.now) →
+        AreHeaviest (tree_of nn (N.read parent.now) (V.read nv.now) f_size) nn (L.read child.old) →
+        AreLinked (tree_of nn (N.read parent.now) (V.read nv.now) f_size) (L.read child.new) (L.read sibling.new) }
 {
     'elements: for j in (0..nn).rev() {
         let Some(p) = parent_of(j, parent, nv) else {
@@ -124,23 +124,23 @@ fn link_children<N: Number, L: Link>(
 }
 
 /// Numbers the trees of the roots, one after another.
-fn number_trees<N: Number, L: Link>(
+fn number_trees<N: Number, V: Number, L: Link>(
     nn: usize,
     parent: &[N],
-    nv: &[N],
+    nv: &[V],
     child: &mut [L],
     sibling: &[L],
     order: &mut [L],
     stack: &mut [L],
 )
-    requires linked { (f_size : List ℤ) × IsElementForest nn (N.read parent.now) (N.read nv.now) f_size ×
-        AreLinked (tree_of nn (N.read parent.now) (N.read nv.now) f_size) (L.read child.old) (L.read sibling.now) }
+    requires linked { (f_size : List ℤ) × IsElementForest nn (N.read parent.now) (V.read nv.now) f_size ×
+        AreLinked (tree_of nn (N.read parent.now) (V.read nv.now) f_size) (L.read child.old) (L.read sibling.now) }
     requires numbers { nn ≤ L.reach }
     requires order { AreUnlinked nn (L.read order.old) }
     requires stack { length stack.old ≡ nn }
-    ensures { (f_size : List ℤ) → IsElementForest nn (N.read parent.now) (N.read nv.now) f_size →
-        AreLinked (tree_of nn (N.read parent.now) (N.read nv.now) f_size) (L.read child.old) (L.read sibling.now) →
-        IsPostorderOf (tree_of nn (N.read parent.now) (N.read nv.now) f_size) (L.read order.new) }
+    ensures { (f_size : List ℤ) → IsElementForest nn (N.read parent.now) (V.read nv.now) f_size →
+        AreLinked (tree_of nn (N.read parent.now) (V.read nv.now) f_size) (L.read child.old) (L.read sibling.now) →
+        IsPostorderOf (tree_of nn (N.read parent.now) (V.read nv.now) f_size) (L.read order.new) }
 {
     let mut next = 0;
     'roots: for j in 0..nn {
@@ -158,24 +158,24 @@ fn number_trees<N: Number, L: Link>(
 /// `parent[e]` is then an element or `EMPTY`, without cycles, and `f_size[e]` a size, which is not negative. Elements
 /// with the same parent are listed rising, but the last one of those of largest size is listed last; roots rising.
 /// `child`, `sibling` and `stack` are room for it. Whatever the four lists held goes, and what these three then hold is
-/// not said.
-pub fn postorder_in<N: Number, L: Link>(
+/// not said. The numbers of `nv` may be of another kind than those of `parent` and `f_size`.
+pub fn postorder_in<N: Number, V: Number, L: Link>(
     nn: usize,
     parent: &[N],
-    nv: &[N],
+    nv: &[V],
     f_size: &[N],
     child: &mut [L],
     sibling: &mut [L],
     order: &mut [L],
     stack: &mut [L],
 )
-    requires forest { IsElementForest nn (N.read parent.now) (N.read nv.now) (N.read f_size.now) }
+    requires forest { IsElementForest nn (N.read parent.now) (V.read nv.now) (N.read f_size.now) }
     requires numbers { nn ≤ L.reach }
     requires child { length child.old ≡ nn }
     requires sibling { length sibling.old ≡ nn }
     requires order { length order.old ≡ nn }
     requires stack { length stack.old ≡ nn }
-    ensures postorder { IsPostorderOf (tree_of nn (N.read parent.now) (N.read nv.now) (N.read f_size.now))
+    ensures postorder { IsPostorderOf (tree_of nn (N.read parent.now) (V.read nv.now) (N.read f_size.now))
         (L.read order.new) }
     ensures child { length child.new ≡ nn }
     ensures sibling { length sibling.new ≡ nn }

@@ -1,5 +1,5 @@
 -- A workspace whose lists were packed stands for what it stood for, and holds its live lists alone.
-use Rattle.std.proofs.Common.{ℕ, ℤ, Bool, true, None, List, ◌≡◌, ◌≤◌, inl, inr, sym, ap, ◌∙◌, subst}
+use Rattle.std.proofs.Common.{ℕ, ℤ, pos, negsuc, Bool, true, None, List, ◌≡◌, ◌<◌, ◌≤◌, ◌+◌, unsigned_abs, inl, inr, sym, ap, ◌∙◌, subst}
 use Rattle.std.proofs.Common.{arith, cond, length, le_refl}
 use Rattle.std.proofs.lemmas.Bool.{cases_Bool, or_cases, or_left, or_right, true≢false, false_from_ne_true}
 use Rattle.amd_model.specs.Below.{sum_below}
@@ -10,7 +10,7 @@ use Rattle.amd_model.proofs.Counting.Below.{any_gives}
 use Rattle.amd_model.proofs.States.Words.{class_from, live_gives, stands_gives, holds_gives, holds_from}
 use Rattle.amd_round_laws.specs.Keeps as views
 use Rattle.amd_round_laws.specs.Views.{live_of}
-use Rattle.amd_words.specs.Words.{num, word, size_of}
+use Rattle.amd_words.specs.Words.{num, word, is_place, place, size_of}
 use Rattle.amd_lists.specs.Layout.{has_list, elements_in, variables_in, Layout}
 use Rattle.amd_lists.proofs.Frames.{has_parts, reads_list, reads_elements, reads_variables, live_part}
 use Rattle.amd_elements.specs.Compaction.{Compacts, Packs}
@@ -21,6 +21,12 @@ use Rattle.amd_rounds.specs.Laid.{IsLaid}
 use Rattle.amd_rounds.specs.Keeps.{Stands}
 use Rattle.amd_rounds.specs.Compacting.{is_live_list, Compacted}
 use Rattle.amd_rounds.proofs.Standing as standing
+
+-- a word that is wide enough for marks of n rows holds each of them
+pub row_fits : (z : ℤ) {n most : ℕ} → is_place z ≡ true → place z < n → n + 2 ≤ most → unsigned_abs z ≤ most
+unfolding is_place place
+row_fits (pos k) row small wide = omega (arith, small, wide)
+row_fits (negsuc k) row small wide = absurd (true≢false (sym row))
 
 module _ {g : Graph} {dense : ℕ → Bool} {nzaat : ℕ} {p : Workspace} {t : QuotientGraph} {s : State}
     (st : Stands g dense nzaat p t s) where

@@ -57,10 +57,10 @@ module _ {nzaat me : ℕ} {p : Workspace} (laid : IsLaid (length p.nv) nzaat p) 
     front_is = rooms_front laid.laid made.rooms me listed known p.nv
 
     -- the element can be built
-    pub can_make : (most_word most_cell : ℕ) → IsNarrow most_word most_cell (length p.nv) p →
-        CanMakeElement most_word most_cell me v.iw v.nv v.pe v.e_len v.len v.w v.free
-    can_make most_word most_cell wide = subst
-        (λ (q : Workspace). CanMakeElement most_word most_cell me q.iw q.nv q.pe q.e_len q.len q.w q.free)
+    pub can_make : (most_word most_place most_cell : ℕ) → IsNarrow most_word most_place most_cell (length p.nv) p →
+        CanMakeElement most_place most_cell me v.iw v.nv v.pe v.e_len v.len v.w v.free
+    can_make most_word most_place most_cell wide = subst
+        (λ (q : Workspace). CanMakeElement most_place most_cell me q.iw q.nv q.pe q.e_len q.len q.w q.free)
         (sym made.same) (record {
           pivot = record {
             lengths = (made.rooms.p_long ∙ laid.sized.pe, laid.sized.e_len, laid.sized.len);
@@ -71,7 +71,7 @@ module _ {nzaat me : ℕ} {p : Workspace} (laid : IsLaid (length p.nv) nzaat p) 
             clear = laid.clear;
           };
           counters = laid.sized.w;
-          wide = (wide.2, (let a = wide.0 in let c = made.rooms.long in omega (arith, a, c)));
+          wide = (omega (arith, wide), (let a = wide.0 in let c = made.rooms.long in omega (arith, a, c)));
           cells = (let a = wide.1 in let c = made.rooms.long in omega (arith, a, c));
           count = (laid.classes me pivot.class).1;
           elements = record {
@@ -80,7 +80,7 @@ module _ {nzaat me : ℕ} {p : Workspace} (laid : IsLaid (length p.nv) nzaat p) 
             once = subst Once (sym elements_is) pivot.once;
           };
           fits = (let a = made.fits in let b = ap length front_is in let c = made.rooms.long in omega (arith, a, b, c));
-          few = (let a = pivot.few in let b = ap (sum_by (size_of p.nv)) front_is in let c = wide.2 in omega (arith, a, b, c));
+          few = (let a = pivot.few in let b = ap (sum_by (size_of p.nv)) front_is in omega (arith, a, b, wide));
         })
 
     module _ {iw nv pe e_len : List ℤ} {len w : List ℕ} {begun : Begun} (count : 0 < place (word p.e_len me))

@@ -18,10 +18,15 @@ pub record IsSized (n : ℕ) (p : Workspace) : Type 0 where
   pub last : length p.last ≡ n
   pub hash : length p.hash ≡ n
 
--- words and figures are wide enough: the greatest ones are given
-abbrev pub IsNarrow : ℕ → ℕ → ℕ → Workspace → Type 0
-IsNarrow most_word most_cell n p = (length p.iw ≤ most_word) × (length p.iw ≤ most_cell) × (n + 2 ≤ most_word)
-    × (n + 2 ≤ most_cell)
+-- words, places and cells of these greatest numbers hold all that an elimination of n rows in iwlen words has: a word a row
+-- or a mark that names one, a place each word, a cell both
+abbrev pub AreWideEnough : ℕ → ℕ → ℕ → ℕ → ℕ → Type 0
+AreWideEnough most_word most_place most_cell n iwlen = (iwlen ≤ most_place) × (iwlen ≤ most_cell) × (n + 2 ≤ most_word)
+    × (n + 2 ≤ most_cell) × (most_word ≤ most_place)
+
+-- so they do for this workspace
+abbrev pub IsNarrow : ℕ → ℕ → ℕ → ℕ → Workspace → Type 0
+IsNarrow most_word most_place most_cell n p = AreWideEnough most_word most_place most_cell n (length p.iw)
 
 -- the lists of n rows have no more than nzaat words; each class and what it lists as elements have a list; counters are
 -- below the flag, and above 0 for what has a list; buckets are empty, and nothing is marked

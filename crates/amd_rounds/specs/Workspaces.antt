@@ -32,7 +32,7 @@ pub record Workspace : Type 0 where
   pub figures : Figures
 
 -- what the borrowed slices hold now
-abbrev pub workspace_of : {S U : Type 0} → Work S U → Workspace
+abbrev pub workspace_of : {S P U : Type 0} → Work S P U → Workspace
 workspace_of w = record {
   iw = w.iw.now;
   pe = w.pe.now;
@@ -56,7 +56,7 @@ workspace_of w = record {
 }
 
 -- the lists that are read at the end are those that were lent
-abbrev pub KeepsLoans : {S U : Type 0} → Work S U → Work S U → Type 0
+abbrev pub KeepsLoans : {S P U : Type 0} → Work S P U → Work S P U → Type 0
 KeepsLoans old new = (new.pe.ghost_name ≡ old.pe.ghost_name) × (new.e_len.ghost_name ≡ old.e_len.ghost_name)
     × (new.nv.ghost_name ≡ old.nv.ghost_name) × (new.degree.ghost_name ≡ old.degree.ghost_name)
 

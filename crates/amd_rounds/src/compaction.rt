@@ -14,8 +14,8 @@ use amd_words::{Signed, Unsigned};
 /// Packs the lists of the workspace: what it stands for stays, and the words before the free end are exactly those of
 /// the lists of the classes and of the standing elements.
 #[cold]
-pub fn compact<S: Signed, U: Unsigned>(work: &mut Work<'_, S, U>)
-    requires wide { IsNarrow S.MOST U.MOST (length work.old.nv.now) (workspace_of work.old) }
+pub fn compact<S: Signed, P: Signed, U: Unsigned>(work: &mut Work<'_, '_, S, P, U>)
+    requires wide { IsNarrow S.MOST P.MOST U.MOST (length work.old.nv.now) (workspace_of work.old) }
     requires laid { (nzaat : ℕ) × IsLaid (length work.old.nv.now) nzaat (workspace_of work.old) }
     ensures compacts { IsCompacted (workspace_of work.old) (workspace_of work.new) }
     ensures moves { Compacts work.old.iw.now work.old.pe.now work.old.len.now work.old.free work.new.iw.now

@@ -40,7 +40,7 @@ fn named_lent<S: Signed>(words: &mut [Word<S>], i: usize) -> usize
 }
 
 /// Chooses the pivot and takes it out of the lists by bound.
-pub fn pick<S: Signed, U: Unsigned>(work: &mut Work<'_, S, U>) -> usize
+pub fn pick<S: Signed, P: Signed, U: Unsigned>(work: &mut Work<'_, '_, S, P, U>) -> usize
     requires sized { IsSized (length work.old.nv.now) (workspace_of work.old) }
     requires some { SomeFrom (length work.old.nv.now) work.old.head.now work.old.least }
     ensures picks { Picks (length work.old.nv.now) result (workspace_of work.old) (workspace_of work.new) }
@@ -53,8 +53,11 @@ pub fn pick<S: Signed, U: Unsigned>(work: &mut Work<'_, S, U>) -> usize
 }
 
 /// Makes the pivot `me`, which lists no element, an element in the place of its list.
-fn begin_in_place<S: Signed, U: Unsigned>(work: &mut Work<'_, S, U>, me: usize) -> Element
-    requires wide { IsNarrow S.MOST U.MOST (length work.old.nv.now) (workspace_of work.old) }
+fn begin_in_place<S: Signed, P: Signed, U: Unsigned>(
+    work: &mut Work<'_, '_, S, P, U>,
+    me: usize,
+) -> Element
+    requires wide { IsNarrow S.MOST P.MOST U.MOST (length work.old.nv.now) (workspace_of work.old) }
     requires laid { (nzaat : ℕ) × IsLaid (length work.old.nv.now) nzaat (workspace_of work.old) }
     requires pivot { CanBegin (length work.old.nv.now) me (workspace_of work.old) }
     requires count { word work.old.e_len.now me ≡ pos 0 }
@@ -73,8 +76,8 @@ fn begin_in_place<S: Signed, U: Unsigned>(work: &mut Work<'_, S, U>, me: usize) 
 
 /// Makes room behind all lists for the new element of the pivot `me`: where it would pass the end, the lists are
 /// packed.
-fn make_room<S: Signed, U: Unsigned>(work: &mut Work<'_, S, U>, me: usize)
-    requires wide { IsNarrow S.MOST U.MOST (length work.old.nv.now) (workspace_of work.old) }
+fn make_room<S: Signed, P: Signed, U: Unsigned>(work: &mut Work<'_, '_, S, P, U>, me: usize)
+    requires wide { IsNarrow S.MOST P.MOST U.MOST (length work.old.nv.now) (workspace_of work.old) }
     requires laid { (nzaat : ℕ) × IsLaid (length work.old.nv.now) nzaat (workspace_of work.old) }
     requires pivot { CanBegin (length work.old.nv.now) me (workspace_of work.old) }
     requires left { 0 < work.old.live }
@@ -90,8 +93,11 @@ fn make_room<S: Signed, U: Unsigned>(work: &mut Work<'_, S, U>, me: usize)
 }
 
 /// Makes the pivot `me`, which lists elements, an element behind all lists, which are packed first if there is no room.
-fn begin_behind<S: Signed, U: Unsigned>(work: &mut Work<'_, S, U>, me: usize) -> Element
-    requires wide { IsNarrow S.MOST U.MOST (length work.old.nv.now) (workspace_of work.old) }
+fn begin_behind<S: Signed, P: Signed, U: Unsigned>(
+    work: &mut Work<'_, '_, S, P, U>,
+    me: usize,
+) -> Element
+    requires wide { IsNarrow S.MOST P.MOST U.MOST (length work.old.nv.now) (workspace_of work.old) }
     requires laid { (nzaat : ℕ) × IsLaid (length work.old.nv.now) nzaat (workspace_of work.old) }
     requires pivot { CanBegin (length work.old.nv.now) me (workspace_of work.old) }
     requires count { 0 < place (word work.old.e_len.now me) }
@@ -114,8 +120,11 @@ fn begin_behind<S: Signed, U: Unsigned>(work: &mut Work<'_, S, U>, me: usize) ->
 }
 
 /// Makes the pivot `me` an element.
-pub fn begin<S: Signed, U: Unsigned>(work: &mut Work<'_, S, U>, me: usize) -> Element
-    requires wide { IsNarrow S.MOST U.MOST (length work.old.nv.now) (workspace_of work.old) }
+pub fn begin<S: Signed, P: Signed, U: Unsigned>(
+    work: &mut Work<'_, '_, S, P, U>,
+    me: usize,
+) -> Element
+    requires wide { IsNarrow S.MOST P.MOST U.MOST (length work.old.nv.now) (workspace_of work.old) }
     requires laid { (nzaat : ℕ) × IsLaid (length work.old.nv.now) nzaat (workspace_of work.old) }
     requires pivot { CanBegin (length work.old.nv.now) me (workspace_of work.old) }
     requires left { 0 < work.old.live }

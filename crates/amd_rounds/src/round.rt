@@ -26,12 +26,12 @@ use amd_words::words::named;
 use amd_words::{Cell, Signed, Unsigned, Word, cell_at};
 
 /// Turns the classes of the front of the new element `me` over to it. Returns the number of rows of those that ended.
-pub fn turn_over<S: Signed, U: Unsigned>(
-    work: &mut Work<'_, S, U>,
+pub fn turn_over<S: Signed, P: Signed, U: Unsigned>(
+    work: &mut Work<'_, '_, S, P, U>,
     me: usize,
     aggressive: bool,
 ) -> usize
-    requires wide { IsNarrow S.MOST U.MOST (length work.old.nv.now) (workspace_of work.old) }
+    requires wide { IsNarrow S.MOST P.MOST U.MOST (length work.old.nv.now) (workspace_of work.old) }
     requires sized { IsSized (length work.old.nv.now) (workspace_of work.old) }
     requires front { CanTurn (length work.old.nv.now) me (workspace_of work.old) }
     ensures turns { TurnsOver aggressive (length work.old.nv.now) me result U.MOST (workspace_of work.old)
@@ -60,8 +60,8 @@ pub fn turn_over<S: Signed, U: Unsigned>(
 }
 
 /// Where the list of a row starts, and how many words it has, with both slices lent for writing.
-fn list_lent<S: Signed, U: Unsigned>(
-    pe: &mut [Word<S>],
+fn list_lent<P: Signed, U: Unsigned>(
+    pe: &mut [Word<P>],
     len: &mut [Cell<U>],
     me: usize,
 ) -> (usize, usize)
@@ -75,13 +75,13 @@ fn list_lent<S: Signed, U: Unsigned>(
 
 /// Takes the rows of the block off those that are live, and merges the classes of the front of `me` that are alike. The
 /// flag rises above the counters of the round first, by the number of rows of the greatest border so far.
-pub fn merge_alike<S: Signed, U: Unsigned>(
-    work: &mut Work<'_, S, U>,
+pub fn merge_alike<S: Signed, P: Signed, U: Unsigned>(
+    work: &mut Work<'_, '_, S, P, U>,
     me: usize,
     block: usize,
     border: usize,
 )
-    requires wide { IsNarrow S.MOST U.MOST (length work.old.nv.now) (workspace_of work.old) }
+    requires wide { IsNarrow S.MOST P.MOST U.MOST (length work.old.nv.now) (workspace_of work.old) }
     requires sized { IsSized (length work.old.nv.now) (workspace_of work.old) }
     requires front { CanMerge (length work.old.nv.now) me block border U.MOST (workspace_of work.old) }
     ensures merges { MergesFront (length work.old.nv.now) me block border (workspace_of work.old)
@@ -102,14 +102,14 @@ pub fn merge_alike<S: Signed, U: Unsigned>(
 
 /// Places the classes that are left of the front of `me` by their new bounds, closes the element, and adds its front to
 /// the figures. The free end goes back to the end of a list that was built behind all others.
-pub fn end_front<S: Signed, U: Unsigned>(
-    work: &mut Work<'_, S, U>,
+pub fn end_front<S: Signed, P: Signed, U: Unsigned>(
+    work: &mut Work<'_, '_, S, P, U>,
     me: usize,
     block: usize,
     border: usize,
     is_built: bool,
 )
-    requires wide { IsNarrow S.MOST U.MOST (length work.old.nv.now) (workspace_of work.old) }
+    requires wide { IsNarrow S.MOST P.MOST U.MOST (length work.old.nv.now) (workspace_of work.old) }
     requires sized { IsSized (length work.old.nv.now) (workspace_of work.old) }
     requires front { CanEnd (length work.old.nv.now) me block border is_built (workspace_of work.old) }
     ensures ends { EndsFront (length work.old.nv.now) me block border is_built (workspace_of work.old)
@@ -152,8 +152,8 @@ pub fn end_front<S: Signed, U: Unsigned>(
 /// and bounds. A row must be live. The contract says what the workspace stands for, that its lists have no more words
 /// than before the first round, and when they are packed; what stands in words of no list, and in the places of rows
 /// that are neither class nor element, is left open.
-pub fn round<S: Signed, U: Unsigned>(work: &mut Work<'_, S, U>, control: &Control)
-    requires wide { IsNarrow S.MOST U.MOST (length work.old.nv.now) (workspace_of work.old) }
+pub fn round<S: Signed, P: Signed, U: Unsigned>(work: &mut Work<'_, '_, S, P, U>, control: &Control)
+    requires wide { IsNarrow S.MOST P.MOST U.MOST (length work.old.nv.now) (workspace_of work.old) }
     requires stands { (g : Graph) × (dense : ℕ → Bool) × (nzaat : ℕ) × (t : QuotientGraph) × (s : State) ×
         Stands g dense nzaat (workspace_of work.old) t s }
     requires left { 0 < work.old.live }
@@ -174,8 +174,11 @@ pub fn round<S: Signed, U: Unsigned>(work: &mut Work<'_, S, U>, control: &Contro
 
 /// Rounds until no row is live. The contract says what the workspace stands for; the lists were packed no more often
 /// than there are rows.
-pub fn eliminate<S: Signed, U: Unsigned>(work: &mut Work<'_, S, U>, control: &Control)
-    requires wide { IsNarrow S.MOST U.MOST (length work.old.nv.now) (workspace_of work.old) }
+pub fn eliminate<S: Signed, P: Signed, U: Unsigned>(
+    work: &mut Work<'_, '_, S, P, U>,
+    control: &Control,
+)
+    requires wide { IsNarrow S.MOST P.MOST U.MOST (length work.old.nv.now) (workspace_of work.old) }
     requires stands { (g : Graph) × (dense : ℕ → Bool) × (nzaat : ℕ) × (t : QuotientGraph) × (s : State) ×
         Stands g dense nzaat (workspace_of work.old) t s }
     ensures rounds { AreRounds control.now.aggressive (workspace_of work.old) (workspace_of work.new) }

@@ -9,15 +9,15 @@ use amd_words::{Cell, Signed, Unsigned, Word};
 /// and in `sides` two. Where a figure names a row, `n` stands for no row. A mark is a number below zero: -1 names
 /// nothing, and `-k - 2` names `k`.
 #[derive(Drop)]
-pub struct Work<'a, S: Signed, U: Unsigned> {
+pub struct Work<'a, 'b, S: Signed, P: Signed, U: Unsigned> {
     /// All lists: that of a class names its elements and then its variables, that of an element its members.
     pub iw: &'a mut [Word<S>],
     /// Where the list of each row starts. An absorbed element has the mark of its parent here, and a row that was
     /// merged or went with a pivot that of the row with which it goes.
-    pub pe: &'a mut [Word<S>],
+    pub pe: &'b mut [Word<P>],
     /// The number of elements that a class lists. An element has the mark of the number of rows of its block and border
     /// here, and a row that is neither has -1.
-    pub e_len: &'a mut [Word<S>],
+    pub e_len: &'b mut [Word<P>],
     /// The number of rows of each class, and 0 for what is no class. In a round it is negative for a class of the
     /// front.
     pub nv: &'a mut [Word<S>],

@@ -177,7 +177,8 @@ module _ (n : ℕ) (held : ℕ → Bool) (p : Rows) (v : Workspace) (begins : Be
 
   block_is : (e : ℕ) → e < n → block_at e ≡ starting_block (held e) (num p.len e)
   block_is e l = elim (cases_Bool (begins_class held p.len e)) [
-    | inl y ↦ (let k = begun_row true e l y in let some = ltb-true 0 (num p.len e) (and_parts (nat_lt 0 (num p.len e)) (not (held e)) y).0 in
+    | inl y ↦ (let k = begun_row true e l y in
+        let some = ltb-true 0 (num p.len e) (and_parts (nat_lt 0 (num p.len e)) (not (held e)) y).0 in
         no_block e (plain (word v.e_len e) k.counts).1
         ∙ sym (ap (λ b. cond (b && not (held e)) 1 0) (ne_eqb (num p.len e) 0 (λ z. omega (arith, z, some)))))
     | inr y ↦ (let k = begun_row false e l y in elim (cases_Bool (held e)) [

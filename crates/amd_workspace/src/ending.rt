@@ -3,11 +3,11 @@
 // Davis and Duff 2004 (the output of the elimination, before the assembly tree is listed). Called by `amd_2` of the
 // crate `amd_engine`.
 
-ghost use Rattle.std.specs.Prelude.{◌≡◌, ◌<◌, ◌≤◌, ◌-◌, ◌<ℤ◌, pos, negsuc, cond, nat_lt, length, slice_set};
+ghost use Rattle.std.specs.Prelude.{ℕ, ◌≡◌, ◌<◌, ◌≤◌, ◌<ℤ◌, pos, negsuc, cond, nat_lt, length, slice_set};
 ghost use Rattle.std.specs.Prelude.{unsigned_abs};
 ghost use Rattle.amd_words.specs.Words.{num, word, is_place, flip_of};
-ghost use Rattle.amd_rounds.specs.Workspaces.{is_flip, flipped};
-ghost use Rattle.amd_workspace.specs.Ending.{named_word, EndsRows};
+ghost use Rattle.amd_rounds.specs.Workspaces.{flipped};
+ghost use Rattle.amd_workspace.specs.Ending.{block_in, named_word, EndsRows};
 
 use amd_words::words::{names_one, put_row};
 use amd_words::{Cell, Signed, Unsigned, Word, cell_at, put_word, word_at};
@@ -32,9 +32,9 @@ fn link_of(mark: isize) -> isize
 }
 
 /// Makes a mark the row that it names, and any other number -1; a row that counts elements is linked to none.
-fn end_link<S: Signed>(pe: &mut [Word<S>], e_len: &[Word<S>], i: usize)
+fn end_link<P: Signed>(pe: &mut [Word<P>], e_len: &[Word<P>], i: usize)
     requires inside { (i < length pe.old) × (i < length e_len.now) }
-    requires narrow { 1 ≤ S.MOST }
+    requires narrow { 1 ≤ P.MOST }
     ensures { pe.new ≡ slice_set pe.old i (cond (is_place (word e_len.now i)) (negsuc 0) (named_word (word pe.old i))) }
 {
     let link = if names_one(e_len, i) {
@@ -46,10 +46,10 @@ fn end_link<S: Signed>(pe: &mut [Word<S>], e_len: &[Word<S>], i: usize)
 }
 
 /// The number of rows that a mark tells, and 0 for any other number.
-fn front_in<S: Signed>(e_len: &[Word<S>], i: usize) -> usize
+fn front_in<P: Signed>(e_len: &[Word<P>], i: usize) -> usize
     requires { i < length e_len.now }
     ensures is { result ≡ flipped (word e_len.now i) }
-    ensures small { result ≤ S.MOST }
+    ensures small { result ≤ P.MOST }
 {
     let mark = word_at(e_len, i);
     if mark < -1 { number_in(mark) } else { 0 }
@@ -57,18 +57,17 @@ fn front_in<S: Signed>(e_len: &[Word<S>], i: usize) -> usize
 
 /// Makes the mark of an element the number of rows of its front, and writes that of its block, which is the front
 /// without the border; what is no element has -1 and 0.
-fn end_element<S: Signed, U: Unsigned>(
-    e_len: &mut [Word<S>],
+fn end_element<S: Signed, P: Signed, U: Unsigned>(
+    e_len: &mut [Word<P>],
     nv: &mut [Word<S>],
     degree: &[Cell<U>],
     i: usize,
 )
     requires inside { (i < length e_len.old) × (i < length nv.old) × (i < length degree.now) }
-    requires narrow { 1 ≤ S.MOST }
+    requires narrow { (1 ≤ P.MOST) × (block_in e_len.old degree.now i ≤ S.MOST) }
     ensures fronts { e_len.new ≡ slice_set e_len.old i
         (cond (nat_lt (num degree.now i) (flipped (word e_len.old i))) (pos (flipped (word e_len.old i))) (negsuc 0)) }
-    ensures blocks { nv.new ≡ slice_set nv.old i (pos
-        (cond (is_flip (word e_len.old i)) (flipped (word e_len.old i) - num degree.now i) 0)) }
+    ensures blocks { nv.new ≡ slice_set nv.old i (pos (block_in e_len.old degree.now i)) }
 {
     let front = front_in(e_len, i);
     let border = cell_at(degree, i);
@@ -82,15 +81,16 @@ fn end_element<S: Signed, U: Unsigned>(
 }
 
 /// Makes the record at the end of an elimination one of links and numbers of rows.
-pub fn end_rows<S: Signed, U: Unsigned>(
-    pe: &mut [Word<S>],
-    e_len: &mut [Word<S>],
+pub fn end_rows<S: Signed, P: Signed, U: Unsigned>(
+    pe: &mut [Word<P>],
+    e_len: &mut [Word<P>],
     nv: &mut [Word<S>],
     degree: &[Cell<U>],
 )
     requires lengths { (length pe.old ≡ length degree.now) × (length e_len.old ≡ length degree.now) ×
         (length nv.old ≡ length degree.now) }
-    requires narrow { 1 ≤ S.MOST }
+    requires narrow { 1 ≤ P.MOST }
+    requires blocks { (i : ℕ) → i < length degree.now → block_in e_len.old degree.now i ≤ S.MOST }
     ensures lengths { (length pe.new ≡ length degree.now) × (length e_len.new ≡ length degree.now) ×
         (length nv.new ≡ length degree.now) }
     ensures ends { EndsRows (length degree.now) pe.old e_len.old degree.now pe.new e_len.new nv.new }

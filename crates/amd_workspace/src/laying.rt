@@ -74,9 +74,9 @@ impl<S: Signed, U: Unsigned, A: Allocator> Visitor for Words<S, U, A> {
 
 /// A workspace with a list for each row.
 #[derive(Drop)]
-pub struct Laid<S: Signed, U: Unsigned, A: Allocator> {
+pub struct Laid<S: Signed, P: Signed, U: Unsigned, A: Allocator> {
     /// Where the list of each row starts.
-    pub pe: Vec<Word<S>, A>,
+    pub pe: Vec<Word<P>, A>,
     /// The number of its words.
     pub len: Vec<Cell<U>, A>,
     /// The words of all lists.
@@ -87,8 +87,8 @@ pub struct Laid<S: Signed, U: Unsigned, A: Allocator> {
 
 /// Writes where the list of each row starts, once for the record and once for the walk, and its length. Answers where
 /// the last one ends.
-fn starts<S: Signed, U: Unsigned, A: Allocator>(
-    pe: &mut Vec<Word<S>, A>,
+fn starts<P: Signed, U: Unsigned, A: Allocator>(
+    pe: &mut Vec<Word<P>, A>,
     next: &mut Vec<Cell<U>, A>,
     len: &mut Vec<Cell<U>, A>,
     degrees: &[usize],
@@ -96,7 +96,7 @@ fn starts<S: Signed, U: Unsigned, A: Allocator>(
     requires empty { (length pe.old.items ≡ 0) × (length next.old.items ≡ 0) × (length len.old.items ≡ 0) }
     requires room { (length degrees.now ≤ vec_capacity pe.old) × (length degrees.now ≤ vec_capacity next.old) ×
         (length degrees.now ≤ vec_capacity len.old) }
-    requires fits { (sum_below (length degrees.now) (num degrees.now) ≤ S.MOST) ×
+    requires fits { (sum_below (length degrees.now) (num degrees.now) ≤ P.MOST) ×
         (sum_below (length degrees.now) (num degrees.now) ≤ U.MOST) }
     ensures total { result ≡ sum_below (length degrees.now) (num degrees.now) }
     ensures starts { Starts degrees.now pe.new.items next.new.items len.new.items }
@@ -167,21 +167,21 @@ fn general_lists<I: Index, S: Signed, U: Unsigned, A: Allocator>(
 /// # Errors
 ///
 /// A refused request for memory.
-pub fn lay<I: Index, S: Signed, U: Unsigned, A: Allocator + Copy>(
+pub fn lay<I: Index, S: Signed, P: Signed, U: Unsigned, A: Allocator + Copy>(
     alloc: A,
     size: usize,
     a_p: &[I],
     a_i: &[I],
     degrees: &[usize],
     room: usize,
-) -> Result<Laid<S, U, A>, AllocError>
+) -> Result<Laid<S, P, U, A>, AllocError>
     requires form { IsColumnForm (pos size) size (map I.value a_p.now) (map I.value a_i.now) }
     requires sorted { IsSorted size (map I.value a_p.now) (map I.value a_i.now) }
     requires some { 0 < size }
     requires degrees { AreCounts (graph_of size (map I.value a_p.now) (map I.value a_i.now))
         ((graph_of size (map I.value a_p.now) (map I.value a_i.now)).edge) degrees.now }
     requires room { start_of (graph_of size (map I.value a_p.now) (map I.value a_i.now)) size + size ≤ room }
-    requires fits { (size ≤ S.MOST) × (room ≤ S.MOST) × (room ≤ U.MOST) }
+    requires fits { (size ≤ S.MOST) × (room ≤ P.MOST) × (room ≤ U.MOST) }
     ensures laid { IfOk result (λ l. IsLaidOut size l.iw.items l.pe.items l.len.items l.free) }
     ensures long { IfOk result (λ l. (length l.iw.items ≡ room) ×
         (l.free ≡ start_of (graph_of size (map I.value a_p.now) (map I.value a_i.now)) size)) }

@@ -22,9 +22,9 @@ use amd_words::words::put_flip;
 use amd_words::{Cell, Signed, Unsigned, Word, cell_at, put_cell, put_word};
 
 /// Sets aside a row that is held last, or an empty one, which is an element by itself: it has no list.
-fn put_aside<S: Signed, U: Unsigned>(
-    pe: &mut [Word<S>],
-    e_len: &mut [Word<S>],
+fn put_aside<S: Signed, P: Signed, U: Unsigned>(
+    pe: &mut [Word<P>],
+    e_len: &mut [Word<P>],
     nv: &mut [Word<S>],
     len: &mut [Cell<U>],
     degree: &mut [Cell<U>],
@@ -34,7 +34,7 @@ fn put_aside<S: Signed, U: Unsigned>(
 )
     requires words { (i < length pe.old) × (i < length e_len.old) × (i < length nv.old) }
     requires cells { (i < length len.old) × (i < length degree.old) × (i < length w.old) }
-    requires narrow { 3 ≤ S.MOST }
+    requires narrow { 3 ≤ P.MOST }
     ensures starts { pe.new ≡ slice_set pe.old i (negsuc 0) }
     ensures counts { e_len.new ≡ slice_set e_len.old i (cond held (negsuc 0) (flip_of 1)) }
     ensures sizes { nv.new ≡ slice_set nv.old i (pos 0) }
@@ -55,8 +55,8 @@ fn put_aside<S: Signed, U: Unsigned>(
 }
 
 /// Makes a row a class by itself, and puts it at the head of the list of its degree.
-fn place_row<S: Signed, U: Unsigned>(
-    e_len: &mut [Word<S>],
+fn place_row<S: Signed, P: Signed, U: Unsigned>(
+    e_len: &mut [Word<P>],
     nv: &mut [Word<S>],
     degree: &mut [Cell<U>],
     w: &mut [Cell<U>],
@@ -102,10 +102,10 @@ fn number_of(holds: bool) -> usize
 
 /// Starts the elimination: `len` has the degree of each row, and `pe` where its list starts. The rows marked in `hold`
 /// and those of a degree above the threshold are held last. Answers how many rows are live, and how many are held last.
-pub fn begin<S: Signed, U: Unsigned>(
+pub fn begin<S: Signed, P: Signed, U: Unsigned>(
     len: &mut [Cell<U>],
-    pe: &mut [Word<S>],
-    e_len: &mut [Word<S>],
+    pe: &mut [Word<P>],
+    e_len: &mut [Word<P>],
     nv: &mut [Word<S>],
     degree: &mut [Cell<U>],
     w: &mut [Cell<U>],
@@ -117,7 +117,7 @@ pub fn begin<S: Signed, U: Unsigned>(
     requires words { HasWords (length len.old) pe.old e_len.old nv.old }
     requires cells { (length degree.old ≡ length len.old) × (length w.old ≡ length len.old) }
     requires links { HasLinks (length len.old) head.old (nexts sides.old) (lasts sides.old) }
-    requires narrow { (length len.old + 2 ≤ S.MOST) × (length len.old ≤ U.MOST) }
+    requires narrow { (1 ≤ S.MOST) × (length len.old + 2 ≤ P.MOST) × (length len.old ≤ U.MOST) }
     requires degrees { (i : ℕ) → i < length len.old → num len.old i < length len.old }
     requires heads { (b : ℕ) → b < length len.old → length len.old ≤ num head.old b }
     requires marks { HasMarks (option_copied hold) (length len.old) }

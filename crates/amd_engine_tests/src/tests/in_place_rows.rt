@@ -88,10 +88,14 @@ fn check_amd_1(rt: &impl Abort, alloc: Global, case: &EngineCase) {
 
 /// Asserts that `amd_2_from` gives the answer of a case over lists that were laid in words of these widths, and tells
 /// its elements.
-fn check_amd_2_from<S: Signed, U: Unsigned>(rt: &impl Abort, alloc: Global, case: &EngineCase) {
+fn check_amd_2_from<S: Signed, P: Signed, U: Unsigned>(
+    rt: &impl Abort,
+    alloc: Global,
+    case: &EngineCase,
+) {
     let mut info = Info::new(0);
     let control = control_of(case);
-    let (blocks, p_inv, p, fronts) = order_laid::<S, U>(
+    let (blocks, p_inv, p, fronts) = order_laid::<S, P, U>(
         rt,
         alloc,
         &matrix_of(case),
@@ -119,8 +123,10 @@ fn worked_matrices_through_each_call(rt: HostRuntime) {
     for case in &MATRICES {
         check_plainly(&rt, rt.alloc(), case);
         check_amd_1(&rt, rt.alloc(), case);
-        check_amd_2_from::<i32, u32>(&rt, rt.alloc(), case);
-        check_amd_2_from::<isize, usize>(&rt, rt.alloc(), case);
+        check_amd_2_from::<i32, i32, u32>(&rt, rt.alloc(), case);
+        check_amd_2_from::<i32, isize, u32>(&rt, rt.alloc(), case);
+        check_amd_2_from::<i32, isize, usize>(&rt, rt.alloc(), case);
+        check_amd_2_from::<isize, isize, usize>(&rt, rt.alloc(), case);
     }
 }
 
@@ -150,6 +156,6 @@ fn no_round(rt: HostRuntime) -> Result<(), Fail> {
     let (a_p, a_i) = complete(rt.alloc(), 18)?;
     let case = all_dense(&a_p, &a_i);
     check(&rt, rt.alloc(), &case, 0);
-    check_amd_2_from::<isize, usize>(&rt, rt.alloc(), &case);
+    check_amd_2_from::<isize, isize, usize>(&rt, rt.alloc(), &case);
     Ok(())
 }

@@ -4,6 +4,7 @@
 
 ghost use Rattle.std.specs.Prelude.{◌≡◌, ◌<◌, ◌≤◌, ◌+◌, ℕ, List, pos, length};
 ghost use Rattle.amd_model.specs.Graph.{Graph};
+ghost use Rattle.amd_rounds.specs.Laid.{AreWideEnough};
 ghost use Rattle.amd_workspace.specs.Laying.{IsLaidOut};
 ghost use Rattle.amd_engine.specs.InPlace.{LaysGraph};
 
@@ -125,9 +126,9 @@ fn are_figures<U: Unsigned>(figures: &[Cell<U>], wanted: &[usize]) -> bool {
 }
 
 /// Whether lists are laid as in a case, with so many words in use.
-fn is_laid<S: Signed, U: Unsigned>(
+fn is_laid<S: Signed, P: Signed, U: Unsigned>(
     case: &WorkspaceCase,
-    laid: &Laid<S, U, Global>,
+    laid: &Laid<S, P, U, Global>,
     sum: usize,
 ) -> bool {
     laid.iw.len() == case.room
@@ -140,7 +141,7 @@ fn is_laid<S: Signed, U: Unsigned>(
 
 /// Lays the lists of a sorted matrix in words of these widths, where `more` of them are to spare. The record tells the
 /// pattern.
-pub fn laid_of<S: Signed, U: Unsigned>(
+pub fn laid_of<S: Signed, P: Signed, U: Unsigned>(
     rt: &impl Abort,
     alloc: Global,
     n: i64,
@@ -148,18 +149,17 @@ pub fn laid_of<S: Signed, U: Unsigned>(
     a_i: &[i64],
     more: usize,
     info: &mut Info,
-) -> Laid<S, U, Global>
+) -> Laid<S, P, U, Global>
     ensures size { (n ≡ pos (length result.len.items)) × (0 < length result.len.items) }
     ensures laid { IsLaidOut (length result.len.items) result.iw.items result.pe.items result.len.items result.free }
     ensures graph { (g : Graph) × (lists : ℕ → List ℕ) ×
         LaysGraph g lists result.iw.items result.pe.items result.len.items }
     ensures room { result.free + length result.len.items ≤ length result.iw.items }
-    ensures words { (length result.iw.items ≤ S.MOST) × (length result.len.items + 2 ≤ S.MOST) }
-    ensures figures { (length result.iw.items ≤ U.MOST) × (length result.len.items + 2 ≤ U.MOST) }
+    ensures wide { AreWideEnough S.MOST P.MOST U.MOST (length result.len.items) (length result.iw.items) }
 {
     let (degrees, room) = degrees_of(rt, alloc, n, a_p, a_i, more, info);
     let size = degrees.len();
-    assert!(rt; holds::<S, U>(size, room, 2));
+    assert!(rt; holds::<S, P, U>(size, room, 2));
     let Ok(laid) = lay(alloc, size, a_p, a_i, &degrees, room) else {
         panic!(rt; "not laid");
     };
@@ -167,15 +167,15 @@ pub fn laid_of<S: Signed, U: Unsigned>(
 }
 
 /// Orders by `amd_2_from` over lists that are laid in words of these widths, with no word to spare.
-pub fn order_laid<S: Signed, U: Unsigned>(
+pub fn order_laid<S: Signed, P: Signed, U: Unsigned>(
     rt: &impl Abort,
     alloc: Global,
     matrix: &Sorted,
     control: &Control,
     info: &mut Info,
-) -> (Vec<Word<S>>, Vec<i64>, Vec<i64>, Vec<Word<S>>) {
+) -> (Vec<Word<S>>, Vec<i64>, Vec<i64>, Vec<Word<P>>) {
     let (n, a_p, a_i) = (matrix.n, matrix.a_p, matrix.a_i);
-    let mut laid = laid_of::<S, U>(rt, alloc, n, a_p, a_i, 0, info);
+    let mut laid = laid_of::<S, P, U>(rt, alloc, n, a_p, a_i, 0, info);
     check_marks(rt, matrix.hold, laid.len.len());
     let Ok(answer) = amd_2_from(
         alloc,
@@ -195,17 +195,19 @@ pub fn order_laid<S: Signed, U: Unsigned>(
 }
 
 /// Asserts that the lists of a matrix, in words of these widths, are those of the case.
-fn check<S: Signed, U: Unsigned>(rt: &impl Abort, alloc: Global, case: &WorkspaceCase) {
+fn check<S: Signed, P: Signed, U: Unsigned>(rt: &impl Abort, alloc: Global, case: &WorkspaceCase) {
     let mut info = Info::new(0);
-    let laid = laid_of::<S, U>(rt, alloc, case.n, case.a_p, case.a_i, case.more, &mut info);
+    let laid = laid_of::<S, P, U>(rt, alloc, case.n, case.a_p, case.a_i, case.more, &mut info);
     assert!(rt; is_laid(case, &laid, info.nz_a_plus_at), "{}", case.what);
 }
 
 #[test]
 fn workspaces_are_laid(rt: HostRuntime) {
     for case in &MATRICES {
-        check::<i32, u32>(&rt, rt.alloc(), case);
-        check::<isize, usize>(&rt, rt.alloc(), case);
+        check::<i32, i32, u32>(&rt, rt.alloc(), case);
+        check::<i32, isize, u32>(&rt, rt.alloc(), case);
+        check::<i32, isize, usize>(&rt, rt.alloc(), case);
+        check::<isize, isize, usize>(&rt, rt.alloc(), case);
     }
 }
 

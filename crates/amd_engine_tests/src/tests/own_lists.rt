@@ -58,7 +58,7 @@ pub fn order_numbers(
     info: &mut Info,
 ) -> ListedRows {
     let n = matrix.n;
-    let laid = laid_of::<isize, usize>(rt, alloc, n, matrix.a_p, matrix.a_i, 0, info);
+    let laid = laid_of::<isize, isize, usize>(rt, alloc, n, matrix.a_p, matrix.a_i, 0, info);
     let mut pe = words_of(rt, alloc, &laid.pe);
     let mut iw = words_of(rt, alloc, &laid.iw);
     let mut len = cells_of(rt, alloc, &laid.len);

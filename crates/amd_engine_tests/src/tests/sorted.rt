@@ -143,13 +143,13 @@ pub fn order_in_place<A: Allocator + Copy>(
     let (degrees, room) = degrees_of(rt, alloc, n, a_p, a_i, more, info);
     let len = degrees.as_slice();
     check_marks(rt, hold, len.len());
-    if holds::<i32, u32>(len.len(), room, flag) {
-        return order_in::<i64, i32, u32, A>(
+    if holds::<i32, i32, u32>(len.len(), room, flag) {
+        return order_in::<i64, i32, i32, u32, A>(
             heap, flag, n, a_p, a_i, len, room, control, hold, info,
         );
     }
-    assert!(rt; holds::<isize, usize>(len.len(), room, flag));
-    order_in::<i64, isize, usize, A>(heap, flag, n, a_p, a_i, len, room, control, hold, info)
+    assert!(rt; holds::<isize, isize, usize>(len.len(), room, flag));
+    order_in::<i64, isize, isize, usize, A>(heap, flag, n, a_p, a_i, len, room, control, hold, info)
 }
 
 /// First flags for a matrix of `size` rows: the one of the product, and in each width one far from a reset of the

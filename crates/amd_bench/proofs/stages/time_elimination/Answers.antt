@@ -15,7 +15,7 @@ lent g c =
     c.deref_mut.ensures.value c.deref_mut-3.ensures.value
 
 pub lay-requires-clause-fits : goal.lay-requires-clause-fits
-lay-requires-clause-fits g c = let n = c.requires.narrow in let s = n.0 in (omega (arith, s), n.2, n.3)
+lay-requires-clause-fits g c = let n = c.requires.narrow in let s = n.2 in (omega (arith, s), n.0, n.1)
 
 pub time_rounds-requires-clause-fits : goal.time_rounds-requires-clause-fits
 time_rounds-requires-clause-fits g c = c.requires.fits
@@ -47,5 +47,5 @@ pub time_rounds-requires-clause-narrow : goal.time_rounds-requires-clause-narrow
 time_rounds-requires-clause-narrow g c =
     let size = (lent g (goal.at.time_rounds-requires-clause-narrow g c).After-deref_mut-3).size in
     let room : length c.deref_mut-2.result.now ≡ c.args.room = ap length c.deref_mut-2.ensures.value ∙ c.in_ok-laid.ensures.long.0 in
-    let n = c.requires.narrow in let s = n.0 in let u = n.1 in let x = n.2 in let y = n.3 in
-    (omega (arith, room, x), omega (arith, room, y), omega (arith, size, s), omega (arith, size, u))
+    let n = c.requires.narrow in let x = n.0 in let y = n.1 in let s = n.2 in let u = n.3 in
+    (omega (arith, room, x), omega (arith, room, y), omega (arith, size, s), omega (arith, size, u), n.4)

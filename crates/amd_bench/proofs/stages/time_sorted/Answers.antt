@@ -75,9 +75,9 @@ time_elimination-requires-clause-narrow g c =
     let size = ap length c.deref.ensures.value in
     let degrees = c.in-Ok.ensures.degrees.size in
     let count = c.known_count-count.ensures in
-    let a = c.holds.ensures.0 c.if-holds.true in
-    let s = a.0 in let u = a.1 in
-    (omega (arith, s, size, degrees, count), omega (arith, u, size, degrees, count), a.2, a.3)
+    let a = (c.holds.ensures.0 c.if-holds.true).0 in
+    let s = a.2 in let u = a.3 in
+    (a.0, a.1, omega (arith, s, size, degrees, count), omega (arith, u, size, degrees, count), a.4)
 
 pub time_elimination-requires-then-holds-2-clause-fits : goal.time_elimination-requires-then-holds-2-clause-fits
 time_elimination-requires-then-holds-2-clause-fits g c = c.requires.fits
@@ -141,6 +141,6 @@ time_elimination-requires-then-holds-2-clause-narrow g c =
     let size = ap length c.deref-then-holds-2.ensures.value in
     let degrees = c.in-Ok.ensures.degrees.size in
     let count = c.known_count-count.ensures in
-    let a = c.holds-2.ensures.0 c.if-holds-2.true in
-    let s = a.0 in let u = a.1 in
-    (omega (arith, s, size, degrees, count), omega (arith, u, size, degrees, count), a.2, a.3)
+    let a = (c.holds-2.ensures.0 c.if-holds-2.true).0 in
+    let s = a.2 in let u = a.3 in
+    (a.0, a.1, omega (arith, s, size, degrees, count), omega (arith, u, size, degrees, count), a.4)

@@ -38,10 +38,10 @@ build-end-requires g c = record {
   fits = (subst (λ m. c.args.free + length (front_of c.args.iw.now c.args.nv.now c.args.pe.now c.args.len.now c.args.me m)
       ≤ length c.args.iw.now) (sym c.named-n_elements.ensures) c.requires.fits);
   few = (let front : ℕ → List ℕ = front_of c.args.iw.now c.args.nv.now c.args.pe.now c.args.len.now c.args.me in
-      let few : sum_by (size_of c.args.nv.now) (front c.named-n_elements.result) + 2 ≤ g.S.Signed.MOST =
-      subst (λ m. sum_by (size_of c.args.nv.now) (front m) + 2 ≤ g.S.Signed.MOST) (sym c.named-n_elements.ensures) c.requires.few in
+      let few : sum_by (size_of c.args.nv.now) (front c.named-n_elements.result) + 2 ≤ g.P.Signed.MOST =
+      subst (λ m. sum_by (size_of c.args.nv.now) (front m) + 2 ≤ g.P.Signed.MOST) (sym c.named-n_elements.ensures) c.requires.few in
       lt_of_le_of_lt (le_trans (le-add_right (sum_by (size_of c.args.nv.now) (front c.named-n_elements.result)) 2) few)
-      g.met.S.Signed.narrow);
+      g.met.P.Signed.narrow);
 }
 
 pub absorb_own-requires : goal.absorb_own-requires
@@ -109,9 +109,9 @@ settle-requires g c = record {
     lt_of_lt_of_le me (le_of_eq (sym l.2)),
   ));
   order = ((c.build-end.ensures.grows, le_trans c.requires.pivot.end c.requires.wide.1));
-  few = (subst (λ t. t + 2 ≤ g.S.Signed.MOST) (sym c.build-end.ensures.total_is)
+  few = (subst (λ t. t + 2 ≤ g.P.Signed.MOST) (sym c.build-end.ensures.total_is)
       (subst (λ m. sum_by (size_of c.args.nv.now)
-      (front_of c.args.iw.now c.args.nv.now c.args.pe.now c.args.len.now c.args.me m) + 2 ≤ g.S.Signed.MOST)
+      (front_of c.args.iw.now c.args.nv.now c.args.pe.now c.args.len.now c.args.me m) + 2 ≤ g.P.Signed.MOST)
       (sym c.named-n_elements.ensures) c.requires.few));
   fits = (let l = ap length c.build-end.ensures.list in
       let k = rows_length c.build-end.new.iw c.args.free (c.build-end.result.0 - c.args.free) in

@@ -1,9 +1,9 @@
 use Rattle.std.proofs.Common.{rules}
 -- The proof of compaction::compact.
-use Rattle.std.proofs.Common.{◌≡◌, length, arith, sym, ◌∙◌, subst, set}
+use Rattle.std.proofs.Common.{◌≡◌, ◌≤◌, length, arith, le_of_eq, sym, ◌∙◌, subst, set, unsigned_abs}
 use Rattle.amd_words.specs.Words.{start, word}
 use Rattle.amd_elements.specs.Compaction.{Moves}
-use Rattle.amd_elements.proofs.MarkedLists.{Marked, start_inside, marked_yes, marked_no}
+use Rattle.amd_elements.proofs.MarkedLists.{Marked, start_below, start_inside, marked_yes, marked_no}
 use Rattle.amd_elements.proofs.Moves.{has_not_place, has_no_words, swept_none, swept_skip}
 use Rattle.amd_elements.proofs.Moves.{swept_move, swept_all, row_of, not_empty}
 use Rattle.amd_elements.proofs.MoveSigns.{owner_form}
@@ -66,13 +66,17 @@ move_list-requires g c = record {
   row = (let a = (row_of c.requires.layout c.loop-src-test.true (sym c.names_one-in-loop-src.ensures
       ∙ c.if-names_one-2.false) c.loop-src.invariant c.flipped-j.result c.flipped-j.ensures).2 in let b = c.loop-src.invariant.rows in
       omega (arith, a, b, c.requires.lengths));
+  first = (let a = row_of c.requires.layout c.loop-src-test.true (sym c.names_one-in-loop-src.ensures
+      ∙ c.if-names_one-2.false) c.loop-src.invariant c.flipped-j.result c.flipped-j.ensures in
+      subst (λ z. unsigned_abs z ≤ g.S.Signed.MOST) (sym (c.loop-src.invariant.todo c.flipped-j.result a.0 (le_of_eq (sym a.1))))
+      (c.requires.fits (start c.args.pe.now c.flipped-j.result) (start_below c.requires.layout c.flipped-j.result a.0)));
   some = (let a = (row_of c.requires.layout c.loop-src-test.true (sym c.names_one-in-loop-src.ensures
       ∙ c.if-names_one-2.false) c.loop-src.invariant c.flipped-j.result c.flipped-j.ensures).4 in let e = c.cell_at-count.ensures.is in
       omega (arith, a, e));
   inside = (let a = (row_of c.requires.layout c.loop-src-test.true (sym c.names_one-in-loop-src.ensures
       ∙ c.if-names_one-2.false) c.loop-src.invariant c.flipped-j.result c.flipped-j.ensures).3 in let e = c.cell_at-count.ensures.is in
       let h = c.loop-src.invariant.long in let w = c.loop-src.invariant.low in let b = c.requires.end in let d = c.requires.wide.1 in
-      let z = g.met.S.Signed.narrow in
+      let z = g.met.P.Signed.narrow in
       omega (arith, a, e, h, w, b, d, z));
   down = search rules;
   small = search rules;
@@ -98,12 +102,12 @@ pub overflow_add-src-else-names_one-2 : goal.overflow_add-src-else-names_one-2
 overflow_add-src-else-names_one-2 g c = let a = (row_of c.requires.layout c.loop-src-test.true (sym c.names_one-in-loop-src.ensures
     ∙ c.if-names_one-2.false) c.loop-src.invariant c.flipped-j.result c.flipped-j.ensures).3 in let e = c.cell_at-count.ensures.is in
     let h = c.loop-src.invariant.long in let w = c.loop-src.invariant.low in let b = c.requires.end in let d = c.requires.wide.1 in
-    let z = g.met.S.Signed.narrow in
+    let z = g.met.P.Signed.narrow in
     omega (arith, a, e, h, w, b, d, z)
 
 pub overflow_add-dst : goal.overflow_add-dst
 overflow_add-dst g c = let a = (row_of c.requires.layout c.loop-src-test.true (sym c.names_one-in-loop-src.ensures
     ∙ c.if-names_one-2.false) c.loop-src.invariant c.flipped-j.result c.flipped-j.ensures).3 in let e = c.cell_at-count.ensures.is in
     let h = c.loop-src.invariant.long in let w = c.loop-src.invariant.low in let b = c.requires.end in let d = c.requires.wide.1 in
-    let z = g.met.S.Signed.narrow in
+    let z = g.met.P.Signed.narrow in
     omega (arith, a, e, h, w, b, d, z)

@@ -14,7 +14,7 @@ pub put_word-requires-clause-inside : goal.put_word-requires-clause-inside
 put_word-requires-clause-inside g c = c.requires.row
 
 pub put_flip-requires-clause-small : goal.put_flip-requires-clause-small
-put_flip-requires-clause-small g c = c.requires.small
+put_flip-requires-clause-small g c = c.requires.small.0
 
 pub returns-clause-words : goal.returns-clause-words
 returns-clause-words g c = c.put_flip.ensures ∙ ap (λ k. set c.args.iw.now k (flip_of c.args.j)) c.named-at.ensures

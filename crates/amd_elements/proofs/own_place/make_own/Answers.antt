@@ -38,7 +38,7 @@ gather-end-requires g c = own_gather record {
     (subst (λ s. sum_by (size_of c.enter.new.nv) (grown c.args.iw.now c.enter.new.nv s s
     (classes c.enter.new.nv (rows c.args.iw.now s (num c.args.len.now c.args.me)))) < 2 ^ 63) (sym c.named-from.ensures)
     (own_few c.args.iw.now c.args.nv.now c.enter.new.nv c.args.pe.now c.args.len.now c.args.me c.enter.ensures.sizes c.enter.ensures.front
-    c.requires.pivot.clear (let f = c.requires.few in let top = g.met.S.Signed.narrow in omega (arith, f, top)))))
+    c.requires.pivot.clear (let f = c.requires.few in let top = g.met.P.Signed.narrow in omega (arith, f, top)))))
 
 pub put_flip-requires-clause-inside : goal.put_flip-requires-clause-inside
 put_flip-requires-clause-inside g c = let a = c.requires.pivot.row.0 in let l = c.requires.pivot.lengths.1 in omega (arith, a, l)

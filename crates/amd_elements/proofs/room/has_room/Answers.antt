@@ -12,7 +12,7 @@ pub named-n_elements-requires-clause-is_one : goal.named-n_elements-requires-cla
 named-n_elements-requires-clause-is_one g c = c.requires.count
 
 pub fits-requires-clause-end : goal.fits-requires-clause-end
-fits-requires-clause-end g c = (c.requires.pivot.end, lt_of_le_of_lt c.requires.wide.1 g.met.S.Signed.narrow)
+fits-requires-clause-end g c = (c.requires.pivot.end, lt_of_le_of_lt c.requires.wide.1 g.met.P.Signed.narrow)
 
 pub fits-requires-clause-around : goal.fits-requires-clause-around
 fits-requires-clause-around g c = record {

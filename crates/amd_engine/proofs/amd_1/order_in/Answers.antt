@@ -18,7 +18,7 @@ lent g c =
     c.requires.degrees laid.degrees laid.laid laid.lists c.deref_mut-2.ensures.value c.deref_mut.ensures.value c.deref_mut-3.ensures.value
 
 pub lay-requires-clause-fits : goal.lay-requires-clause-fits
-lay-requires-clause-fits g c = let n = c.requires.narrow in let s = n.0 in (omega (arith, s), n.2, n.3)
+lay-requires-clause-fits g c = let n = c.requires.narrow in let s = n.2 in (omega (arith, s), n.0, n.1)
 
 pub returns-in_err-laid-clause-orders : goal.returns-in_err-laid-clause-orders
 returns-in_err-laid-clause-orders g c = search rules
@@ -73,8 +73,8 @@ pub amd_2_from-requires-clause-narrow : goal.amd_2_from-requires-clause-narrow
 amd_2_from-requires-clause-narrow g c =
     let size = (lent g (goal.at.amd_2_from-requires-clause-narrow g c).After-deref_mut-3).size in
     let room : length c.deref_mut-2.result.now ≡ c.args.iwlen = ap length c.deref_mut-2.ensures.value ∙ c.in_ok-laid.ensures.long.0 in
-    let n = c.requires.narrow in let s = n.0 in let u = n.1 in let x = n.2 in let y = n.3 in
-    (omega (arith, room, x), omega (arith, room, y), omega (arith, size, s), omega (arith, size, u))
+    let n = c.requires.narrow in let x = n.0 in let y = n.1 in let s = n.2 in let u = n.3 in
+    (omega (arith, room, x), omega (arith, room, y), omega (arith, size, s), omega (arith, size, u), n.4)
 
 pub amd_2_from-requires-clause-flag : goal.amd_2_from-requires-clause-flag
 amd_2_from-requires-clause-flag g c = c.requires.flag

@@ -66,7 +66,7 @@ list_rows-requires-clause-room g c =
     )
 
 pub list_rows-requires-clause-narrow : goal.list_rows-requires-clause-narrow
-list_rows-requires-clause-narrow g c = rw c.run-told.ensures.over.words.0 (c.requires.narrow.2, c.requires.narrow.3)
+list_rows-requires-clause-narrow g c = rw c.run-told.ensures.over.words.0 (c.requires.narrow.2, c.requires.narrow.4, c.requires.narrow.3)
 
 pub list_rows-requires-clause-fits : goal.list_rows-requires-clause-fits
 list_rows-requires-clause-fits g c = λ k l. fits_below g.I.Index.fits g.met.I.Index.zero_fits g.met.I.Index.between k

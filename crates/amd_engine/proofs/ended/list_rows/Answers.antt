@@ -2,6 +2,7 @@ use Rattle.std.proofs.Common.{ℕ, ℤ, List, map, pos, length, subst, sym, arit
 use Rattle.amd_words.specs.Words.{num}
 use Rattle.amd_types.specs.Permutations.{AreInverse}
 use Rattle.amd_workspace.specs.Ending.{EndsRows}
+use Rattle.amd_engine.proofs.Blocks.{block_few}
 use Rattle.amd_engine.proofs.EndingLaw.{inverse_same, names_row, turned}
 use Rattle.amd_engine.proofs.ended.list_rows.Goals as goal
 
@@ -10,7 +11,11 @@ end_rows-requires-clause-lengths g c =
     let words = c.requires.over.words in (sym words.3, words.1 ∙ sym words.3, words.2 ∙ sym words.3)
 
 pub end_rows-requires-clause-narrow : goal.end_rows-requires-clause-narrow
-end_rows-requires-clause-narrow g c = let most = c.requires.narrow.0 in omega (arith, most)
+end_rows-requires-clause-narrow g c = let most = c.requires.narrow in omega (arith, most)
+
+pub end_rows-requires-clause-blocks : goal.end_rows-requires-clause-blocks
+end_rows-requires-clause-blocks g c = λ i l. let over = c.requires.over in let rows = over.words.3 in let most = c.requires.narrow.0 in
+    let few = block_few over i (omega (arith, l, rows)) in omega (arith, few, most)
 
 pub listing-requires : goal.listing-requires
 listing-requires g c =
@@ -22,7 +27,7 @@ listing-requires g c =
           (subst (λ k. EndsRows k c.args.pe.now c.args.e_len.now c.args.degree.now new.pe new.e_len new.nv) d c.end_rows.ensures.ends)
           (ended.0 ∙ d) (ended.1 ∙ d) rows;
       lengths = (over.links.0 ∙ sym rows, over.links.1 ∙ sym rows, d ∙ sym rows, over.counters ∙ sym rows);
-      narrow = rw rows c.requires.narrow;
+      narrow = (let most = c.requires.narrow in (omega (arith, most, rows), omega (arith, most, rows)));
     }
 
 pub write_numbers-requires-clause-room : goal.write_numbers-requires-clause-room

@@ -18,8 +18,8 @@ words-requires g c = let fits = c.requires.narrow.0 in
     let is = ap lib.IntN.nat_abs (as_word c.args.n fits g.met.S.Signed.narrow) in omega (arith, is, fits)
 
 pub words-requires-2 : goal.words-requires-2
-words-requires-2 g c = let fits = c.requires.narrow.0 in
-    let is = ap lib.IntN.nat_abs (as_word c.args.n fits g.met.S.Signed.narrow) in omega (arith, is, fits)
+words-requires-2 g c = let fits = c.requires.narrow.1 in
+    let is = ap lib.IntN.nat_abs (as_word c.args.n fits g.met.P.Signed.narrow) in omega (arith, is, fits)
 
 pub overflow_cast-n : goal.overflow_cast-n
 overflow_cast-n g c = let small : c.args.n < 2 ^ 63 = low c.args.n c.requires.narrow.0 g.met.S.Signed.narrow in search rules

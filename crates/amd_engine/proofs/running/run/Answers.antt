@@ -59,8 +59,8 @@ pub begin-live-requires-clause-links : goal.begin-live-requires-clause-links
 begin-live-requires-clause-links g c = let links = c.requires.empty.links in (links.0, links.1, links.2)
 
 pub begin-live-requires-clause-narrow : goal.begin-live-requires-clause-narrow
-begin-live-requires-clause-narrow g c =
-    let narrow = c.requires.narrow in let most = narrow.3 in (narrow.2, omega (arith, most))
+begin-live-requires-clause-narrow g c = let most = c.requires.narrow in
+    (omega (arith, most), omega (arith, most), omega (arith, most))
 
 pub begin-live-requires-clause-heads : goal.begin-live-requires-clause-heads
 begin-live-requires-clause-heads g c = λ b l. (c.requires.empty.heads b l).0

@@ -20,7 +20,7 @@ overflow_add-end g c = let is = c.named-from.ensures in let count = c.cell_at.en
       | inl q ↦ omega (arith, q, count)
       | inr ne ↦ (let a = c.requires.laid.within c.args.me (has_from c.args.pe.now c.args.len.now c.args.me c.requires.list (omega
           (arith, ne))) in
-          let b = c.requires.end in let d = c.requires.narrow.0 in let z = g.met.S.Signed.narrow in omega (arith, a, b, d, z, is, count))
+          let b = c.requires.end in let d = c.requires.narrow.0 in let z = g.met.P.Signed.narrow in omega (arith, a, b, d, z, is, count))
     ]
 
 -- the place p of the list, counted from its start

@@ -33,7 +33,8 @@ renew_list-few-requires g c = record {
   lengths = (c.requires.lengths.3);
   inside = (let f = c.named-from.ensures in let k = c.cell_at.ensures.is in
       let w = c.requires.placed.within in omega (arith, f, k, w));
-  narrow = (c.requires.narrow);
+  long = (let n = c.requires.narrow in let z = g.met.P.Signed.narrow in omega (arith, n, z));
+  few = (c.cell_at.ensures.small);
   parts = (let m = c.named-n_elements.ensures in let k = c.cell_at.ensures.is in
       let p = c.requires.placed.parts in omega (arith, m, k, p));
   names = (names_at c.args.iw.now refl (sym c.named-from.ensures) (sym c.cell_at.ensures.is)

@@ -3,7 +3,7 @@ use Rattle.std.proofs.Common.{rules}
 use Rattle.std.proofs.Common.{◌-◌, sym, ◌∙◌, arith}
 use Rattle.amd_words.specs.Words.{num}
 use Rattle.amd_fronts.proofs.Retiring.{one_ends, one_stays}
-use Rattle.std.proofs.Common.{lt_of_lt_of_le, le_trans, le_of_eq, le-add_right}
+use Rattle.std.proofs.Common.{lt_of_lt_of_le, le_of_eq}
 use Rattle.amd_words.specs.Sides.{lasts}
 use Rattle.amd_words.proofs.SideLists.{both_long}
 use Rattle.amd_fronts.proofs.fronts.renew_or_retire.Goals as goal
@@ -37,7 +37,7 @@ pub renew_class-count-requires : goal.renew_class-count-requires
 renew_class-count-requires g c = record {
   lengths = (c.requires.lengths);
   narrow = (c.requires.narrow.0);
-  row = ((c.requires.row.0, le_trans (le-add_right c.args.me 2) c.requires.row.1));
+  row = ((c.requires.row.0, c.requires.row.2));
   placed = (c.requires.placed);
   loses = (c.requires.loses);
   met = (c.requires.met);

@@ -62,7 +62,7 @@ renew_all-requires g c =
       end = c.requires.end;
       laid = subst (λ n. Layout n iw left c.args.e_len.now len c.args.free) (sym long)
           (left_laid c.args.aggressive c.args.flag c.requires.laid c.requires.two.0 c.requires.two.1 c.requires.front left out.starts);
-      row = (lt_of_lt_of_le c.requires.row.0 (le_of_eq (sym long)), c.requires.row.1);
+      row = (lt_of_lt_of_le c.requires.row.0 (le_of_eq (sym long)), c.requires.row.1, c.requires.row.2);
       list = ap is_place (left_me c.args.aggressive c.args.flag c.requires.laid c.requires.two.0 c.requires.two.1 c.requires.front left
           out.starts) ∙ c.requires.list.starts;
       apart = ap (λ xs. has xs me) same ∙ c.requires.list.apart;

@@ -49,8 +49,8 @@ merge_one-now-requires g c = record {
         refl,
         ap length c.classes.invariant.keys ∙ l.7 ∙ n,
       ));
-  short = (let s = c.requires.short.0 in let t = c.requires.short.1 in
-      let n = c.classes.invariant.merging.long.5 in ((omega (arith, s, n)), (omega (arith, t, n))));
+  short = (let s = c.requires.short.0 in let t = c.requires.short.1 in let u = c.requires.short.2 in
+      let n = c.classes.invariant.merging.long.5 in ((omega (arith, s, n)), (omega (arith, t, n)), (omega (arith, u, n))));
   ready = (let g = premises (length (nexts c.args.sides.now))
       c.args.iw.now c.args.pe.now c.args.e_len.now c.args.len.now c.args.nv.now c.args.w.now (nexts c.args.sides.now) (lasts
       c.args.sides.now)

@@ -28,14 +28,14 @@ pub push-requires : goal.push-requires
 push-requires g c = record {
   inside = (let e = c.bucket_at-key.ensures in let k = c.requires.ready.key in let n = c.requires.lengths.5 in
       (c.requires.ready.here.row, (omega (arith, e, k, n))));
-  short = (c.requires.short.1);
+  short = (c.requires.short.2);
 }
 
 pub push-requires-else-found-row_count : goal.push-requires-else-found-row_count
 push-requires-else-found-row_count g c = record {
   inside = (let e = c.bucket_at-key.ensures in let k = c.requires.ready.key in let n = c.requires.lengths.5 in
       (c.requires.ready.here.row, (omega (arith, e, k, n))));
-  short = (c.requires.short.1);
+  short = (c.requires.short.2);
 }
 
 pub find-found-requires : goal.find-found-requires
@@ -61,7 +61,7 @@ find-found-requires g c = record {
 pub merge-requires : goal.merge-requires
 merge-requires g c = record {
   lengths = (let l = c.requires.lengths in let n = sym l.2 in (l.0 ∙ n, l.1 ∙ n));
-  short = (let s = c.requires.short.0 in let n = c.requires.lengths.2 in omega (arith, s, n));
+  short = (let s = c.requires.short.1 in let n = c.requires.lengths.2 in omega (arith, s, n));
   add = record {
     inside = (let a = c.requires.ready.here.row in let n = c.requires.lengths.2 in let f = c.if-found-row_count.true in
         ((omega (arith, a, n)), (omega (arith, f, n))));

@@ -7,8 +7,8 @@ use Rattle.amd_postorder.proofs.postorder.link_children.Goals as goal
 
 pub elements-init : goal.elements-init
 elements-init g c = λ f_size forest heaviest child.
-    let read = g.N.Number.read in let links = g.L.Link.read in
-    chains_start (tree_of c.args.nn (read c.args.parent.now) (read c.args.nv.now) f_size) (links c.args.child.now)
+    let read = g.N.Number.read in let rows = g.V.Number.read in let links = g.L.Link.read in
+    chains_start (tree_of c.args.nn (read c.args.parent.now) (rows c.args.nv.now) f_size) (links c.args.child.now)
     (links c.args.sibling.now) child c.requires.sibling
 
 pub parent_of-requires-clause-in_parent : goal.parent_of-requires-clause-in_parent
@@ -19,14 +19,14 @@ parent_of-requires-clause-in_parent g c =
 
 pub parent_of-requires-clause-in_nv : goal.parent_of-requires-clause-in_nv
 parent_of-requires-clause-in_nv g c =
-    let room = c.requires.heaviest.1.nv_room in let same = g.met.N.Number.read_room c.args.nv.now in
+    let room = c.requires.heaviest.1.nv_room in let same = g.met.V.Number.read_room c.args.nv.now in
     let most = c.elements.auto.j in let some = c.elements-test.true in
     omega (arith, room, same, most, some)
 
 pub elements-preserved-in_default : goal.elements-preserved-in_default
 elements-preserved-in_default g c = λ f_size forest heaviest child_before.
-    let read = g.N.Number.read in let links = g.L.Link.read in
-    let n = c.args.nn in let parent = read c.args.parent.now in let nv = read c.args.nv.now in
+    let read = g.N.Number.read in let rows = g.V.Number.read in let links = g.L.Link.read in
+    let n = c.args.nn in let parent = read c.args.parent.now in let nv = rows c.args.nv.now in
     let child = links c.elements.child in let sibling = links c.elements.sibling in
     let up : c.elements.j ≡ suc (c.elements.j - 1) = (let some = c.elements-test.true in omega (arith, some)) in
     chains_skip (tree_of n parent nv f_size) (c.elements.j - 1) child sibling
@@ -36,8 +36,8 @@ elements-preserved-in_default g c = λ f_size forest heaviest child_before.
 
 pub link_at-requires : goal.link_at-requires
 link_at-requires g c =
-    let read = g.N.Number.read in
-    let n = c.args.nn in let parent = read c.args.parent.now in let nv = read c.args.nv.now in
+    let read = g.N.Number.read in let rows = g.V.Number.read in
+    let n = c.args.nn in let parent = read c.args.parent.now in let nv = rows c.args.nv.now in
     let f_size = c.requires.heaviest.0 in let forest = c.requires.heaviest.1 in
     let j = c.elements.j - 1 in let p = c.in-Some.p in
     let small = parent_small n parent nv f_size forest j p (sym c.in-Some.is ∙ c.parent_of.ensures) in
@@ -46,8 +46,8 @@ link_at-requires g c =
 
 pub elements-preserved-then-eq : goal.elements-preserved-then-eq
 elements-preserved-then-eq g c = λ f_size forest heaviest child_before.
-    let read = g.N.Number.read in let links = g.L.Link.read in
-    let n = c.args.nn in let parent = read c.args.parent.now in let nv = read c.args.nv.now in
+    let read = g.N.Number.read in let rows = g.V.Number.read in let links = g.L.Link.read in
+    let n = c.args.nn in let parent = read c.args.parent.now in let nv = rows c.args.nv.now in
     let child = links c.elements.child in let sibling = links c.elements.sibling in
     let j = c.elements.j - 1 in let p = c.in-Some.p in
     let q = sym c.in-Some.is ∙ c.parent_of.ensures in
@@ -70,8 +70,8 @@ copy_link-requires-clause-within g c =
 
 pub copy_link-requires-clause-other_within : goal.copy_link-requires-clause-other_within
 copy_link-requires-clause-other_within g c =
-    let read = g.N.Number.read in
-    let n = c.args.nn in let parent = read c.args.parent.now in let nv = read c.args.nv.now in
+    let read = g.N.Number.read in let rows = g.V.Number.read in
+    let n = c.args.nn in let parent = read c.args.parent.now in let nv = rows c.args.nv.now in
     let r = c.requires.heaviest in let f_size = r.0 in let forest = r.1 in
     let j = c.elements.j - 1 in let p = c.in-Some.p in
     let small = parent_small n parent nv f_size forest j p (sym c.in-Some.is ∙ c.parent_of.ensures) in
@@ -80,8 +80,8 @@ copy_link-requires-clause-other_within g c =
 
 pub set_link-requires-clause-within : goal.set_link-requires-clause-within
 set_link-requires-clause-within g c =
-    let read = g.N.Number.read in
-    let n = c.args.nn in let parent = read c.args.parent.now in let nv = read c.args.nv.now in
+    let read = g.N.Number.read in let rows = g.V.Number.read in
+    let n = c.args.nn in let parent = read c.args.parent.now in let nv = rows c.args.nv.now in
     let r = c.requires.heaviest in let f_size = r.0 in let forest = r.1 in
     let j = c.elements.j - 1 in let p = c.in-Some.p in
     let small = parent_small n parent nv f_size forest j p (sym c.in-Some.is ∙ c.parent_of.ensures) in
@@ -95,8 +95,8 @@ set_link-requires-clause-fits g c =
 
 pub elements-preserved : goal.elements-preserved
 elements-preserved g c = λ f_size forest heaviest child_before.
-    let read = g.N.Number.read in let links = g.L.Link.read in
-    let n = c.args.nn in let parent = read c.args.parent.now in let nv = read c.args.nv.now in
+    let read = g.N.Number.read in let rows = g.V.Number.read in let links = g.L.Link.read in
+    let n = c.args.nn in let parent = read c.args.parent.now in let nv = rows c.args.nv.now in
     let child = links c.elements.child in let sibling = links c.elements.sibling in
     let j = c.elements.j - 1 in let p = c.in-Some.p in
     let q = sym c.in-Some.is ∙ c.parent_of.ensures in
@@ -113,8 +113,8 @@ elements-preserved g c = λ f_size forest heaviest child_before.
 
 pub returns : goal.returns
 returns g c = λ f_size forest heaviest child_before.
-    let read = g.N.Number.read in let links = g.L.Link.read in
-    let t = tree_of c.args.nn (read c.args.parent.now) (read c.args.nv.now) f_size in
+    let read = g.N.Number.read in let rows = g.V.Number.read in let links = g.L.Link.read in
+    let t = tree_of c.args.nn (read c.args.parent.now) (rows c.args.nv.now) f_size in
     let child = links c.elements.child in let sibling = links c.elements.sibling in
     let none_left : c.elements.j ≡ 0 = (let none = c.elements-test.false in omega (arith, none)) in
     chains_end t child sibling (subst (λ v. AreLinkedFrom t v child sibling) none_left

@@ -10,8 +10,8 @@ use Rattle.amd_postorder.proofs.postorder.link_heaviest.Goals as goal
 
 pub elements-init : goal.elements-init
 elements-init g c =
-    let read = g.N.Number.read in let links = g.L.Link.read in
-    let n = c.args.nn in let parent = read c.args.parent.now in let nv = read c.args.nv.now in let f_size = read c.args.f_size.now in (
+    let read = g.N.Number.read in let rows = g.V.Number.read in let links = g.L.Link.read in
+    let n = c.args.nn in let parent = read c.args.parent.now in let nv = rows c.args.nv.now in let f_size = read c.args.f_size.now in (
       heaviest_start n parent nv f_size c.requires.forest (links c.args.heaviest.now) c.requires.unlinked,
       heaviest_start n parent nv f_size c.requires.forest (links c.args.child.now) c.requires.child,
     )
@@ -24,14 +24,14 @@ parent_of-requires-clause-in_parent g c =
 
 pub parent_of-requires-clause-in_nv : goal.parent_of-requires-clause-in_nv
 parent_of-requires-clause-in_nv g c =
-    let room = c.requires.forest.nv_room in let same = g.met.N.Number.read_room c.args.nv.now in
+    let room = c.requires.forest.nv_room in let same = g.met.V.Number.read_room c.args.nv.now in
     let small = c.elements-test.true in
     omega (arith, room, same, small)
 
 pub elements-preserved-in_default : goal.elements-preserved-in_default
 elements-preserved-in_default g c =
-    let read = g.N.Number.read in let links = g.L.Link.read in
-    let n = c.args.nn in let parent = read c.args.parent.now in let nv = read c.args.nv.now in let f_size = read c.args.f_size.now in
+    let read = g.N.Number.read in let rows = g.V.Number.read in let links = g.L.Link.read in
+    let n = c.args.nn in let parent = read c.args.parent.now in let nv = rows c.args.nv.now in let f_size = read c.args.f_size.now in
     let none = sym c.in_default.is ∙ c.parent_of.ensures in (
       rw add-one (heaviest_skip n parent nv f_size c.requires.forest c.elements.j (links c.elements.heaviest) c.elements.invariant.0 none),
       rw add-one (heaviest_skip n parent nv f_size c.requires.forest c.elements.j (links c.elements.child) c.elements.invariant.1 none),
@@ -39,8 +39,8 @@ elements-preserved-in_default g c =
 
 pub link_at-requires : goal.link_at-requires
 link_at-requires g c =
-    let read = g.N.Number.read in
-    let n = c.args.nn in let parent = read c.args.parent.now in let nv = read c.args.nv.now in let f_size = read c.args.f_size.now in
+    let read = g.N.Number.read in let rows = g.V.Number.read in
+    let n = c.args.nn in let parent = read c.args.parent.now in let nv = rows c.args.nv.now in let f_size = read c.args.f_size.now in
     let f = c.requires.forest in
     let j = c.elements.j in let p = c.in-Some.p in
     let small = parent_small n parent nv f_size f j p (sym c.in-Some.is ∙ c.parent_of.ensures) in
@@ -49,8 +49,8 @@ link_at-requires g c =
 
 pub heavier-element-requires-clause-element : goal.heavier-element-requires-clause-element
 heavier-element-requires-clause-element g c =
-    let read = g.N.Number.read in
-    let n = c.args.nn in let parent = read c.args.parent.now in let nv = read c.args.nv.now in let f_size = read c.args.f_size.now in
+    let read = g.N.Number.read in let rows = g.V.Number.read in
+    let n = c.args.nn in let parent = read c.args.parent.now in let nv = rows c.args.nv.now in let f_size = read c.args.f_size.now in
     let links = g.L.Link.read c.elements.heaviest in
     let f = c.requires.forest in
     let j = c.elements.j in let p = c.in-Some.p in
@@ -70,16 +70,16 @@ heavier-element-requires-clause-within g c =
 
 pub heavier-element-requires-clause-size : goal.heavier-element-requires-clause-size
 heavier-element-requires-clause-size g c =
-    let read = g.N.Number.read in
-    let n = c.args.nn in let parent = read c.args.parent.now in let nv = read c.args.nv.now in let f_size = read c.args.f_size.now in
+    let read = g.N.Number.read in let rows = g.V.Number.read in
+    let n = c.args.nn in let parent = read c.args.parent.now in let nv = rows c.args.nv.now in let f_size = read c.args.f_size.now in
     let f = c.requires.forest in
     let j = c.elements.j in let p = c.in-Some.p in
     f.sizes j (child_gives n parent nv f_size f p j (its_child n parent nv f_size f j p (sym c.in-Some.is ∙ c.parent_of.ensures))).0
 
 pub set_link-requires-clause-within : goal.set_link-requires-clause-within
 set_link-requires-clause-within g c =
-    let read = g.N.Number.read in
-    let n = c.args.nn in let parent = read c.args.parent.now in let nv = read c.args.nv.now in let f_size = read c.args.f_size.now in
+    let read = g.N.Number.read in let rows = g.V.Number.read in
+    let n = c.args.nn in let parent = read c.args.parent.now in let nv = rows c.args.nv.now in let f_size = read c.args.f_size.now in
     let f = c.requires.forest in
     let j = c.elements.j in let p = c.in-Some.p in
     let small = parent_small n parent nv f_size f j p (sym c.in-Some.is ∙ c.parent_of.ensures) in
@@ -94,8 +94,8 @@ set_link-requires-clause-fits g c =
 
 pub set_link-requires-in-elements-clause-within : goal.set_link-requires-in-elements-clause-within
 set_link-requires-in-elements-clause-within g c =
-    let read = g.N.Number.read in
-    let n = c.args.nn in let parent = read c.args.parent.now in let nv = read c.args.nv.now in let f_size = read c.args.f_size.now in
+    let read = g.N.Number.read in let rows = g.V.Number.read in
+    let n = c.args.nn in let parent = read c.args.parent.now in let nv = rows c.args.nv.now in let f_size = read c.args.f_size.now in
     let f = c.requires.forest in
     let j = c.elements.j in let p = c.in-Some.p in
     let small = parent_small n parent nv f_size f j p (sym c.in-Some.is ∙ c.parent_of.ensures) in
@@ -110,8 +110,8 @@ set_link-requires-in-elements-clause-fits g c =
 
 pub elements-preserved : goal.elements-preserved
 elements-preserved g c =
-    let read = g.N.Number.read in
-    let n = c.args.nn in let parent = read c.args.parent.now in let nv = read c.args.nv.now in let f_size = read c.args.f_size.now in
+    let read = g.N.Number.read in let rows = g.V.Number.read in
+    let n = c.args.nn in let parent = read c.args.parent.now in let nv = rows c.args.nv.now in let f_size = read c.args.f_size.now in
     let heaviest = g.L.Link.read c.elements.heaviest in let child = g.L.Link.read c.elements.child in
     let f = c.requires.forest in let i = c.elements.invariant in
     let j = c.elements.j in let p = c.in-Some.p in

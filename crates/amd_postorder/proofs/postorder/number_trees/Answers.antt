@@ -7,8 +7,8 @@ use Rattle.amd_postorder.proofs.postorder.number_trees.Goals as goal
 
 pub roots-init : goal.roots-init
 roots-init g c = λ f_size forest linked.
-    let read = g.N.Number.read in let links = g.L.Link.read in
-    numbers_start (tree_of c.args.nn (read c.args.parent.now) (read c.args.nv.now) f_size) (links c.args.child.now)
+    let read = g.N.Number.read in let rows = g.V.Number.read in let links = g.L.Link.read in
+    numbers_start (tree_of c.args.nn (read c.args.parent.now) (rows c.args.nv.now) f_size) (links c.args.child.now)
     (links c.args.order.now) c.requires.order
 
 pub is_root-requires-clause-in_parent : goal.is_root-requires-clause-in_parent
@@ -19,14 +19,14 @@ is_root-requires-clause-in_parent g c =
 
 pub is_root-requires-clause-in_nv : goal.is_root-requires-clause-in_nv
 is_root-requires-clause-in_nv g c =
-    let room = c.requires.linked.1.nv_room in let same = g.met.N.Number.read_room c.args.nv.now in
+    let room = c.requires.linked.1.nv_room in let same = g.met.V.Number.read_room c.args.nv.now in
     let small = c.roots-test.true in
     omega (arith, room, same, small)
 
 pub roots-preserved-then-not-is_root : goal.roots-preserved-then-not-is_root
 roots-preserved-then-not-is_root g c = λ f_size forest linked.
     let links = g.L.Link.read in
-    let nv = g.N.Number.read c.args.nv.now in let parent = g.N.Number.read c.args.parent.now in let j = c.roots.j in
+    let nv = g.V.Number.read c.args.nv.now in let parent = g.N.Number.read c.args.parent.now in let j = c.roots.j in
     let off : (is_tree_element c.args.nn nv j && is_none (named (at parent j))) ≡ false =
     ap (λ n. is_tree_element n nv j && is_none (named (at parent j))) (sym forest.nv_room)
     ∙ sym c.is_root.ensures ∙ c.if-not-is_root.true in
@@ -37,7 +37,7 @@ pub post_tree-next-requires-clause-fits : goal.post_tree-next-requires-clause-fi
 post_tree-next-requires-clause-fits g c =
     let links = g.L.Link.read in let same = g.met.L.Link.read_room in
     let f_size = c.requires.linked.0 in let forest = c.requires.linked.1 in let linked = c.requires.linked.2 in
-    let nv = g.N.Number.read c.args.nv.now in let parent = g.N.Number.read c.args.parent.now in let j = c.roots.j in
+    let nv = g.V.Number.read c.args.nv.now in let parent = g.N.Number.read c.args.parent.now in let j = c.roots.j in
     let root : (is_tree_element c.args.nn nv j && is_none (named (at parent j))) ≡ true =
     ap (λ n. is_tree_element n nv j && is_none (named (at parent j))) (sym forest.nv_room)
     ∙ sym c.is_root.ensures ∙ c.if-not-is_root.false in
@@ -51,7 +51,7 @@ post_tree-next-requires-clause-fits g c =
 pub roots-preserved : goal.roots-preserved
 roots-preserved g c = λ f_size forest linked.
     let links = g.L.Link.read in
-    let nv = g.N.Number.read c.args.nv.now in let parent = g.N.Number.read c.args.parent.now in let j = c.roots.j in
+    let nv = g.V.Number.read c.args.nv.now in let parent = g.N.Number.read c.args.parent.now in let j = c.roots.j in
     let root : (is_tree_element c.args.nn nv j && is_none (named (at parent j))) ≡ true =
     ap (λ n. is_tree_element n nv j && is_none (named (at parent j))) (sym forest.nv_room)
     ∙ sym c.is_root.ensures ∙ c.if-not-is_root.false in
@@ -64,7 +64,7 @@ roots-preserved g c = λ f_size forest linked.
 pub returns : goal.returns
 returns g c = λ f_size forest linked.
     let links = g.L.Link.read in let same = g.met.L.Link.read_room in
-    let nv = g.N.Number.read c.args.nv.now in let parent = g.N.Number.read c.args.parent.now in
+    let nv = g.V.Number.read c.args.nv.now in let parent = g.N.Number.read c.args.parent.now in
     let child_before = links c.args.child.now in let child = links c.roots.child in let order = links c.roots.order in
     let t = tree_of c.args.nn parent nv f_size in
     let most = c.roots.auto.j-end in let least = c.roots-test.false in

@@ -19,7 +19,7 @@ rounds-init g c = record {
 pub round-requires-clause-wide : goal.round-requires-clause-wide
 round-requires-clause-wide g c =
     let w = c.requires.wide in let i = c.rounds.invariant.long.0 in let n = c.rounds.invariant.long.1 in
-    (omega (arith, w, i), omega (arith, w, i), omega (arith, w, n), omega (arith, w, n))
+    (omega (arith, w, i), omega (arith, w, i), omega (arith, w, n), omega (arith, w, n), w.4)
 
 pub round-requires-clause-stands : goal.round-requires-clause-stands
 round-requires-clause-stands g c = c.rounds.invariant.stands

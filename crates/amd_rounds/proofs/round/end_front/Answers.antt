@@ -149,7 +149,7 @@ close-requires g c =
         (let a = told.lengths.1 in let b = s.next in omega (arith, a, b, row)),
       );
       order = (omega (arith, low, from_is));
-      few = (let a = h.order.0 in let b = h.order.1 in let d = w.2 in omega (arith, a, b, d));
+      few = (let a = h.order.0 in let b = h.order.1 in omega (arith, a, b, w));
       fits = (
         (let a = told.filters.high in let b = ap (λ l. num l c.args.me) same.1 in let d = h.front.within in let e = h.front.end in
             let f = w.1 in omega (arith, a, b, d, e, f, from_is)),

@@ -22,11 +22,11 @@ merge_front-work-requires g c =
     let p = c.args.work.now in let s = c.requires.sized in let n = sym s.next in let h = c.requires.front in let f = h.front in
     let flag = c.renew_flag-flag.ensures in let w = c.requires.wide in let a = front_count f in let k = s.next in
     let at = c.list_lent-from.ensures.list in let same = c.list_lent-from.ensures.same in
-    let ready : CanMergeFront g.S.Signed.MOST g.U.Unsigned.MOST (start p.pe.now c.args.me) (num p.len.now c.args.me)
+    let ready : CanMergeFront g.S.Signed.MOST g.P.Signed.MOST g.U.Unsigned.MOST (start p.pe.now c.args.me) (num p.len.now c.args.me)
     c.renew_flag-flag.result p.iw.now p.pe.now p.e_len.now p.nv.now p.len.now c.renew_flag-flag.new.w p.hash.now p.sides.now
     = record {
       lengths = (s.pe ∙ n, s.e_len ∙ n, s.nv ∙ n, s.len ∙ n, flag.long ∙ s.w ∙ n, s.hash ∙ n, refl, s.last ∙ n);
-      short = (let x = w.2 in let y = w.3 in ((omega (arith, x, k)), (omega (arith, y, k))));
+      short = (omega (arith, w, k), omega (arith, w, k), omega (arith, w, k));
       front = (
         (let x = f.within in let y = f.end in omega (arith, x, y)),
         rw s.next (λ m l. f.laid.words (start p.pe.now c.args.me + m) (let x = f.within in omega (arith, x, l))),

@@ -20,7 +20,7 @@ turn-requires g c =
       narrow = (wide.0, (let a = wide.3 in omega (arith, a, long)));
       end = f.end;
       laid = subst (λ n. Layout n p.iw.now p.pe.now p.e_len.now p.len.now p.free) w f.laid;
-      row = (let a = f.row in let b = wide.2 in ((omega (arith, a, long)), (omega (arith, a, b))));
+      row = (let a = f.row in (omega (arith, a, long), omega (arith, a, wide), omega (arith, a, wide)));
       list = record { starts = f.starts; within = f.within; apart = f.apart; once = f.once };
       front = λ i m. subst (λ n. IsTurning n c.args.me (list_in p.iw.now p.pe.now p.len.now c.args.me) p.iw.now p.pe.now
           p.e_len.now p.nv.now p.len.now p.degree.now c.renew_flag-flag.new.w i) w

@@ -10,6 +10,11 @@ use Rattle.amd_workspace.proofs.ending.end_rows.Goals as goal
 pub rows-init : goal.rows-init
 rows-init g c = record { lengths = c.requires.lengths; ends = λ i l. absurd (omega (arith, l)); rest = λ j l. (refl, refl) }
 
+pub end_element-requires-clause-narrow : goal.end_element-requires-clause-narrow
+end_element-requires-clause-narrow g c = let k : ℕ = c.rows.i in let here = c.rows.invariant.rest k (omega arith) in
+    let border = num c.args.degree.now k in let most = c.requires.blocks k c.rows-test.true in
+    let same = ap (λ z. cond (is_flip z) (flipped z - border) 0) here.1 in (c.requires.narrow, omega (arith, same, most))
+
 pub rows-preserved : goal.rows-preserved
 rows-preserved g c =
     let v = c.rows.invariant in let k : ℕ = c.rows.i in let t = c.rows-test.true in let long = v.lengths in

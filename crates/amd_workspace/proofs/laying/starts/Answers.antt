@@ -32,7 +32,7 @@ word_of-requires g c =
     let i = c.rows.invariant in
     let s = small (length c.args.degrees.now) c.rows.degree-index c.rows.total (num c.args.degrees.now) _ i.total c.rows-test.true
     c.requires.fits.0 in
-    let n = g.met.S.Signed.narrow in
+    let n = g.met.P.Signed.narrow in
     let low : c.rows.total < 2 ^ 63 = omega (arith, s, n) in
     let is = ap lib.IntN.nat_abs (to_z_pos w64 c.rows.total low) in
     omega (arith, is, s)
@@ -72,7 +72,7 @@ overflow_cast-total g c =
     let i = c.rows.invariant in
     let s = small (length c.args.degrees.now) c.rows.degree-index c.rows.total (num c.args.degrees.now) _ i.total c.rows-test.true
     c.requires.fits.0 in
-    let n = g.met.S.Signed.narrow in
+    let n = g.met.P.Signed.narrow in
     let low : c.rows.total < 2 ^ 63 = omega (arith, s, n) in
     search rules
 
@@ -89,7 +89,7 @@ rows-preserved g c =
     let i = c.rows.invariant in let n = c.rows.degree-index in let degrees = c.args.degrees.now in
     let a = c.push_reserved.ensures in let b = c.push_reserved-in-rows.ensures in let d = c.push_reserved-in-rows-2.ensures in
     let s = small (length degrees) n c.rows.total (num degrees) _ i.total c.rows-test.true c.requires.fits.0 in
-    let low : c.rows.total < 2 ^ 63 = (let w = g.met.S.Signed.narrow in omega (arith, s, w)) in
+    let low : c.rows.total < 2 ^ 63 = (let w = g.met.P.Signed.narrow in omega (arith, s, w)) in
     let next_is = b.items ∙ ap (λ x. c.rows.next.items ++ x ∷ []) c.cell_of.ensures in
     let pe_is = a.items ∙ ap (λ x. c.rows.pe.items ++ x ∷ []) (c.word_of.ensures ∙ to_z_pos w64 c.rows.total low) in
     let len_is = d.items ∙ ap (λ x. c.rows.len.items ++ x ∷ []) c.cell_of-in-rows.ensures in
