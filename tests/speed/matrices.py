@@ -270,6 +270,8 @@ HOSTILE = {
 }
 GROWTH = {"x".join(map(str, ("growth_" + str(s[0]), *s[1:]))): lambda s=s: grid(*s) for s in (
     (71, 71), (224, 224), (708, 708), (2237, 2237), (15,) * 3, (33,) * 3, (70,) * 3, (150,) * 3)}
+# Its workspace in order has more than 2^31 words, and the file 3.6 GB.
+GROWTH["blocks_600x1000"] = lambda: blocks(600, 1000)
 ALL = {**PLAIN, **KINDS, **JUMBLED, **BOTH, **HOSTILE, **GROWTH}
 
 
