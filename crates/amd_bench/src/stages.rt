@@ -198,6 +198,43 @@ fn time_elimination<
     )
 }
 
+/// Eliminates and lists as `time_elimination`, in words as wide as `order` takes them.
+fn time_widths<R: time::Clock + Alloc<A = Global>, I: PrimInt>(
+    rt: &R,
+    clock: &mut Clock,
+    n: I,
+    a_p: &[I],
+    a_i: &[I],
+    degrees: &[usize],
+    room: usize,
+) -> Result<Vec<I>>
+    requires fits { I.fits (I.value n) }
+    requires size { I.value n ≡ pos (length degrees.now) }
+    requires some { 0 < length degrees.now }
+    requires form { IsColumnForm (pos (length degrees.now)) (length degrees.now) (map I.value a_p.now)
+        (map I.value a_i.now) }
+    requires sorted { IsSorted (length degrees.now) (map I.value a_p.now) (map I.value a_i.now) }
+    requires degrees { AreCounts (graph_of (length degrees.now) (map I.value a_p.now) (map I.value a_i.now))
+        ((graph_of (length degrees.now) (map I.value a_p.now) (map I.value a_i.now)).edge) degrees.now }
+    requires room { (start_of (graph_of (length degrees.now) (map I.value a_p.now) (map I.value a_i.now))
+        (length degrees.now) + length degrees.now ≤ room) × (room < 2 ^ 63) }
+{
+    let size = degrees.len();
+    if holds::<i32, i32, u32>(size, room, 2) {
+        return time_elimination::<R, I, i32, i32, u32>(rt, clock, n, a_p, a_i, degrees, room);
+    }
+    if holds::<i32, isize, u32>(size, room, 2) {
+        return time_elimination::<R, I, i32, isize, u32>(rt, clock, n, a_p, a_i, degrees, room);
+    }
+    if holds::<i32, isize, usize>(size, room, 2) {
+        return time_elimination::<R, I, i32, isize, usize>(rt, clock, n, a_p, a_i, degrees, room);
+    }
+    if holds::<isize, isize, usize>(size, room, 2) {
+        return time_elimination::<R, I, isize, isize, usize>(rt, clock, n, a_p, a_i, degrees, room);
+    }
+    bail!("out of memory")
+}
+
 /// Orders a matrix whose columns are sorted.
 fn time_sorted<R: time::Clock + Alloc<A = Global>, I: PrimInt>(
     rt: &R,
@@ -220,13 +257,7 @@ fn time_sorted<R: time::Clock + Alloc<A = Global>, I: PrimInt>(
     let Some(room) = workspace_words(nzaat, count) else {
         bail!("out of memory");
     };
-    if holds::<i32, i32, u32>(count, room, 2) {
-        return time_elimination::<R, I, i32, i32, u32>(rt, clock, n, a_p, a_i, &degrees, room);
-    }
-    if holds::<i32, isize, u32>(count, room, 2) {
-        return time_elimination::<R, I, i32, isize, u32>(rt, clock, n, a_p, a_i, &degrees, room);
-    }
-    bail!("too large to time its stages")
+    time_widths(rt, clock, n, a_p, a_i, &degrees, room)
 }
 
 /// Orders a matrix by the default control.
