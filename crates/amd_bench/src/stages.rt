@@ -5,6 +5,7 @@
 
 ghost use Rattle.std.specs.Prelude.{◌≡◌, ◌≢◌, ◌<◌, ◌≤◌, ◌+◌, ◌/◌, ◌^◌, ℕ, List, pos, map, length};
 ghost use Rattle.std.specs.Option.{SomeIff};
+ghost use Rattle.std.specs.Vec.{vec_capacity};
 ghost use Rattle.amd_model.specs.Graph.{Graph};
 ghost use Rattle.amd_model.specs.Input.Columns.{IsColumnForm, IsInput, IsSorted, IsSortedInput};
 ghost use Rattle.amd_model.specs.Input.Pattern.{graph_of};
@@ -21,7 +22,7 @@ use amd_cases::matrix::BinaryMatrix;
 use amd_engine::amd_1::holds;
 use amd_engine::ended::list_rows;
 use amd_engine::fresh::fresh_lists;
-use amd_engine::running::run;
+use amd_engine::running::run_growing;
 use amd_types::dense::dense_threshold;
 use amd_types::index::Index;
 use amd_types::internal::{known_count, to_count};
@@ -102,28 +103,30 @@ fn workspace_words(nzaat: usize, n: usize) -> Option<usize>
     if words < 1 << 63 { Some(words) } else { None }
 }
 
-/// Eliminates in lists that are laid, and lists the rows.
+/// Eliminates in lists that are laid, in a workspace that grows up to `room` words, and lists the rows.
 fn time_rounds<R: time::Clock + Alloc<A = Global>, I: Index, S: Signed, P: Signed, U: Unsigned>(
     rt: &R,
     clock: &mut Clock,
     n: I,
     pe: &mut [Word<P>],
-    iw: &mut [Word<S>],
+    iw: &mut Vec<Word<S>, Global>,
     len: &mut [Cell<U>],
     free: usize,
+    room: usize,
 ) -> Result<Vec<I>>
     requires fits { I.fits (I.value n) }
     requires size { I.value n ≡ pos (length len.old) }
-    requires laid { IsLaidOut (length len.old) iw.old pe.old len.old free }
-    requires graph { (g : Graph) × (lists : ℕ → List ℕ) × LaysGraph g lists iw.old pe.old len.old }
-    requires room { free + length len.old ≤ length iw.old }
-    requires narrow { AreWideEnough S.MOST P.MOST U.MOST (length len.old) (length iw.old) }
+    requires laid { IsLaidOut (length len.old) iw.old.items pe.old len.old free }
+    requires graph { (g : Graph) × (lists : ℕ → List ℕ) × LaysGraph g lists iw.old.items pe.old len.old }
+    requires room { (free + length len.old ≤ length iw.old.items) × (length iw.old.items ≤ room) ×
+        (room ≤ vec_capacity iw.old) }
+    requires narrow { AreWideEnough S.MOST P.MOST U.MOST (length len.old) room }
 {
     let control = Control::default();
     let threshold = dense_threshold(len.len(), &control);
     let mut fresh = fresh_lists(rt.alloc(), len.len())?;
     clock.end(rt, "lists");
-    run(
+    run_growing(
         iw,
         pe,
         len,
@@ -139,6 +142,7 @@ fn time_rounds<R: time::Clock + Alloc<A = Global>, I: Index, S: Signed, P: Signe
         &control,
         None,
         threshold,
+        room,
     );
     clock.end(rt, "rounds");
     list_rows(
@@ -195,6 +199,7 @@ fn time_elimination<
         &mut laid.iw,
         &mut laid.len,
         laid.free,
+        room,
     )
 }
 

@@ -1,5 +1,5 @@
 -- What rounds left can be listed, so the block of no element has more rows than there are.
-use Rattle.std.proofs.Common.{ℕ, ℤ, pos, negsuc, zero, suc, List, [], ◌∷◌, ◌++◌, ◌≡◌, ◌<◌, ◌≤◌, ◌+◌, ◌∙◌, inl, inr, ap, sym, cond, arith}
+use Rattle.std.proofs.Common.{ℕ, ℤ, pos, negsuc, zero, suc, List, [], ◌∷◌, ◌++◌, ◌≡◌, ◌<◌, ◌≤◌, ◌∙◌, inl, inr, ap, sym, cond, arith}
 use Rattle.std.proofs.Common.{length, get_or, unsigned_abs}
 use Rattle.std.specs.Prelude.{nat_lt}
 use Rattle.std.proofs.lemmas.Bool.{cases_Bool, cases_lt}

@@ -1,9 +1,9 @@
 -- The engine in place runs the rules: it starts where an elimination starts, and its rounds come to an end.
-use Rattle.std.proofs.Common.{ℕ, ℤ, pos, Bool, List, Option, ◌≡◌, ◌≤◌, ◌<◌, ◌+◌, ◌||◌, ◌∙◌, ap, sym, arith, length, reverse}
+use Rattle.std.proofs.Common.{ℕ, ℤ, pos, Bool, List, Option, ◌≡◌, ◌≤◌, ◌<◌, ◌+◌, ◌||◌, ap, sym, subst, refl, arith, length, reverse}
 use Rattle.std.specs.Prelude.{nat_lt, replicate}
 use Rattle.amd_model.specs.Below.{count_below}
 use Rattle.amd_model.specs.Graph.{Graph}
-use Rattle.amd_model.specs.State.{State}
+use Rattle.amd_model.specs.State.{State, IsStart}
 use Rattle.amd_model.specs.Quotient.{QuotientGraph, start_quotient}
 use Rattle.amd_model.specs.Run.{last_state}
 use Rattle.amd_model.specs.Input.Dense.{is_dense}
@@ -15,12 +15,14 @@ use Rattle.amd_words.specs.Words.{num}
 use Rattle.amd_lists.specs.Chains.{DegreeLists}
 use Rattle.amd_rounds.specs.Workspaces.{Workspace}
 use Rattle.amd_rounds.specs.Laid.{IsSized, IsLaid}
-use Rattle.amd_rounds.specs.Keeps.{Stands}
+use Rattle.amd_rounds.proofs.Rounds.{StandsForSome}
+use Rattle.amd_rounds.specs.Keeps.{Stands, AreRounds, NoRowIsLive}
 use Rattle.amd_workspace.specs.Laying.{IsLaidOut}
 use Rattle.amd_workspace.specs.Starting.{Rows, BeginsRows, held_in, begins_class, classes_of}
 use Rattle.amd_workspace.proofs.Begun.{rows_of, begun_view, begun_laid, listed_row}
 use Rattle.amd_workspace.proofs.AtStart.{stands_at_start}
-use Rattle.amd_engine.specs.InPlace.{EndsIn, EndsRounds, LaysGraph, first_sums}
+use Rattle.amd_engine.specs.InPlace.{AreOver, LaysGraph, RunsInPlace, StandsAtStart, first_sums}
+use Rattle.amd_engine.proofs.EndingLaw.{is_over}
 use Rattle.amd_engine_law.proofs.EngineLaw.{degree_small}
 
 -- what the lists of a workspace say before its first round, beside its rows
@@ -98,41 +100,75 @@ module _ (hold : Option (List Bool)) (threshold : ℕ) (p : Rows) (v : Workspace
       (first_state g dense)
       lays.neighbours.graph size_is lays.neighbours.counts held_is lays.laid lays.neighbours.names (starts g dense)
 
-  module _ (aggressive : Bool) (pe e_len nv : List ℤ) (degree : List ℕ) (n_dense : ℕ) (figures : Figures)
-      (ends : EndsIn aggressive v pe e_len nv degree n_dense figures) where
-    abbrev Reached : Type 0
-    Reached = (u : QuotientGraph) × ((states : List State) ×
-        Follows g aggressive (start_quotient g dense lists) (first_state g dense) states u
-        × Stands g dense v.free ends.after u (last_state (first_state g dense) states))
+  -- so it does whatever graph is laid
+  pub stands_start : (first : State) × (nzaat : ℕ) × IsStart g (is_held_last hold g threshold) first
+      × Stands g (is_held_last hold g threshold) nzaat v (start_quotient g (is_held_last hold g threshold) lists) first
+  stands_start = (first_state g dense, v.free, starts g dense, stands_first)
 
-    abbrev reached : Reached
-    reached = ends.rounds g dense v.free (start_quotient g dense lists) (first_state g dense) stands_first
+-- rounds from the start of an elimination came to an end
+module _ (hold : Option (List Bool)) (threshold : ℕ) (aggressive : Bool) (iw pe : List ℤ) (len : List ℕ) (before after : Workspace)
+    (start : StandsAtStart hold threshold iw pe len before) (rounds : AreRounds aggressive before after) where
+  -- what they lead to, of a graph that is laid
+  abbrev pub reached : (g : Graph) (lists : ℕ → List ℕ) (lays : LaysGraph g lists iw pe len) → (u : QuotientGraph)
+      × ((states : List State)
+      × Follows g aggressive (start_quotient g (is_held_last hold g threshold) lists) (start g lists lays).0 states u
+      × Stands g (is_held_last hold g threshold) (start g lists lays).1 after u (last_state (start g lists lays).0 states))
+  reached g lists lays = let from = start g lists lays in let dense : ℕ → Bool = is_held_last hold g threshold in
+      rounds g dense from.1 (start_quotient g dense lists) from.0 from.3
 
-    -- its rounds came to an end
-    pub ends_rounds : EndsRounds g dense aggressive lists n_dense figures pe e_len nv degree
-    ends_rounds = let stands = reached.1.2 in let k = stands.view.fronts in record {
-      first = first_state g dense;
-      reaches = record {
-        graph = lays.neighbours.graph;
-        start = starts g dense;
-        fits = stands_first.view.fits;
-        end = reached.0;
-        states = reached.1.0;
-        follows = reached.1.1;
-        over = ends.over g dense v.free reached.0 (last_state (first_state g dense) reached.1.0) stands;
-        tells = record {
-          dense_rows = sym ends.dense_is ∙ k.dense_rows;
-          lnz = sym (ap (λ (f : Figures). f.lnz) ends.figures_are) ∙ k.lnz;
-          ldl = sym (ap (λ (f : Figures). f.n_mult_subs_ldl) ends.figures_are) ∙ k.ldl;
-          lu = sym (ap (λ (f : Figures). f.n_mult_subs_lu) ends.figures_are) ∙ k.lu;
-          greatest = sym (ap (λ (f : Figures). f.d_max) ends.figures_are) ∙ k.greatest;
-        };
-      };
-      words = v.free;
-      after = ends.after;
-      stands = stands;
-      pe_is = ends.pe_is;
-      e_len_is = ends.e_len_is;
-      nv_is = ends.nv_is;
-      degree_is = ends.degree_is;
+  pub is_sized : (g : Graph) (lists : ℕ → List ℕ) → LaysGraph g lists iw pe len → IsSized (length len) after
+  is_sized g lists lays = subst (λ n. IsSized n after) (sym lays.neighbours.size) (reached g lists lays).1.2.laid.sized
+
+  pub packs_few : (g : Graph) (lists : ℕ → List ℕ) → LaysGraph g lists iw pe len → after.n_cmp_a ≤ length len
+  packs_few g lists lays = let p = (reached g lists lays).1.2.laid.packs in let s = lays.neighbours.size in omega (arith, p, s)
+
+  module _ (over : NoRowIsLive after) where
+    pub runs_in_place : RunsInPlace hold threshold aggressive iw pe len after.n_dense after.figures after.pe after.e_len after.nv
+        after.degree
+    runs_in_place g lists lays =
+        let dense : ℕ → Bool = is_held_last hold g threshold in
+        let from = start g lists lays in let to = reached g lists lays in let stands = to.1.2 in let k = stands.view.fronts in record {
+          first = from.0;
+          reaches = record {
+            graph = lays.neighbours.graph;
+            start = from.2;
+            fits = from.3.view.fits;
+            end = to.0;
+            states = to.1.0;
+            follows = to.1.1;
+            over = over g dense from.1 to.0 (last_state from.0 to.1.0) stands;
+            tells = record {
+              dense_rows = k.dense_rows;
+              lnz = k.lnz;
+              ldl = k.ldl;
+              lu = k.lu;
+              greatest = k.greatest;
+            };
+          };
+          words = from.1;
+          after = after;
+          stands = stands;
+          pe_is = refl;
+          e_len_is = refl;
+          nv_is = refl;
+          degree_is = refl;
+        }
+
+    -- what they left can be listed
+    pub are_over : (g : Graph) (lists : ℕ → List ℕ) → LaysGraph g lists iw pe len →
+        AreOver (length len) after.pe after.e_len after.nv after.degree after.w after.head after.hash
+    are_over g lists lays = let z = is_sized g lists lays in record {
+      words = (z.pe, z.e_len, z.nv, z.degree);
+      counters = z.w;
+      links = (z.head, z.hash);
+      ends = λ link f_size blocks ends link_long f_size_long blocks_long. is_over hold threshold aggressive iw pe len after.n_dense
+          after.figures after.pe after.e_len after.nv after.degree runs_in_place link f_size blocks ends link_long f_size_long
+          blocks_long g lists lays;
     }
+
+-- a workspace that stands for the start of an elimination of a graph that is laid stands for something
+pub start_some : (hold : Option (List Bool)) (threshold : ℕ) (iw pe : List ℤ) (len : List ℕ) (p : Workspace) →
+    StandsAtStart hold threshold iw pe len p → (g : Graph) (lists : ℕ → List ℕ) → LaysGraph g lists iw pe len → StandsForSome p
+start_some hold threshold iw pe len p start g lists lays =
+    let from = start g lists lays in let dense : ℕ → Bool = is_held_last hold g threshold in
+    (g, dense, from.1, start_quotient g dense lists, from.0, from.3)

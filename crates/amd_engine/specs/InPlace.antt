@@ -2,8 +2,9 @@
 use Rattle.std.specs.Prelude.{ℕ, ℤ, Bool, true, Option, None, Some, List, ◌≡◌, ◌<◌, ◌≤◌, ◌+◌, length, max, pos, negsuc}
 use Rattle.std.specs.Prelude.{map, replicate}
 use Rattle.amd_model.specs.Graph.{Graph}
-use Rattle.amd_model.specs.State.{State, is_element}
+use Rattle.amd_model.specs.State.{State, IsStart, is_element}
 use Rattle.amd_model.specs.Run.{last_state}
+use Rattle.amd_model.specs.Quotient.{start_quotient}
 use Rattle.amd_model.specs.Figures.{front_sum, entries, ldl_steps, lu_steps, cut}
 use Rattle.amd_model.specs.Input.Held.{is_held_last}
 use Rattle.amd_types.specs.Permutations.{AreInverse}
@@ -12,9 +13,10 @@ use Rattle.amd_types.specs.declared.figures.Figures.{Figures}
 use Rattle.amd_words.specs.Words.{num, word}
 use Rattle.amd_lists.specs.Layout.{list_in}
 use Rattle.amd_rounds.specs.Workspaces.{Workspace}
-use Rattle.amd_rounds.specs.Keeps.{Stands, AreRounds, NoRowIsLive}
+use Rattle.amd_rounds.specs.Keeps.{Stands}
 use Rattle.amd_listing.specs.Ended.{HasEnded, LinksAre, ListsEnded, Shortens}
 use Rattle.amd_workspace.specs.Ending.{EndsRows}
+use Rattle.amd_engine.specs.declared.running.Numbers.{Numbers}
 use Rattle.amd_engine_law.specs.Engine.{AreNeighbours, IsAnswerOf, Reaches, TellsElements}
 
 -- the figures before the first round: the rows held last are a front
@@ -26,10 +28,10 @@ first_sums n_dense = record {
   d_max = max 1 (n_dense + 0);
 }
 
--- the workspace before the first round
-abbrev pub starting_workspace : List ℤ → List ℤ → List ℤ → List ℤ → List ℕ → List ℕ → List ℕ → List ℕ → List ℕ → List ℕ → List ℕ →
-    ℕ → ℕ → ℕ → ℕ → Workspace
-starting_workspace iw pe e_len nv len degree w head next last hash free live flag n_dense = record {
+-- the workspace of these lists and numbers
+abbrev pub workspace_in : List ℤ → List ℤ → List ℤ → List ℤ → List ℕ → List ℕ → List ℕ → List ℕ → List ℕ → List ℕ → List ℕ →
+    Numbers → Workspace
+workspace_in iw pe e_len nv len degree w head next last hash numbers = record {
   iw = iw;
   pe = pe;
   e_len = e_len;
@@ -41,34 +43,27 @@ starting_workspace iw pe e_len nv len degree w head next last hash free live fla
   next = next;
   last = last;
   hash = hash;
-  free = free;
-  live = live;
-  least = 0;
-  flag = flag;
-  most = 0;
-  n_cmp_a = 0;
-  n_dense = n_dense;
-  figures = first_sums n_dense;
+  free = numbers.free;
+  live = numbers.live;
+  least = numbers.least;
+  flag = numbers.flag;
+  most = numbers.most;
+  n_cmp_a = numbers.n_cmp_a;
+  n_dense = numbers.n_dense;
+  figures = numbers.figures;
 }
-
--- rounds came to an end in a workspace that has these lists, and these figures
-pub record EndsIn (aggressive : Bool) (before : Workspace) (pe e_len nv : List ℤ) (degree : List ℕ) (n_dense : ℕ)
-    (figures : Figures) :
-    Type 0 where
-  pub after : Workspace
-  pub rounds : AreRounds aggressive before after
-  pub over : NoRowIsLive after
-  pub pe_is : after.pe ≡ pe
-  pub e_len_is : after.e_len ≡ e_len
-  pub nv_is : after.nv ≡ nv
-  pub degree_is : after.degree ≡ degree
-  pub dense_is : after.n_dense ≡ n_dense
-  pub figures_are : after.figures ≡ figures
 
 -- the neighbours of each row of a graph are laid in a workspace
 pub record LaysGraph (g : Graph) (lists : ℕ → List ℕ) (iw pe : List ℤ) (len : List ℕ) : Type 0 where
   pub neighbours : AreNeighbours g lists len
   pub laid : (i : ℕ) → i < g.size → list_in iw pe len i ≡ lists i
+
+-- whatever graph is laid in the words, starts and lengths, the workspace stands for the start of its elimination, the
+-- marked and the dense rows held last
+abbrev pub StandsAtStart : Option (List Bool) → ℕ → List ℤ → List ℤ → List ℕ → Workspace → Type 0
+StandsAtStart hold threshold iw pe len p = (g : Graph) (lists : ℕ → List ℕ) → LaysGraph g lists iw pe len →
+    (first : State) × (nzaat : ℕ) × IsStart g (is_held_last hold g threshold) first ×
+    Stands g (is_held_last hold g threshold) nzaat p (start_quotient g (is_held_last hold g threshold) lists) first
 
 -- a run from these lists of a graph came to an end, and lists of numbers of each row stand for it
 pub record EndsRounds (g : Graph) (dense : ℕ → Bool) (aggressive : Bool) (lists : ℕ → List ℕ) (n_dense : ℕ)
@@ -144,3 +139,15 @@ pub record AnswersInPlace (g : Graph) (lists : ℕ → List ℕ) (hold : Option 
   pub answer : IsAnswerOf g lists hold n t aggressive p q old new
   pub elements : TellsElements g (last_state answer.first answer.states) nv e_len
   pub tree : TellsTree g (last_state answer.first answer.states) nv pe
+
+-- an info in which a run is told
+abbrev pub told_info : ℕ → ℕ → Figures → Info → Info
+told_info n_dense n_cmp_a figures info = record info {
+  n_dense = n_dense;
+  n_cmp_a = n_cmp_a;
+  lnz = figures.lnz;
+  n_div = figures.lnz;
+  n_mult_subs_ldl = figures.n_mult_subs_ldl;
+  n_mult_subs_lu = figures.n_mult_subs_lu;
+  d_max = figures.d_max;
+}

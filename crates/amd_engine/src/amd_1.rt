@@ -11,8 +11,11 @@ ghost use Rattle.amd_edges.specs.Visits.{AreCounts, start_of};
 ghost use Rattle.amd_engine_law.specs.Engine.{IsEngineAnswer};
 ghost use Rattle.amd_rounds.specs.Laid.{AreWideEnough};
 
-use crate::amd_2::amd_2_from;
+use crate::ended::finish;
+use crate::fresh::fresh_lists;
+use crate::running::run_growing;
 use amd_types::amd::{Control, Info, Status};
+use amd_types::dense::dense_threshold;
 use amd_types::index::Index;
 use amd_words::{Signed, Unsigned, Word};
 use amd_workspace::laying::{Laid, lay};
@@ -117,19 +120,28 @@ pub fn order_in<I: Index, S: Signed, P: Signed, U: Unsigned, A: Allocator + Copy
     ensures refused { IfErr result (λ e. e ≡ Status.OutOfMemory) }
 {
     let mut laid: Laid<S, P, U, A> = lay(alloc, len.len(), a_p, a_i, len, iwlen)?;
-    let (_, p_inv, p, _) = amd_2_from(
-        alloc,
-        flag,
-        n,
-        &mut laid.pe,
+    let threshold = dense_threshold(len.len(), control);
+    let mut lists = fresh_lists(alloc, len.len())?;
+    let told = run_growing(
         &mut laid.iw,
+        &mut laid.pe,
         &mut laid.len,
+        &mut lists.e_len,
+        &mut lists.nv,
+        &mut lists.degree,
+        &mut lists.w,
+        &mut lists.head,
+        &mut lists.sides,
+        &mut lists.hash,
         laid.free,
+        flag,
         control,
         hold,
-        info,
-    )?;
-    Ok((p, p_inv))
+        threshold,
+        iwlen,
+    );
+    finish(&told, &mut laid.pe, &mut lists, info);
+    Ok((lists.p, lists.p_inv))
 }
 
 /// Orders the rows of a matrix with sorted columns by elimination in a workspace of `iwlen` words.

@@ -1,6 +1,6 @@
-// The elimination of a workspace that is laid: its start, its rounds, and the listing at the end. All memory is asked
-// for before the first round. Source: Amestoy, Davis and Duff 1996 and 2004. Called by `amd_1`, which is handed
-// `amd_2_from`; `amd_2` by tests.
+// The elimination of a workspace that is laid and does not grow: its start, its rounds, and the listing at the end. All
+// memory is asked for before the first round. Source: Amestoy, Davis and Duff 1996 and 2004. `amd_2` is called by
+// tests, `amd_2_from` by it and by `narrow` of the crate `amd_c`.
 
 ghost use Rattle.std.specs.Prelude.{◌≡◌, ◌<◌, ◌≤◌, ◌+◌, ℕ, pos, true, List, None, map, length, IfOk, IfErr, OnOk};
 ghost use Rattle.std.specs.Option.{option_copied};
@@ -12,9 +12,9 @@ ghost use Rattle.amd_rounds.specs.Laid.{AreWideEnough};
 ghost use Rattle.amd_workspace.specs.Laying.{IsLaidOut};
 ghost use Rattle.amd_engine.specs.InPlace.{AnswersInPlace, LaysGraph};
 
-use crate::ended::list_rows;
+use crate::ended::finish;
 use crate::fresh::{fresh_lists, room_for};
-use crate::running::{Told, run};
+use crate::running::run;
 use amd_types::amd::{Control, Info, Status};
 use amd_types::dense::dense_threshold;
 use amd_types::index::Index;
@@ -25,25 +25,8 @@ use amd_workspace::filling::words;
 use num_traits::PrimInt;
 use std::alloc::{AllocError, Allocator};
 
-/// Writes what a run tells.
-fn tell(told: &Told, info: &mut Info)
-    ensures { info.new ≡ record info.old {
-      n_dense = told.now.n_dense;
-      n_cmp_a = told.now.n_cmp_a;
-      lnz = told.now.figures.lnz;
-      n_div = told.now.figures.lnz;
-      n_mult_subs_ldl = told.now.figures.n_mult_subs_ldl;
-      n_mult_subs_lu = told.now.figures.n_mult_subs_lu;
-      d_max = told.now.figures.d_max;
-    } }
-{
-    info.n_dense = told.n_dense;
-    info.n_cmp_a = told.n_cmp_a;
-    told.figures.write_figures(info);
-}
-
 /// As `amd_2`, in words, places and cells of these widths, with marks, and with a first flag of 2 or more: the result
-/// is the same with each. `amd_1` calls it, and `amd_2`.
+/// is the same with each. `amd_2` calls it, and the library for C.
 ///
 /// The arguments and results have the shapes that `amd_2` says, where `iwlen` is the length of `iw`. The widths hold an
 /// elimination of `n` rows in `iwlen` words, as `holds` tells. `hold`, where it is given, has one mark for each of the
@@ -100,18 +83,7 @@ pub fn amd_2_from<I: Index, S: Signed, P: Signed, U: Unsigned, A: Allocator + Co
         hold,
         threshold,
     );
-    tell(&told, info);
-    list_rows(
-        pe,
-        &mut lists.e_len,
-        &mut lists.nv,
-        &mut lists.degree,
-        &mut lists.w,
-        &mut lists.head,
-        &mut lists.hash,
-        &mut lists.p,
-        &mut lists.p_inv,
-    );
+    finish(&told, pe, &mut lists, info);
     Ok((lists.nv, lists.p_inv, lists.p, lists.e_len))
 }
 

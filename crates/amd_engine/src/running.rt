@@ -1,23 +1,53 @@
-// The run of the engine in place: its start, and its rounds until no row is live. It asks for no memory. Source:
-// Amestoy, Davis and Duff 1996 and 2004. Called by `amd_2`.
+// The run of the engine in place: its start, and its rounds until no row is live. It asks for no memory: a workspace
+// that grows takes words that were asked for before. Source: Amestoy, Davis and Duff 1996 and 2004. Called by `amd_2`
+// and `amd_1`.
 
-ghost use Rattle.std.specs.Prelude.{◌≡◌, ◌≤◌, ◌+◌, ℕ, List, length};
+ghost use Rattle.std.specs.Prelude.{◌≡◌, ◌<◌, ◌≤◌, ◌+◌, ◌^◌, ◌++◌, ℕ, ℤ, Bool, List, length};
 ghost use Rattle.std.specs.Option.{option_copied};
+ghost use Rattle.std.specs.Vec.{vec_capacity};
 ghost use Rattle.amd_words.specs.Sides.{nexts, lasts};
 ghost use Rattle.amd_model.specs.Graph.{Graph};
 ghost use Rattle.amd_model.specs.Input.Held.{HasMarks};
-ghost use Rattle.amd_rounds.specs.Laid.{AreWideEnough};
+ghost use Rattle.amd_model.specs.Quotient.{QuotientGraph};
+ghost use Rattle.amd_model.specs.State.{State};
+ghost use Rattle.amd_words.specs.Words.{num};
+ghost use Rattle.amd_rounds.specs.Keeps.{AreRounds, Stands};
+ghost use Rattle.amd_rounds.specs.Laid.{AreWideEnough, IsNarrow};
+ghost use Rattle.amd_lists.specs.Lengths.{HasLinks, HasWords};
 ghost use Rattle.amd_workspace.specs.Laying.{IsLaidOut};
-ghost use Rattle.amd_engine.specs.InPlace.{AreEmpty, AreOver, LaysGraph, RunsInPlace};
-ghost use Rattle.amd_engine.specs.InPlace.{first_sums};
+ghost use Rattle.amd_engine.specs.InPlace.{AreEmpty, AreOver, LaysGraph, RunsInPlace, StandsAtStart, first_sums};
+ghost use Rattle.amd_engine.specs.InPlace.{workspace_in};
 
-use amd_rounds::round::eliminate;
+use amd_rounds::round::eliminate_within;
 use amd_rounds::work::Work;
 use amd_types::amd::Control;
 use amd_types::figures::Figures;
 use amd_words::sides::Sides;
 use amd_words::{Cell, Signed, Unsigned, Word};
+use amd_workspace::lower::push_rows;
 use amd_workspace::starting::begin;
+use std::alloc::Allocator;
+
+/// The numbers of an elimination between two rounds, beside its lists.
+#[derive(Drop)]
+pub struct Numbers {
+    /// No list has a word from here on.
+    pub free: usize,
+    /// The number of rows that are live.
+    pub live: usize,
+    /// No class has a bound below it.
+    pub least: usize,
+    /// A number above each counter.
+    pub flag: usize,
+    /// The number of rows of the greatest border so far.
+    pub most: usize,
+    /// How often the workspace was compacted.
+    pub n_cmp_a: usize,
+    /// The number of rows held last.
+    pub n_dense: usize,
+    /// The figures of the fronts so far.
+    pub figures: Figures,
+}
 
 /// What a run tells at its end.
 #[derive(Drop)]
@@ -42,6 +72,116 @@ fn first_figures(n_dense: usize) -> Figures
     };
     sums.add_front(n_dense, 0);
     sums
+}
+
+/// Starts the elimination of rows whose lists fill the first `free` words of a workspace, from flag `flag` on.
+fn start<S: Signed, P: Signed, U: Unsigned>(
+    pe: &mut [Word<P>],
+    len: &mut [Cell<U>],
+    e_len: &mut [Word<P>],
+    nv: &mut [Word<S>],
+    degree: &mut [Cell<U>],
+    w: &mut [Cell<U>],
+    head: &mut [Cell<U>],
+    sides: &mut [Sides<U>],
+    free: usize,
+    flag: usize,
+    hold: Option<&[bool]>,
+    threshold: usize,
+) -> Numbers
+    requires words { HasWords (length len.old) pe.old e_len.old nv.old }
+    requires cells { (length degree.old ≡ length len.old) × (length w.old ≡ length len.old) }
+    requires links { HasLinks (length len.old) head.old (nexts sides.old) (lasts sides.old) }
+    requires narrow { (1 ≤ S.MOST) × (length len.old + 2 ≤ P.MOST) × (length len.old ≤ U.MOST) }
+    requires degrees { (i : ℕ) → i < length len.old → num len.old i < length len.old }
+    requires heads { (b : ℕ) → b < length len.old → length len.old ≤ num head.old b }
+    requires marks { HasMarks (option_copied hold) (length len.old) }
+    requires flag { 2 ≤ flag }
+    ensures starts { (iw : List ℤ) (hash : List ℕ) → length hash ≡ length len.old →
+        ((b : ℕ) → b < length len.old → length len.old ≤ num hash b) →
+        IsLaidOut (length len.old) iw pe.old len.old free → free + length len.old ≤ length iw →
+        StandsAtStart (option_copied hold.entry) threshold iw pe.old len.old
+        (workspace_in iw pe.new e_len.new nv.new len.new degree.new w.new head.new (nexts sides.new) (lasts sides.new)
+        hash result) }
+{
+    let (live, n_dense) = begin(len, pe, e_len, nv, degree, w, head, sides, hold, threshold);
+    Numbers {
+        free,
+        live,
+        least: 0,
+        flag,
+        most: 0,
+        n_cmp_a: 0,
+        n_dense,
+        figures: first_figures(n_dense),
+    }
+}
+
+/// Eliminates until no row is live. Where the workspace has fewer than `room` words it ends before a round that might
+/// compact it.
+fn advance<S: Signed, P: Signed, U: Unsigned>(
+    iw: &mut [Word<S>],
+    pe: &mut [Word<P>],
+    len: &mut [Cell<U>],
+    e_len: &mut [Word<P>],
+    nv: &mut [Word<S>],
+    degree: &mut [Cell<U>],
+    w: &mut [Cell<U>],
+    head: &mut [Cell<U>],
+    sides: &mut [Sides<U>],
+    hash: &mut [Cell<U>],
+    numbers: Numbers,
+    room: usize,
+    control: &Control,
+) -> Numbers
+    requires wide { IsNarrow S.MOST P.MOST U.MOST (length nv.old)
+        (workspace_in iw.old pe.old e_len.old nv.old len.old degree.old w.old head.old (nexts sides.old)
+        (lasts sides.old) hash.old numbers) }
+    requires stands { (g : Graph) × (dense : ℕ → Bool) × (nzaat : ℕ) × (t : QuotientGraph) × (s : State) ×
+        Stands g dense nzaat
+        (workspace_in iw.old pe.old e_len.old nv.old len.old degree.old w.old head.old (nexts sides.old)
+        (lasts sides.old) hash.old numbers)
+        t s }
+    ensures rounds { AreRounds control.now.aggressive
+        (workspace_in iw.old pe.old e_len.old nv.old len.old degree.old w.old head.old (nexts sides.old)
+        (lasts sides.old) hash.old numbers)
+        (workspace_in iw.new pe.new e_len.new nv.new len.new degree.new w.new head.new (nexts sides.new)
+        (lasts sides.new) hash.new result) }
+    ensures end { 0 < result.live → (length iw.old < room) × (length iw.old < result.free + result.live) }
+    ensures fewer { 0 < numbers.live → numbers.free + numbers.live ≤ length iw.old → result.live < numbers.live }
+    ensures long { (length iw.new ≡ length iw.old) × (length nv.new ≡ length nv.old) }
+{
+    let mut work = Work {
+        iw,
+        pe,
+        e_len,
+        nv,
+        len,
+        degree,
+        w,
+        head,
+        sides,
+        hash,
+        free: numbers.free,
+        live: numbers.live,
+        least: numbers.least,
+        flag: numbers.flag,
+        most: numbers.most,
+        n_cmp_a: numbers.n_cmp_a,
+        n_dense: numbers.n_dense,
+        figures: numbers.figures,
+    };
+    eliminate_within(&mut work, control, room);
+    Numbers {
+        free: work.free,
+        live: work.live,
+        least: work.least,
+        flag: work.flag,
+        most: work.most,
+        n_cmp_a: work.n_cmp_a,
+        n_dense: work.n_dense,
+        figures: work.figures,
+    }
 }
 
 /// Starts the elimination of a workspace that is laid, and eliminates until no row is live.
@@ -88,31 +228,86 @@ pub fn run<S: Signed, P: Signed, U: Unsigned>(
     ensures packs { result.n_cmp_a ≤ length len.old }
     ensures over { AreOver (length len.old) pe.new e_len.new nv.new degree.new w.new head.new hash.new }
 {
-    let (live, n_dense) = begin(len, pe, e_len, nv, degree, w, head, sides, hold, threshold);
-    let mut work = Work {
-        iw,
-        pe,
-        e_len,
-        nv,
-        len,
-        degree,
-        w,
-        head,
-        sides,
-        hash,
-        free,
-        live,
-        least: 0,
-        flag,
-        most: 0,
-        n_cmp_a: 0,
-        n_dense,
-        figures: first_figures(n_dense),
-    };
-    eliminate(&mut work, control);
+    let first = start(
+        pe, len, e_len, nv, degree, w, head, sides, free, flag, hold, threshold,
+    );
+    let room = iw.len();
+    let last = advance(
+        iw, pe, len, e_len, nv, degree, w, head, sides, hash, first, room, control,
+    );
     Told {
-        n_dense: work.n_dense,
-        n_cmp_a: work.n_cmp_a,
-        figures: work.figures,
+        n_dense: last.n_dense,
+        n_cmp_a: last.n_cmp_a,
+        figures: last.figures,
+    }
+}
+
+/// Where fewer words than rows are live are free, appends as many as rows are live to the workspace, up to `room` words
+/// in all. What they hold is not read.
+fn grow<S: Signed, A: Allocator>(iw: &mut Vec<Word<S>, A>, free: usize, live: usize, room: usize)
+    requires room { (length iw.old.items ≤ room) × (room ≤ vec_capacity iw.old) }
+    requires numbers { (free ≤ length iw.old.items) × (live ≤ length iw.old.items) × (live ≤ S.MOST) }
+    ensures words { (more : List ℤ) × (iw.new.items ≡ iw.old.items ++ more) }
+    ensures long { length iw.new.items ≤ room }
+    ensures due { length iw.new.items < room → free + live ≤ length iw.new.items }
+    ensures capacity { vec_capacity iw.old ≤ vec_capacity iw.new }
+{
+    let words = iw.len();
+    if words < free + live {
+        push_rows(iw, live, live.min(room - words));
+    }
+}
+
+/// As `run`, in a workspace that grows up to `room` words where there is no room for a new element: the result is the
+/// same as with so many words from the start.
+///
+/// The vector has capacity for `room` words, which the widths hold, and `n` words or more follow the lists.
+///
+/// Source: Amestoy, Davis and Duff 1996 and 2004.
+pub fn run_growing<S: Signed, P: Signed, U: Unsigned, A: Allocator>(
+    iw: &mut Vec<Word<S>, A>,
+    pe: &mut [Word<P>],
+    len: &mut [Cell<U>],
+    e_len: &mut [Word<P>],
+    nv: &mut [Word<S>],
+    degree: &mut [Cell<U>],
+    w: &mut [Cell<U>],
+    head: &mut [Cell<U>],
+    sides: &mut [Sides<U>],
+    hash: &mut [Cell<U>],
+    free: usize,
+    flag: usize,
+    control: &Control,
+    hold: Option<&[bool]>,
+    threshold: usize,
+    room: usize,
+) -> Told
+    requires empty { AreEmpty (length len.old) e_len.old nv.old degree.old w.old head.old (nexts sides.old)
+        (lasts sides.old) hash.old }
+    requires narrow { AreWideEnough S.MOST P.MOST U.MOST (length len.old) room }
+    requires marks { HasMarks (option_copied hold) (length len.old) }
+    requires laid { IsLaidOut (length len.old) iw.old.items pe.old len.old free }
+    requires room { (free + length len.old ≤ length iw.old.items) × (length iw.old.items ≤ room) ×
+        (room ≤ vec_capacity iw.old) }
+    requires flag { 2 ≤ flag }
+    requires graph { (g : Graph) × (lists : ℕ → List ℕ) × LaysGraph g lists iw.old.items pe.old len.old }
+    ensures runs { RunsInPlace (option_copied hold.entry) threshold control.now.aggressive iw.old.items pe.old len.old
+        result.n_dense result.figures pe.new e_len.new nv.new degree.new }
+    ensures packs { result.n_cmp_a ≤ length len.old }
+    ensures over { AreOver (length len.old) pe.new e_len.new nv.new degree.new w.new head.new hash.new }
+{
+    let mut numbers = start(
+        pe, len, e_len, nv, degree, w, head, sides, free, flag, hold, threshold,
+    );
+    'growths: while numbers.live > 0 {
+        grow(iw, numbers.free, numbers.live, room);
+        numbers = advance(
+            iw, pe, len, e_len, nv, degree, w, head, sides, hash, numbers, room, control,
+        );
+    }
+    Told {
+        n_dense: numbers.n_dense,
+        n_cmp_a: numbers.n_cmp_a,
+        figures: numbers.figures,
     }
 }

@@ -17,6 +17,8 @@ pub mod Merged
 pub mod RoundLists
 pub mod Relaid
 pub mod RoundSizes
+pub mod Rounds
+pub mod Grown
 pub mod Ending
 pub mod RoundNumbers
 pub mod Relinked

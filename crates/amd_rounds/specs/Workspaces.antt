@@ -55,10 +55,13 @@ workspace_of w = record {
   figures = w.figures;
 }
 
--- the lists that are read at the end are those that were lent
+-- all lists are those that were lent
 abbrev pub KeepsLoans : {S P U : Type 0} → Work S P U → Work S P U → Type 0
 KeepsLoans old new = (new.pe.ghost_name ≡ old.pe.ghost_name) × (new.e_len.ghost_name ≡ old.e_len.ghost_name)
     × (new.nv.ghost_name ≡ old.nv.ghost_name) × (new.degree.ghost_name ≡ old.degree.ghost_name)
+    × (new.iw.ghost_name ≡ old.iw.ghost_name) × (new.len.ghost_name ≡ old.len.ghost_name)
+    × (new.w.ghost_name ≡ old.w.ghost_name) × (new.head.ghost_name ≡ old.head.ghost_name)
+    × (new.sides.ghost_name ≡ old.sides.ghost_name) × (new.hash.ghost_name ≡ old.hash.ghost_name)
 
 -- what a mark names, and nothing for a place and for the mark that names nothing
 unfoldable pub owner_of : ℤ → Option ℕ

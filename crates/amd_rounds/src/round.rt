@@ -3,7 +3,7 @@
 // Davis and Duff 1996 and 2004. Called by `running` of the crate `amd_engine`. A slice in a field of `Work` is lent for
 // writing also where a part only reads it, since it cannot be lent again for reading from there.
 
-ghost use Rattle.std.specs.Prelude.{ℕ, ◌<◌, ◌≡◌, ◌≤◌, length, true, Bool};
+ghost use Rattle.std.specs.Prelude.{ℕ, ◌<◌, ◌≡◌, ◌≤◌, ◌+◌, ◌^◌, ◌⊎◌, length, true, false, Bool};
 ghost use Rattle.amd_model.specs.Graph.{Graph};
 ghost use Rattle.amd_model.specs.Quotient.{QuotientGraph};
 ghost use Rattle.amd_model.specs.State.{State};
@@ -151,13 +151,14 @@ pub fn end_front<S: Signed, P: Signed, U: Unsigned>(
 /// One round: chooses a pivot, makes its element, and gives the classes of the element their new lists, numbers of rows
 /// and bounds. A row must be live. The contract says what the workspace stands for, that its lists have no more words
 /// than before the first round, and when they are packed; what stands in words of no list, and in the places of rows
-/// that are neither class nor element, is left open.
+/// that are neither class nor element, is left open. Where as many words as rows are live are free, no list is packed.
 pub fn round<S: Signed, P: Signed, U: Unsigned>(work: &mut Work<'_, '_, S, P, U>, control: &Control)
     requires wide { IsNarrow S.MOST P.MOST U.MOST (length work.old.nv.now) (workspace_of work.old) }
     requires stands { (g : Graph) × (dense : ℕ → Bool) × (nzaat : ℕ) × (t : QuotientGraph) × (s : State) ×
         Stands g dense nzaat (workspace_of work.old) t s }
     requires left { 0 < work.old.live }
     ensures round { IsRound control.now.aggressive (workspace_of work.old) (workspace_of work.new) }
+    ensures unpacked { work.old.free + work.old.live ≤ length work.old.iw.now → work.new.n_cmp_a ≡ work.old.n_cmp_a }
     ensures fewer { work.new.live < work.old.live }
     ensures long { (length work.new.iw.now ≡ length work.old.iw.now) ×
         (length work.new.nv.now ≡ length work.old.nv.now) }
@@ -172,6 +173,45 @@ pub fn round<S: Signed, P: Signed, U: Unsigned>(work: &mut Work<'_, '_, S, P, U>
     end_front(work, me, block, border, element.is_built);
 }
 
+/// Whether another round is due: a row is live, and of the words either all are there, `room` of them, or as many are
+/// free as rows are live.
+fn is_due(live: usize, free: usize, words: usize, room: usize) -> bool
+    requires { free + live < 2 ^ 64 }
+    ensures yes { result ≡ true → (0 < live) × ((room ≤ words) ⊎ (free + live ≤ words)) }
+    ensures no { result ≡ false → 0 < live → (words < room) × (words < free + live) }
+{
+    live > 0 && (words >= room || free + live <= words)
+}
+
+/// Rounds until no row is live. Where the workspace has fewer than `room` words, and so may grow, they end before a
+/// round that might pack the lists: as soon as fewer words than rows are live are free.
+///
+/// This is the one loop of rounds: with a second one the compiler would not build the round into it, and the fields of
+/// `work` would be read from memory, which takes 5 hundredths more time.
+pub fn eliminate_within<S: Signed, P: Signed, U: Unsigned>(
+    work: &mut Work<'_, '_, S, P, U>,
+    control: &Control,
+    room: usize,
+)
+    requires wide { IsNarrow S.MOST P.MOST U.MOST (length work.old.nv.now) (workspace_of work.old) }
+    requires stands { (g : Graph) × (dense : ℕ → Bool) × (nzaat : ℕ) × (t : QuotientGraph) × (s : State) ×
+        Stands g dense nzaat (workspace_of work.old) t s }
+    ensures rounds { AreRounds control.now.aggressive (workspace_of work.old) (workspace_of work.new) }
+    ensures end { 0 < work.new.live → (length work.old.iw.now < room) ×
+        (length work.old.iw.now < work.new.free + work.new.live) }
+    ensures fewer { 0 < work.old.live → work.old.free + work.old.live ≤ length work.old.iw.now →
+        work.new.live < work.old.live }
+    ensures packs { work.new.n_cmp_a ≤ length work.new.nv.now }
+    ensures unpacked { length work.old.iw.now < room → work.new.n_cmp_a ≡ work.old.n_cmp_a }
+    ensures long { (length work.new.iw.now ≡ length work.old.iw.now) ×
+        (length work.new.nv.now ≡ length work.old.nv.now) }
+    ensures loans { KeepsLoans work.old work.new }
+{
+    'rounds: while is_due(work.live, work.free, work.iw.len(), room) {
+        round(work, control);
+    }
+}
+
 /// Rounds until no row is live. The contract says what the workspace stands for; the lists were packed no more often
 /// than there are rows.
 pub fn eliminate<S: Signed, P: Signed, U: Unsigned>(
@@ -183,12 +223,11 @@ pub fn eliminate<S: Signed, P: Signed, U: Unsigned>(
         Stands g dense nzaat (workspace_of work.old) t s }
     ensures rounds { AreRounds control.now.aggressive (workspace_of work.old) (workspace_of work.new) }
     ensures end { NoRowIsLive (workspace_of work.new) }
+    ensures none { work.new.live ≡ 0 }
     ensures packs { work.new.n_cmp_a ≤ length work.new.nv.now }
     ensures long { (length work.new.iw.now ≡ length work.old.iw.now) ×
         (length work.new.nv.now ≡ length work.old.nv.now) }
     ensures loans { KeepsLoans work.old work.new }
 {
-    'rounds: while work.live > 0 {
-        round(work, control);
-    }
+    eliminate_within(work, control, 0);
 }

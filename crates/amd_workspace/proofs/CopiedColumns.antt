@@ -85,20 +85,20 @@ rows_joined n xs ys first second k = elim (cases_lt k (length xs)) [
   | inr x ↦ rw (get_or-append_right xs ys (length xs) k (pos 0) refl x) (second (k - length xs))
 ]
 
--- the words that were copied, and behind them one row in all words that are left
-module _ (n room row : ℕ) (xs ys : List ℤ) (row_in : row < n) (words : HoldRows n xs) (few : length xs ≤ room)
-    (filled : ys ≡ xs ++ replicate (room - length xs) (pos row)) where
+-- the words that were copied, and behind them one row in more words
+module _ (n count row : ℕ) (xs ys : List ℤ) (row_in : row < n) (words : HoldRows n xs)
+    (filled : ys ≡ xs ++ replicate count (pos row)) where
   pub filled_words : HoldRows n ys
-  filled_words = subst (HoldRows n) (sym filled) (rows_joined n xs (replicate (room - length xs) (pos row)) words
-      (same_are_rows n (room - length xs) row row_in))
+  filled_words = subst (HoldRows n) (sym filled) (rows_joined n xs (replicate count (pos row)) words
+      (same_are_rows n count row row_in))
 
-  pub filled_long : length ys ≡ room
-  filled_long = let a = ap length filled in let b = length-append xs (replicate (room - length xs) (pos row)) in
-      let c = length-replicate (room - length xs) (pos row) in omega (arith, a, b, c, few)
+  pub filled_long : length ys ≡ length xs + count
+  filled_long = let a = ap length filled in let b = length-append xs (replicate count (pos row)) in
+      let c = length-replicate count (pos row) in omega (arith, a, b, c)
 
-  pub filled_same : (from count : ℕ) → from + count ≤ length xs → rows ys from count ≡ rows xs from count
-  filled_same from count inside = rows_same xs ys from from count (λ k l. ap (λ zs. get_or zs (from + k) (pos 0)) filled
-      ∙ get_or_append_left xs (replicate (room - length xs) (pos row)) (pos 0) (from + k) (omega (arith, l, inside)))
+  pub filled_same : (from long : ℕ) → from + long ≤ length xs → rows ys from long ≡ rows xs from long
+  filled_same from long inside = rows_same xs ys from from long (λ k l. ap (λ zs. get_or zs (from + k) (pos 0)) filled
+      ∙ get_or_append_left xs (replicate count (pos row)) (pos 0) (from + k) (omega (arith, l, inside)))
 
 -- the lists of the first columns: each has as many rows as the degree says, and stands where the list of its row starts
 pub record AreCopied (n : ℕ) (ap' ai : List ℤ) (degrees : List ℕ) (iw : List ℤ) (i free : ℕ) : Type 0 where

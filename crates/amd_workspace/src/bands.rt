@@ -157,14 +157,13 @@ pub fn is_scattered<I: Index>(size: usize, a_p: &[I], a_i: &[I], room: usize) ->
     wide >= SAMPLES / 4
 }
 
-/// Lays the lists of `size` rows in `room` words, and writes the earlier neighbours band by band. `heads` has room for
-/// a number of each column.
+/// Lays the lists of `size` rows, and behind them `size` words that name rows, and writes the earlier neighbours band
+/// by band. `heads` has room for a number of each column.
 pub fn lay_bands<I: Index, S: Signed, U: Unsigned, A: Allocator>(
     size: usize,
     a_p: &[I],
     a_i: &[I],
     degrees: &[usize],
-    room: usize,
     next: &mut [Cell<U>],
     iw: &mut Vec<Word<S>, A>,
     heads: &mut Vec<usize, A>,
@@ -172,19 +171,20 @@ pub fn lay_bands<I: Index, S: Signed, U: Unsigned, A: Allocator>(
     requires input { IsLowerForm size (map I.value a_p.now) (map I.value a_i.now) }
     requires some { 0 < size }
     requires degrees { AreNeighbourCounts size (map I.value a_p.now) (map I.value a_i.now) degrees.now }
-    requires room { own_start size (map I.value a_p.now) (map I.value a_i.now) size ≤ room }
+    requires room { own_start size (map I.value a_p.now) (map I.value a_i.now) size + size ≤ vec_capacity iw.old }
+    requires wide { size ≤ vec_capacity heads.old }
     requires empty { (length iw.old.items ≡ 0) × (length heads.old.items ≡ 0) }
-    requires capacity { (room ≤ vec_capacity iw.old) × (size ≤ vec_capacity heads.old) }
-    requires fits { (size ≤ S.MOST) × (room ≤ U.MOST) }
+    requires fits { (size ≤ S.MOST) ×
+        (own_start size (map I.value a_p.now) (map I.value a_i.now) size + size ≤ U.MOST) }
     requires next { length next.old ≡ size }
     requires starts { (i : ℕ) → i < size →
         num next.old i ≡ own_start size (map I.value a_p.now) (map I.value a_i.now) i }
-    ensures long { length iw.new.items ≡ room }
+    ensures long { length iw.new.items ≡ own_start size (map I.value a_p.now) (map I.value a_i.now) size + size }
+    ensures capacity { vec_capacity iw.old ≤ vec_capacity iw.new }
     ensures lists { HoldsLists size (map I.value a_p.now) (map I.value a_i.now) degrees.now iw.new.items }
 {
     push_until(size, a_p, a_i, degrees, 0, size, iw);
-    let laid = iw.len();
-    push_rows(iw, size - 1, room - laid);
+    push_rows(iw, size - 1, size);
     push_heads(size, a_p, a_i, degrees, heads);
     spread_bands(next, iw, heads, degrees);
 }

@@ -111,10 +111,11 @@ fn starts<P: Signed, U: Unsigned, A: Allocator>(
     total
 }
 
-/// Lays the lists of a pattern of `size` rows, one of any kind, in a workspace of `room` words. Those of a symmetric
-/// pattern are copied from its columns; those of any other one are written by a walk over the edges. Each number of
-/// `next` is where the list of its row starts, and `pointers` has room for a pointer of each column. The words after
-/// the last list name rows.
+/// Lays the lists of a pattern of `size` rows, one of any kind, in a workspace that has room for `room` words. Those of
+/// a symmetric pattern are copied from its columns; those of any other one are written by a walk over the edges. Each
+/// number of `next` is where the list of its row starts, and `pointers` has room for a pointer of each column. The
+/// words behind the lists name rows: `size` of them behind those that were copied, and all that there is room for
+/// behind those of a walk.
 ///
 /// # Errors
 ///
@@ -134,14 +135,16 @@ fn general_lists<I: Index, S: Signed, U: Unsigned, A: Allocator>(
     requires some { 0 < size }
     requires degrees { AreCounts (graph_of size (map I.value a_p.now) (map I.value a_i.now))
         ((graph_of size (map I.value a_p.now) (map I.value a_i.now)).edge) degrees.now }
-    requires room { own_start size (map I.value a_p.now) (map I.value a_i.now) size < room }
+    requires room { own_start size (map I.value a_p.now) (map I.value a_i.now) size + size ≤ room }
     requires fits { (size ≤ S.MOST) × (room ≤ U.MOST) }
     requires long { length next.items ≡ size }
     requires starts { (i : ℕ) → i < size →
         num next.items i ≡ own_start size (map I.value a_p.now) (map I.value a_i.now) i }
     requires empty { length pointers.old.items ≡ 0 }
     requires wide { size ≤ vec_capacity pointers.old }
-    ensures long { IfOk result (λ v. length v.items ≡ room) }
+    ensures long { IfOk result (λ v. (own_start size (map I.value a_p.now) (map I.value a_i.now) size + size ≤
+        length v.items) × (length v.items ≤ room)) }
+    ensures capacity { IfOk result (λ v. room ≤ vec_capacity v) }
     ensures words { IfOk result (λ v. HoldRows size v.items) }
     ensures lists { IfOk result (λ v. (i : ℕ) → i < size →
         rows v.items (own_start size (map I.value a_p.now) (map I.value a_i.now) i) (num degrees.now i) ≡
@@ -150,19 +153,21 @@ fn general_lists<I: Index, S: Signed, U: Unsigned, A: Allocator>(
     let mut iw = Vec::with_capacity(alloc, room)?;
     let copied = copy_symmetric(size, a_p, a_i, degrees, &mut iw);
     // Each word names a row. It is not 0: a loop of stores is faster here than the `memset` that zeros would become.
-    let rest = room - iw.len();
-    push_rows(&mut iw, size - 1, rest);
     if copied {
+        push_rows(&mut iw, size - 1, size);
         return Ok(iw);
     }
+    let rest = room - iw.len();
+    push_rows(&mut iw, size - 1, rest);
     let mut list = Words { next, iw };
     let _ = walk(size, a_p, a_i, pointers, &mut list);
     Ok(list.iw)
 }
 
-/// Lays the lists of the neighbours of each of `size` rows, whose degrees are known, in a workspace of `room` words.
-/// Long ones of a pattern that has no entry above the diagonal are written row by row (`lower_lists`), all others by
-/// `general_lists`. The words after the last list name rows.
+/// Lays the lists of the neighbours of each of `size` rows, whose degrees are known, in a workspace that has room for
+/// `room` words. Long ones of a pattern that has no entry above the diagonal are written row by row (`lower_lists`),
+/// all others by `general_lists`. Behind the lists stand `size` words or more that name rows; the rest of the room is
+/// not written.
 ///
 /// # Errors
 ///
@@ -183,8 +188,9 @@ pub fn lay<I: Index, S: Signed, P: Signed, U: Unsigned, A: Allocator + Copy>(
     requires room { start_of (graph_of size (map I.value a_p.now) (map I.value a_i.now)) size + size ≤ room }
     requires fits { (size ≤ S.MOST) × (room ≤ P.MOST) × (room ≤ U.MOST) }
     ensures laid { IfOk result (λ l. IsLaidOut size l.iw.items l.pe.items l.len.items l.free) }
-    ensures long { IfOk result (λ l. (length l.iw.items ≡ room) ×
+    ensures long { IfOk result (λ l. (l.free + size ≤ length l.iw.items) × (length l.iw.items ≤ room) ×
         (l.free ≡ start_of (graph_of size (map I.value a_p.now) (map I.value a_i.now)) size)) }
+    ensures capacity { IfOk result (λ l. room ≤ vec_capacity l.iw) }
     ensures degrees { IfOk result (λ l. l.len.items ≡ degrees.now) }
     ensures lists { IfOk result (λ l. (i : ℕ) → i < size →
         list_in l.iw.items l.pe.items l.len.items i ≡ starting_list size

@@ -230,28 +230,28 @@ fn spread_in<S: Signed, U: Unsigned, A: Allocator>(
     spread(next, iw, j, end);
 }
 
-/// Lays the lists of `size` rows in `room` words. A column is spread as soon as the lists of its rows are laid, so that
-/// where its rows are close together the words that are written are too.
+/// Lays the lists of `size` rows, and behind them `size` words that name rows. A column is spread as soon as the lists
+/// of its rows are laid, so that where its rows are close together the words that are written are too.
 fn lay_rows<I: Index, S: Signed, U: Unsigned, A: Allocator>(
     size: usize,
     a_p: &[I],
     a_i: &[I],
     degrees: &[usize],
-    room: usize,
     next: &mut [Cell<U>],
     iw: &mut Vec<Word<S>, A>,
 )
     requires input { IsLowerForm size (map I.value a_p.now) (map I.value a_i.now) }
     requires some { 0 < size }
     requires degrees { AreNeighbourCounts size (map I.value a_p.now) (map I.value a_i.now) degrees.now }
-    requires room { own_start size (map I.value a_p.now) (map I.value a_i.now) size ≤ room }
+    requires room { own_start size (map I.value a_p.now) (map I.value a_i.now) size + size ≤ vec_capacity iw.old }
     requires empty { length iw.old.items ≡ 0 }
-    requires capacity { room ≤ vec_capacity iw.old }
-    requires fits { (size ≤ S.MOST) × (room ≤ U.MOST) }
+    requires fits { (size ≤ S.MOST) ×
+        (own_start size (map I.value a_p.now) (map I.value a_i.now) size + size ≤ U.MOST) }
     requires next { length next.old ≡ size }
     requires starts { (i : ℕ) → i < size →
         num next.old i ≡ own_start size (map I.value a_p.now) (map I.value a_i.now) i }
-    ensures long { length iw.new.items ≡ room }
+    ensures long { length iw.new.items ≡ own_start size (map I.value a_p.now) (map I.value a_i.now) size + size }
+    ensures capacity { vec_capacity iw.old ≤ vec_capacity iw.new }
     ensures lists { HoldsLists size (map I.value a_p.now) (map I.value a_i.now) degrees.now iw.new.items }
 {
     let mut laid = 0;
@@ -263,13 +263,14 @@ fn lay_rows<I: Index, S: Signed, U: Unsigned, A: Allocator>(
         end += degrees[j];
         spread_in(next, iw, j, end);
     }
-    push_rows(iw, size - 1, room - end);
+    push_rows(iw, size - 1, size);
 }
 
-/// Lays the lists of a pattern of `size` rows that has no entry above the diagonal in a workspace of `room` words. Each
-/// number of `next` is where the list of its row starts; what it is afterwards is not said. `pointers` has room for a
-/// number of each column. The words after the last list name rows. Where there are many words and the rows stand in any
-/// order, the earlier neighbours are written band by band.
+/// Lays the lists of a pattern of `size` rows that has no entry above the diagonal in a workspace that has room for
+/// `room` words. Each number of `next` is where the list of its row starts; what it is afterwards is not said.
+/// `pointers` has room for a number of each column. Behind the lists stand `size` words that name rows; the rest of the
+/// room is not written. Where there is room for many words and the rows stand in any order, the earlier neighbours are
+/// written band by band.
 ///
 /// # Errors
 ///
@@ -287,14 +288,16 @@ pub fn lower_lists<I: Index, S: Signed, U: Unsigned, A: Allocator>(
     requires input { IsLowerForm size (map I.value a_p.now) (map I.value a_i.now) }
     requires some { 0 < size }
     requires degrees { AreNeighbourCounts size (map I.value a_p.now) (map I.value a_i.now) degrees.now }
-    requires room { own_start size (map I.value a_p.now) (map I.value a_i.now) size ≤ room }
+    requires room { own_start size (map I.value a_p.now) (map I.value a_i.now) size + size ≤ room }
     requires fits { (size ≤ S.MOST) × (room ≤ U.MOST) }
     requires empty { length pointers.old.items ≡ 0 }
     requires wide { size ≤ vec_capacity pointers.old }
     requires long { length next.old ≡ size }
     requires starts { (i : ℕ) → i < size →
         num next.old i ≡ own_start size (map I.value a_p.now) (map I.value a_i.now) i }
-    ensures long { IfOk result (λ v. length v.items ≡ room) }
+    ensures long { IfOk result (λ v. length v.items ≡
+        own_start size (map I.value a_p.now) (map I.value a_i.now) size + size) }
+    ensures capacity { IfOk result (λ v. room ≤ vec_capacity v) }
     ensures words { IfOk result (λ v. HoldRows size v.items) }
     ensures lists { IfOk result (λ v. (i : ℕ) → i < size →
         rows v.items (own_start size (map I.value a_p.now) (map I.value a_i.now) i) (num degrees.now i) ≡
@@ -302,9 +305,9 @@ pub fn lower_lists<I: Index, S: Signed, U: Unsigned, A: Allocator>(
 {
     let mut iw = Vec::with_capacity(alloc, room)?;
     if is_scattered(size, a_p, a_i, room) {
-        lay_bands(size, a_p, a_i, degrees, room, next, &mut iw, pointers);
+        lay_bands(size, a_p, a_i, degrees, next, &mut iw, pointers);
     } else {
-        lay_rows(size, a_p, a_i, degrees, room, next, &mut iw);
+        lay_rows(size, a_p, a_i, degrees, next, &mut iw);
     }
     Ok(iw)
 }

@@ -18,8 +18,8 @@ use amd_workspace::laying::{Laid, lay};
 use std::alloc::Global;
 use std::process::Abort;
 
-/// A sorted matrix, the words to spare in its workspace, how many it has, and what is laid there. Behind the lists the
-/// words are any.
+/// A sorted matrix, the words to spare in its workspace, how many of them are written, and what is laid there. Behind
+/// the lists the words are any: as many as rows, or all where the lists are written by a walk.
 #[derive(Drop)]
 struct WorkspaceCase<'a> {
     what: &'a str,
@@ -27,13 +27,13 @@ struct WorkspaceCase<'a> {
     a_p: &'a [i64],
     a_i: &'a [i64],
     more: usize,
-    room: usize,
+    written: usize,
     words: &'a [isize],
     starts: &'a [isize],
     lengths: &'a [usize],
 }
 
-/// Matrices with their workspaces, of which `order` takes as many words as here.
+/// Matrices with their workspaces, which have as much room as `order` asks for.
 static MATRICES: [WorkspaceCase<'static>; 5] = [
     WorkspaceCase {
         what: "a four-cycle",
@@ -41,7 +41,7 @@ static MATRICES: [WorkspaceCase<'static>; 5] = [
         a_p: &[0, 2, 3, 4, 4],
         a_i: &[1, 3, 2, 3],
         more: 1,
-        room: 13,
+        written: 13,
         words: &[1, 3, 0, 2, 1, 3, 0, 2],
         starts: &[0, 2, 4, 6],
         lengths: &[2, 2, 2, 2],
@@ -52,7 +52,7 @@ static MATRICES: [WorkspaceCase<'static>; 5] = [
         a_p: &[0, 2, 6, 10, 12, 14],
         a_i: &[0, 1, 0, 1, 2, 4, 1, 2, 3, 4, 2, 3, 1, 4],
         more: 2,
-        room: 17,
+        written: 17,
         words: &[1, 0, 2, 4, 1, 3, 4, 2, 1, 2],
         starts: &[0, 1, 4, 7, 8],
         lengths: &[1, 3, 3, 1, 2],
@@ -63,7 +63,7 @@ static MATRICES: [WorkspaceCase<'static>; 5] = [
         a_p: &[0, 1, 2, 3, 3, 6],
         a_i: &[4, 3, 3, 1, 2, 3],
         more: 2,
-        room: 19,
+        written: 19,
         words: &[4, 4, 3, 4, 3, 1, 2, 4, 1, 2, 3, 0],
         starts: &[0, 1, 3, 5, 8],
         lengths: &[1, 2, 2, 3, 4],
@@ -74,7 +74,7 @@ static MATRICES: [WorkspaceCase<'static>; 5] = [
         a_p: &[0, 2, 5, 7],
         a_i: &[0, 1, 0, 1, 2, 1, 2],
         more: 0,
-        room: 7,
+        written: 7,
         words: &[1, 0, 2, 1],
         starts: &[0, 1, 3],
         lengths: &[1, 2, 1],
@@ -88,7 +88,7 @@ static MATRICES: [WorkspaceCase<'static>; 5] = [
             5, 6, 7, 8, 9, 5, 6, 7, 8, 9, 10, 6, 7, 8, 10, 8, 9, 10, 8, 9, 10, 9, 10, 10, 10,
         ],
         more: 20,
-        room: 131,
+        written: 111,
         words: &[
             1, 2, 3, 5, 6, 7, 8, 9, 10, 0, 3, 4, 5, 6, 7, 8, 9, 10, 0, 3, 4, 5, 6, 7, 8, 9, 10, 0,
             1, 2, 4, 5, 6, 7, 8, 9, 1, 2, 3, 5, 6, 7, 8, 9, 10, 0, 1, 2, 3, 4, 6, 7, 8, 10, 0, 1,
@@ -131,7 +131,7 @@ fn is_laid<S: Signed, P: Signed, U: Unsigned>(
     laid: &Laid<S, P, U, Global>,
     sum: usize,
 ) -> bool {
-    laid.iw.len() == case.room
+    laid.iw.len() == case.written
         && begin_with(&laid.iw, case.words)
         && case.words.len() == sum
         && are_words(&laid.pe, case.starts)

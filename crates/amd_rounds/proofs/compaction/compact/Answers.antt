@@ -18,5 +18,5 @@ returns g c = let v = c.compact-end.new in record {
       (compacted st v.iw v.pe c.compact-end.result c.compact-end.ensures.compacts);
   moves = c.compact-end.ensures.compacts;
   same = rw (c.compact-end.ensures.same) refl;
-  loans = (refl, refl, refl, refl);
+  loans = (refl, refl, refl, refl, refl, refl, refl, refl, refl, refl);
 }

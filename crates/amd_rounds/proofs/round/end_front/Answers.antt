@@ -95,7 +95,7 @@ returns g c =
         };
         same = rw same_pe refl;
       };
-      loans = (refl, refl, refl, refl);
+      loans = (refl, refl, refl, refl, refl, refl, refl, refl, refl, refl);
     }
 
 pub list_lent-from-requires : goal.list_lent-from-requires

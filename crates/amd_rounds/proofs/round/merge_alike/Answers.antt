@@ -87,5 +87,5 @@ returns g c =
             c.max-work.ensures c.renew_flag-flag.ensures.renewed;
         rises = told.rises;
       };
-      loans = (refl, refl, refl, refl);
+      loans = (refl, refl, refl, refl, refl, refl, refl, refl, refl, refl);
     }

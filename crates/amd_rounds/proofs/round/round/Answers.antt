@@ -6,8 +6,9 @@ use Rattle.amd_rounds.proofs.Openings.{some_row, pivot_begins, half, picks_of, b
 use Rattle.amd_rounds.proofs.Turned.{gone_is}
 use Rattle.amd_rounds.proofs.Mergeable.{rows_live, can_merge}
 use Rattle.amd_rounds.proofs.Ending.{can_end}
-use Rattle.amd_rounds.proofs.RoundNumbers.{live_less}
+use Rattle.amd_rounds.proofs.RoundNumbers.{live_less, unpacked}
 use Rattle.amd_rounds.proofs.JoinedRound.{is_round}
+use Rattle.amd_rounds.proofs.Rounds.{loans_then}
 use Rattle.amd_rounds.proofs.Begun as begun
 use Rattle.amd_rounds.proofs.round.round.Goals as goal
 
@@ -81,12 +82,18 @@ returns-clause-fewer g c =
     live_less (half st picks begins turns) (workspace_of c.merge_alike.new.work) (merges_of size3 merges)
     (workspace_of c.end_front.new.work) (ends_of (merges.sized.nv ∙ size3) ends)
 
+pub returns-clause-unpacked : goal.returns-clause-unpacked
+unfolding half
+returns-clause-unpacked g c =
+    let st = c.requires.stands.5 in let picks = c.pick-me.ensures.picks in let begins = c.begin-element.ensures.begins in
+    let turns = c.turn_over-gone.ensures.turns in let merges = c.merge_alike.ensures.merges in let ends = c.end_front.ensures.ends in
+    let size3 = turns.sized.nv ∙ begins.sized.nv ∙ picks.sized.nv ∙ st.laid.sized.nv in
+    unpacked (half st picks begins turns) (workspace_of c.merge_alike.new.work) (merges_of size3 merges)
+    (workspace_of c.end_front.new.work) (ends_of (merges.sized.nv ∙ size3) ends)
+
 pub returns-clause-loans : goal.returns-clause-loans
 returns-clause-loans g c =
-    let p = c.pick-me.ensures.loans in let b = c.begin-element.ensures.loans in let t = c.turn_over-gone.ensures.loans in
-    let m = c.merge_alike.ensures.loans in let e = c.end_front.ensures.loans in (
-      e.0 ∙ m.0 ∙ t.0 ∙ b.0 ∙ p.0,
-      e.1 ∙ m.1 ∙ t.1 ∙ b.1 ∙ p.1,
-      e.2 ∙ m.2 ∙ t.2 ∙ b.2 ∙ p.2,
-      e.3 ∙ m.3 ∙ t.3 ∙ b.3 ∙ p.3,
-    )
+    let w = c.args.work.now in let p = c.pick-me.new.work in let b = c.begin-element.new.work in let t = c.turn_over-gone.new.work in
+    let m = c.merge_alike.new.work in let e = c.end_front.new.work in
+    loans_then w m e c.end_front.ensures.loans (loans_then w t m c.merge_alike.ensures.loans
+    (loans_then w b t c.turn_over-gone.ensures.loans (loans_then w p b c.begin-element.ensures.loans c.pick-me.ensures.loans)))

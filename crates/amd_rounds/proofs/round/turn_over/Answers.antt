@@ -68,5 +68,5 @@ returns g c =
         };
         same = refl;
       };
-      loans = (refl, refl, refl, refl);
+      loans = (refl, refl, refl, refl, refl, refl, refl, refl, refl, refl);
     }

@@ -13,34 +13,39 @@ use Rattle.amd_workspace.proofs.CopiedColumns.{filled_words, filled_long, filled
 use Rattle.amd_workspace.proofs.Layings.{lays_none, walked_list}
 use Rattle.amd_workspace.proofs.laying.general_lists.Goals as goal
 
--- what was copied, and behind it the last row in all words that are left
-record AreFilled (n room : ℕ) (xs ys : List ℤ) : Type 0 where
-  long : length ys ≡ room
+-- what was copied, and behind it the last row in more words
+record AreFilled (n count : ℕ) (xs ys : List ℤ) : Type 0 where
+  long : length ys ≡ length xs + count
   words : HoldRows n ys
-  same : (from count : ℕ) → from + count ≤ length xs → rows ys from count ≡ rows xs from count
+  same : (from many : ℕ) → from + many ≤ length xs → rows ys from many ≡ rows xs from many
 
--- words that were copied into none, and filled up
-are_filled : (n room most len : ℕ) (none xs ys : List ℤ) → 0 < n → most < room → length none ≡ 0 → length xs ≤ most → len ≡ length xs →
-    (HoldRows n none → HoldRows n xs) → ys ≡ xs ++ replicate (room - len) (pos (n - 1)) → AreFilled n room xs ys
-are_filled n room most len none xs ys some room_is empty long len_is words pushed =
-    let few : length xs ≤ room = omega (arith, long, room_is) in let last : n - 1 < n = omega (arith, some) in
-    let held = words (rows_empty n none some empty) in
-    let filled : ys ≡ xs ++ replicate (room - length xs) (pos (n - 1)) = pushed
-    ∙ ap (λ k. xs ++ replicate (room - k) (pos (n - 1))) len_is in record {
-      long = filled_long n room (n - 1) xs ys last held few filled;
-      words = filled_words n room (n - 1) xs ys last held few filled;
-      same = filled_same n room (n - 1) xs ys last held few filled;
+-- words that were copied into none, and more behind them
+are_filled : (n count : ℕ) (none xs ys : List ℤ) → 0 < n → length none ≡ 0 → (HoldRows n none → HoldRows n xs) →
+    ys ≡ xs ++ replicate count (pos (n - 1)) → AreFilled n count xs ys
+are_filled n count none xs ys some empty words filled =
+    let last : n - 1 < n = omega (arith, some) in let held = words (rows_empty n none some empty) in record {
+      long = filled_long n count (n - 1) xs ys last held filled;
+      words = filled_words n count (n - 1) xs ys last held filled;
+      same = filled_same n count (n - 1) xs ys last held filled;
     }
+
+-- what was copied, where there is room for as many words more as there are rows
+module _ (start size room len : ℕ) (xs ys : List ℤ) (most : length xs ≤ start) (enough : start + size ≤ room) (is : len ≡ length xs)
+    (long : length ys ≡ length xs + (room - len)) where
+  filled_up : length ys ≡ room
+  filled_up = omega (arith, most, enough, is, long)
 
 pub returns-then-copied-clause-long : goal.returns-then-copied-clause-long
 returns-then-copied-clause-long g c = let r = c.requires in let e = c.copy_symmetric-copied.ensures in
-    (are_filled c.args.size c.args.room _ c.len.result c.in_ok-iw.iw.items _ _ r.some r.room (ap length c.in_ok-iw.ensures.items) e.long
-    (c.len.ensures ∙ c.copy_symmetric-copied.new.iw.ok.0) e.words c.push_rows.ensures.items).long
+    let long = (are_filled c.args.size c.args.size c.in_ok-iw.iw.items _ _ r.some (ap length c.in_ok-iw.ensures.items) e.words
+    c.push_rows.ensures.items).long in
+    let all = e.all c.if-copied.true in let most = e.long in let room = r.room in
+    (omega (arith, long, all), omega (arith, long, most, room))
 
 pub returns-then-copied-clause-words : goal.returns-then-copied-clause-words
 returns-then-copied-clause-words g c = let r = c.requires in let e = c.copy_symmetric-copied.ensures in
-    (are_filled c.args.size c.args.room _ c.len.result c.in_ok-iw.iw.items _ _ r.some r.room (ap length c.in_ok-iw.ensures.items) e.long
-    (c.len.ensures ∙ c.copy_symmetric-copied.new.iw.ok.0) e.words c.push_rows.ensures.items).words
+    (are_filled c.args.size c.args.size c.in_ok-iw.iw.items _ _ r.some (ap length c.in_ok-iw.ensures.items) e.words
+    c.push_rows.ensures.items).words
 
 pub returns-then-copied-clause-lists : goal.returns-then-copied-clause-lists
 unfolding graph_of
@@ -48,26 +53,43 @@ returns-then-copied-clause-lists g c = λ i l.
     let ap' = map g.I.Index.value c.args.a_p.now in let ai = map g.I.Index.value c.args.a_i.now in let n = c.args.size in
     let r = c.requires in let e = c.copy_symmetric-copied.ensures in
     let all = e.all c.if-copied.true in let later = start_later (graph_of n ap' ai) i n l in let own = r.degrees.each i l in
-    (are_filled n c.args.room _ c.len.result c.in_ok-iw.iw.items _ _ r.some r.room (ap length c.in_ok-iw.ensures.items) e.long
-    (c.len.ensures ∙ c.copy_symmetric-copied.new.iw.ok.0) e.words c.push_rows.ensures.items).same (own_start n ap' ai i)
-    (num c.args.degrees.now i) (omega (arith, all, later, own))
+    (are_filled n n c.in_ok-iw.iw.items _ _ r.some (ap length c.in_ok-iw.ensures.items) e.words c.push_rows.ensures.items).same
+    (own_start n ap' ai i) (num c.args.degrees.now i) (omega (arith, all, later, own))
     ∙ e.lists c.if-copied.true i l
 
 pub walk-requires-clause-held : goal.walk-requires-clause-held
 unfolding graph_of
 walk-requires-clause-held g c = let r = c.requires in let e = c.copy_symmetric-copied.ensures in
     let ap' = map g.I.Index.value c.args.a_p.now in let ai = map g.I.Index.value c.args.a_i.now in
-    let filled = are_filled c.args.size c.args.room _ c.len.result c.in_ok-iw.iw.items _ _ r.some r.room
-    (ap length c.in_ok-iw.ensures.items) e.long (c.len.ensures ∙ c.copy_symmetric-copied.new.iw.ok.0) e.words c.push_rows.ensures.items in
-    let long = filled.long in let room = r.room in let fits = r.fits.1 in
-    lays_none (graph_of c.args.size ap' ai) c.args.next.items r.long r.starts g.S.Signed.MOST g.U.Unsigned.MOST c.push_rows.new.iw.items
-    filled.words (omega (arith, room, long)) r.fits.0 (omega (arith, fits, long))
+    let filled = are_filled c.args.size (c.args.room - c.len.result) c.in_ok-iw.iw.items _ _ r.some
+    (ap length c.in_ok-iw.ensures.items) e.words c.push_rows-2.ensures.items in
+    let long = filled_up _ c.args.size c.args.room c.len.result _ _ e.long r.room
+    (c.len.ensures ∙ c.copy_symmetric-copied.new.iw.ok.0) filled.long in
+    let room = r.room in let fits = r.fits.1 in
+    lays_none (graph_of c.args.size ap' ai) c.args.next.items r.long r.starts g.S.Signed.MOST g.U.Unsigned.MOST
+    c.push_rows-2.new.iw.items filled.words (omega (arith, room, long)) r.fits.0 (omega (arith, fits, long))
+
+-- the length of the words that a walk goes on with
+module _ (start size room : ℕ) (enough : start + size ≤ room) (old new : List ℤ) (kept : length new ≡ length old)
+    (long : length old ≡ room) where
+  walked_long : (start + size ≤ length new) × (length new ≤ room)
+  walked_long = (omega (arith, enough, kept, long), omega (arith, kept, long))
 
 pub returns-clause-long : goal.returns-clause-long
 returns-clause-long g c = let r = c.requires in let e = c.copy_symmetric-copied.ensures in
-    c.walk.ensures.kept ∙ (are_filled c.args.size c.args.room _ c.len.result c.in_ok-iw.iw.items _ _ r.some r.room
-    (ap length c.in_ok-iw.ensures.items) e.long (c.len.ensures ∙ c.copy_symmetric-copied.new.iw.ok.0) e.words
-    c.push_rows.ensures.items).long
+    let filled = are_filled c.args.size (c.args.room - c.len.result) c.in_ok-iw.iw.items _ _ r.some
+    (ap length c.in_ok-iw.ensures.items) e.words c.push_rows-2.ensures.items in
+    walked_long _ c.args.size c.args.room r.room _ _ c.walk.ensures.kept (filled_up _ c.args.size c.args.room c.len.result _ _ e.long
+    r.room (c.len.ensures ∙ c.copy_symmetric-copied.new.iw.ok.0) filled.long)
+
+pub returns-clause-capacity : goal.returns-clause-capacity
+returns-clause-capacity g c = let r = c.requires in let e = c.copy_symmetric-copied.ensures in
+    let filled = are_filled c.args.size (c.args.room - c.len.result) c.in_ok-iw.iw.items _ _ r.some
+    (ap length c.in_ok-iw.ensures.items) e.words c.push_rows-2.ensures.items in
+    let long = filled_up _ c.args.size c.args.room c.len.result _ _ e.long r.room
+    (c.len.ensures ∙ c.copy_symmetric-copied.new.iw.ok.0) filled.long in
+    let kept = c.walk.ensures.kept in let len = c.walk.new.visitor.iw.ok.0 in let cap = c.walk.new.visitor.iw.ok.1 in
+    omega (arith, long, kept, len, cap)
 
 pub returns-clause-words : goal.returns-clause-words
 unfolding graph_of

@@ -1,5 +1,7 @@
-use Rattle.std.proofs.Common.{ℕ, ◌≡◌, map, length, arith, sym, ap, subst, ◌∙◌}
+use Rattle.std.proofs.Common.{ℕ, ◌≡◌, ◌≤◌, ◌+◌, map, length, arith, sym, ap, subst, ◌∙◌}
+use Rattle.std.specs.Vec.{vec_capacity}
 use Rattle.amd_model.specs.Input.Pattern.{graph_of, is_pair}
+use Rattle.amd_edges.specs.Visits.{start_of}
 use Rattle.amd_workspace.specs.Copying.{HoldRows}
 use Rattle.amd_workspace.specs.Laying.{IsLaidOut}
 use Rattle.amd_workspace.specs.Lower.{own_start}
@@ -52,16 +54,18 @@ unfolding graph_of
 returns-clause-laid g c =
     let graph = graph_of c.args.size (map g.I.Index.value c.args.a_p.now) (map g.I.Index.value c.args.a_i.now) in
     let r = c.requires in let s = c.starts-free.new in let iw = c.if-has_long_lower.iw.items in
-    let long : length iw ≡ c.args.room = elim c.if-has_long_lower.branch [
-      | then-has_long_lower+in_ok-iw w ↦ ap (λ v. length v.items) w.iw-is ∙ w.in_ok-iw.ensures.long
-      | else-has_long_lower+in_ok-iw-2 w ↦ ap (λ v. length v.items) w.iw-is ∙ w.in_ok-iw-2.ensures.long
+    let long : start_of graph c.args.size ≤ length iw = elim c.if-has_long_lower.branch [
+      | then-has_long_lower+in_ok-iw w ↦ (let e = ap (λ v. length v.items) w.iw-is in let l = w.in_ok-iw.ensures.long in
+          omega (arith, e, l))
+      | else-has_long_lower+in_ok-iw-2 w ↦ (let e = ap (λ v. length v.items) w.iw-is in let l = w.in_ok-iw-2.ensures.long.0 in
+          omega (arith, e, l))
     ] in
     let names : HoldRows c.args.size iw = elim c.if-has_long_lower.branch [
       | then-has_long_lower+in_ok-iw w ↦ subst (λ v. HoldRows c.args.size v.items) (sym w.iw-is) w.in_ok-iw.ensures.words
       | else-has_long_lower+in_ok-iw-2 w ↦ subst (λ v. HoldRows c.args.size v.items) (sym w.iw-is) w.in_ok-iw-2.ensures.words
     ] in
     let out = laid_out graph c.args.degrees.now s.pe.items s.next.items s.len.items r.degrees c.starts-free.ensures.starts iw names
-    (let a = r.room in omega (arith, a, long)) in
+    long in
     let P : ℕ → Type 0 = λ free. IsLaidOut c.args.size iw s.pe.items s.len.items free in
     subst P (sym (c.starts-free.ensures.total ∙ total_is graph c.args.degrees.now r.degrees)) out
 
@@ -69,11 +73,21 @@ pub returns-clause-long : goal.returns-clause-long
 unfolding graph_of
 returns-clause-long g c =
     let graph = graph_of c.args.size (map g.I.Index.value c.args.a_p.now) (map g.I.Index.value c.args.a_i.now) in
-    let long : length c.if-has_long_lower.iw.items ≡ c.args.room = elim c.if-has_long_lower.branch [
-      | then-has_long_lower+in_ok-iw w ↦ ap (λ v. length v.items) w.iw-is ∙ w.in_ok-iw.ensures.long
-      | else-has_long_lower+in_ok-iw-2 w ↦ ap (λ v. length v.items) w.iw-is ∙ w.in_ok-iw-2.ensures.long
+    let iw = c.if-has_long_lower.iw.items in let room = c.requires.room in
+    let long : (start_of graph c.args.size + c.args.size ≤ length iw) × (length iw ≤ c.args.room) = elim c.if-has_long_lower.branch [
+      | then-has_long_lower+in_ok-iw w ↦ (let e = ap (λ v. length v.items) w.iw-is in let l = w.in_ok-iw.ensures.long in
+          (omega (arith, e, l), omega (arith, e, l, room)))
+      | else-has_long_lower+in_ok-iw-2 w ↦ (let e = ap (λ v. length v.items) w.iw-is in let l = w.in_ok-iw-2.ensures.long.0 in
+          let m = w.in_ok-iw-2.ensures.long.1 in (omega (arith, e, l), omega (arith, e, m)))
     ] in
-    (long, c.starts-free.ensures.total ∙ total_is graph c.args.degrees.now c.requires.degrees)
+    let total = c.starts-free.ensures.total ∙ total_is graph c.args.degrees.now c.requires.degrees in let low = long.0 in
+    (omega (arith, low, total), long.1, total)
+
+pub returns-clause-capacity : goal.returns-clause-capacity
+returns-clause-capacity g c = elim c.if-has_long_lower.branch [
+  | then-has_long_lower+in_ok-iw w ↦ subst (λ v. c.args.room ≤ vec_capacity v) (sym w.iw-is) w.in_ok-iw.ensures.capacity
+  | else-has_long_lower+in_ok-iw-2 w ↦ subst (λ v. c.args.room ≤ vec_capacity v) (sym w.iw-is) w.in_ok-iw-2.ensures.capacity
+]
 
 pub returns-clause-lists : goal.returns-clause-lists
 unfolding graph_of
@@ -100,14 +114,14 @@ lower_lists-requires-clause-input g c = record {
 
 pub lower_lists-requires-clause-room : goal.lower_lists-requires-clause-room
 unfolding graph_of
-lower_lists-requires-clause-room g c = let room = c.requires.room in omega (arith, room)
+lower_lists-requires-clause-room g c = c.requires.room
 
 pub lower_lists-requires-clause-fits : goal.lower_lists-requires-clause-fits
 lower_lists-requires-clause-fits g c = (c.requires.fits.0, c.requires.fits.2)
 
 pub general_lists-requires-clause-room : goal.general_lists-requires-clause-room
 unfolding graph_of
-general_lists-requires-clause-room g c = let room = c.requires.room in let some = c.requires.some in omega (arith, room, some)
+general_lists-requires-clause-room g c = c.requires.room
 
 pub general_lists-requires-clause-fits : goal.general_lists-requires-clause-fits
 general_lists-requires-clause-fits g c = (c.requires.fits.0, c.requires.fits.2)

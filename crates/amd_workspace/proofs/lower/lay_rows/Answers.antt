@@ -15,8 +15,8 @@ use Rattle.amd_workspace.proofs.lower.lay_rows.Goals as goal
 module _ (n : ℕ) (ap' ai : List ℤ) (lower : IsLower n ap' ai) (degrees : List ℕ)
     (counts : AreCounts (graph_of n ap' ai) ((graph_of n ap' ai).edge) degrees) (j past end : ℕ) (j_in : j < n)
     (end_is : end ≡ own_start n ap' ai j) (after : j < past) (within : (i : ℕ) → is_pair n ap' ai i j ≡ true → i < past)
-    (a b room : ℕ) (next : List ℕ) (iw : List ℤ) (h : LaysRows n ap' ai past (earlier_below n ap' ai j) next iw)
-    (enough : own_start n ap' ai n ≤ room) (small : n ≤ a) (fits : room ≤ b) where
+    (a b : ℕ) (next : List ℕ) (iw : List ℤ) (h : LaysRows n ap' ai past (earlier_below n ap' ai j) next iw)
+    (small : n ≤ a) (fits : own_start n ap' ai n + n ≤ b) where
   ready : IsReadyForColumn (record { n = n; ap = ap'; ai = ai }) past j (end + num degrees j) a b next iw
   ready = let long = h.long in let whole = later_start n ap' ai lower past n h.few (omega arith) in record {
     lower = lower;
@@ -26,7 +26,7 @@ module _ (n : ℕ) (ap' ai : List ℤ) (lower : IsLower n ap' ai) (degrees : Lis
     end = next_end n ap' ai lower degrees counts j end j_in end_is;
     room = omega (arith, long);
     rows = small;
-    places = omega (arith, long, whole, enough, fits);
+    places = omega (arith, long, whole, fits);
     before = h.spreads;
   }
 
@@ -35,7 +35,7 @@ unfolding start_of sum_below
 columns-init g c = record {
   reach = omega arith;
   end = refl;
-  capacity = c.requires.capacity;
+  capacity = omega arith;
   laid = lays_none c.args.size (map g.I.Index.value c.args.a_p.now) (map g.I.Index.value c.args.a_i.now) c.requires.input.lower
       c.args.next.now
       c.args.iw.now.items c.requires.some c.requires.empty c.requires.next c.requires.starts;
@@ -51,10 +51,10 @@ offset_bounds-degrees-j g c = let a = c.requires.degrees.size in let b = c.colum
 
 pub overflow_add-end : goal.overflow_add-end
 overflow_add-end g c =
-    let room = c.requires.room in let fits = c.ranges.room.fits in
+    let room = c.requires.room in let small = c.args.iw.now.small in
     let d = list_room c.args.size (map g.I.Index.value c.args.a_p.now) (map g.I.Index.value c.args.a_i.now) c.requires.input.lower
     c.args.degrees.now c.requires.degrees c.columns.j c.columns.end c.columns-test.true c.columns.invariant.end in
-    omega (arith, d, room, fits)
+    omega (arith, d, room, small)
 
 pub spread_in-requires : goal.spread_in-requires
 spread_in-requires g c =
@@ -65,8 +65,8 @@ spread_in-requires g c =
         c.max-past.result,
         ready c.args.size ap' ai c.requires.input.lower c.args.degrees.now c.requires.degrees c.columns.j c.max-past.result c.columns.end
             c.columns-test.true i.end (omega (arith, past, most))
-            (λ k e. let all = c.past_column.ensures.all k e in omega (arith, all, most)) _ _ c.args.room c.columns.next
-            c.push_until.new.iw.items (c.push_until.ensures.laid _ _ i.laid) c.requires.room c.requires.fits.0 c.requires.fits.1,
+            (λ k e. let all = c.past_column.ensures.all k e in omega (arith, all, most)) _ _ c.columns.next
+            c.push_until.new.iw.items (c.push_until.ensures.laid _ _ i.laid) c.requires.fits.0 c.requires.fits.1,
       );
     }
 
@@ -86,8 +86,8 @@ columns-preserved g c =
           c.push_until.new.iw.items c.spread_in.new.iw.items c.columns-test.true within c.spread_in.ensures.long laid
           (c.spread_in.ensures.after (record { n = n; ap = ap'; ai = ai }) c.max-past.result
           (ready n ap' ai c.requires.input.lower c.args.degrees.now c.requires.degrees c.columns.j c.max-past.result c.columns.end
-          c.columns-test.true i.end (omega (arith, past, most)) within _ _ c.args.room c.columns.next c.push_until.new.iw.items laid
-          c.requires.room c.requires.fits.0 c.requires.fits.1));
+          c.columns-test.true i.end (omega (arith, past, most)) within _ _ c.columns.next c.push_until.new.iw.items laid
+          c.requires.fits.0 c.requires.fits.1));
     }
 
 -- behind the last column all lists are laid
@@ -98,24 +98,29 @@ module _ (n : ℕ) (ap' ai : List ℤ) (j laid : ℕ) (next : List ℕ) (iw : Li
       subst (λ k. LaysRows n ap' ai n (earlier_below n ap' ai k) next iw) last
       (subst (λ m. LaysRows n ap' ai m (earlier_below n ap' ai j) next iw) all h)
 
+pub push_rows-requires-clause-room : goal.push_rows-requires-clause-room
+push_rows-requires-clause-room g c =
+    let ap' = map g.I.Index.value c.args.a_p.now in let ai = map g.I.Index.value c.args.a_i.now in let n = c.args.size in
+    let a = c.columns.auto.j-end in let b = c.columns-test.false in let i = c.columns.invariant in
+    let long = (all_laid n ap' ai c.columns.j c.columns.laid c.columns.next c.columns.iw.items i.reach (omega (arith, a, b)) i.laid).long in
+    let room = c.requires.room in let wide = i.capacity in omega (arith, long, room, wide)
+
 pub returns-clause-long : goal.returns-clause-long
 returns-clause-long g c =
     let ap' = map g.I.Index.value c.args.a_p.now in let ai = map g.I.Index.value c.args.a_i.now in let n = c.args.size in
-    let a = c.columns.auto.j-end in let b = c.columns-test.false in let i = c.columns.invariant in let room = c.requires.room in
-    let last : c.columns.j ≡ n = omega (arith, a, b) in
-    let long = (all_laid n ap' ai c.columns.j c.columns.laid c.columns.next c.columns.iw.items i.reach last i.laid).long in
-    let end = i.end in let start = ap (own_start n ap' ai) last in let count = c.args.room - c.columns.end in
+    let a = c.columns.auto.j-end in let b = c.columns-test.false in let i = c.columns.invariant in
+    let long = (all_laid n ap' ai c.columns.j c.columns.laid c.columns.next c.columns.iw.items i.reach (omega (arith, a, b)) i.laid).long in
     let whole = ap length c.push_rows.ensures.items in
-    let size = length-append c.columns.iw.items (replicate count (pos (n - 1))) in
-    let d = length-replicate count (pos (n - 1)) in omega (arith, end, start, room, long, whole, size, d)
+    let size = length-append c.columns.iw.items (replicate n (pos (n - 1))) in
+    let d = length-replicate n (pos (n - 1)) in omega (arith, long, whole, size, d)
 
 pub returns-clause-lists : goal.returns-clause-lists
 returns-clause-lists g c =
     let ap' = map g.I.Index.value c.args.a_p.now in let ai = map g.I.Index.value c.args.a_i.now in let n = c.args.size in
     let a = c.columns.auto.j-end in let b = c.columns-test.false in let i = c.columns.invariant in let some = c.requires.some in
     let so = subst (SpreadsColumns n ap' ai (earlier_below n ap' ai n) c.columns.next) (sym c.push_rows.ensures.items)
-    (lays_end n ap' ai c.requires.input.lower (earlier_below n ap' ai n) c.columns.next c.columns.iw.items (n - 1)
-    (c.args.room - c.columns.end) (omega (arith, some))
+    (lays_end n ap' ai c.requires.input.lower (earlier_below n ap' ai n) c.columns.next c.columns.iw.items (n - 1) n
+    (omega (arith, some))
     (all_laid n ap' ai c.columns.j c.columns.laid c.columns.next c.columns.iw.items i.reach (omega (arith, a, b)) i.laid)) in (
       so.held.words,
       spread_lists_are n ap' ai c.requires.input.lower c.args.degrees.now c.columns.next c.push_rows.new.iw.items

@@ -7,7 +7,7 @@ abbrev pub invariant-columns : goal.invariant-columns
 invariant-columns g l = record {
   reach : l.j ≤ l.laid;
   end : l.end ≡ own_start l.size (map g.I.Index.value l.a_p) (map g.I.Index.value l.a_i) l.j;
-  capacity : l.room ≤ vec_capacity l.iw;
+  capacity : vec_capacity l.fn.iw ≤ vec_capacity l.iw;
   laid : LaysRows l.size (map g.I.Index.value l.a_p) (map g.I.Index.value l.a_i) l.laid
       (earlier_below l.size (map g.I.Index.value l.a_p) (map g.I.Index.value l.a_i) l.j) l.next l.iw.items;
 }

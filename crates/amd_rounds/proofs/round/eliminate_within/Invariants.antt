@@ -1,16 +1,15 @@
-use Rattle.std.specs.Prelude.{ℕ, Bool, ◌≡◌, length}
-use Rattle.amd_model.specs.Graph.{Graph}
-use Rattle.amd_model.specs.State.{State}
-use Rattle.amd_model.specs.Quotient.{QuotientGraph}
+use Rattle.std.specs.Prelude.{◌≡◌, ◌<◌, ◌⊎◌, length}
 use Rattle.amd_rounds.specs.Workspaces.{workspace_of, KeepsLoans}
-use Rattle.amd_rounds.specs.Keeps.{AreRounds, Stands}
-use Rattle.amd_rounds.proofs.round.eliminate.Given as goal
+use Rattle.amd_rounds.specs.Keeps.{AreRounds}
+use Rattle.amd_rounds.proofs.Rounds.{StandsForSome}
+use Rattle.amd_rounds.proofs.round.eliminate_within.Given as goal
 
 abbrev pub invariant-rounds : goal.invariant-rounds
 invariant-rounds g l = record {
   rounds : AreRounds l.control.aggressive (workspace_of l.fn.work) (workspace_of l.work);
-  stands : (gr : Graph) × (dense : ℕ → Bool) × (nzaat : ℕ) × (t : QuotientGraph) × (s : State)
-      × Stands gr dense nzaat (workspace_of l.work) t s;
+  stands : StandsForSome (workspace_of l.work);
+  fewer : (l.work ≡ l.fn.work) ⊎ (l.work.live < l.fn.work.live);
+  unpacked : length l.fn.work.iw.now < l.room → l.work.n_cmp_a ≡ l.fn.work.n_cmp_a;
   loans : KeepsLoans l.fn.work l.work;
   long : (length l.work.iw.now ≡ length l.fn.work.iw.now) × (length l.work.nv.now ≡ length l.fn.work.nv.now);
 }
