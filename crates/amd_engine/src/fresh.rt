@@ -1,5 +1,5 @@
 // Fresh lists for an elimination in one workspace and for its result: all memory that it takes beside the words of its
-// lists is asked for here, before the first round. Called by `amd_2`.
+// lists is asked for here, before the first round. Called by `amd_1` and `amd_2`.
 
 ghost use Rattle.std.specs.Prelude.{◌≡◌, ◌≤◌, ℕ, length, IfOk};
 ghost use Rattle.amd_words.specs.Sides.{nexts, lasts};
