@@ -6,7 +6,9 @@
 Each program is called as PROGRAM MATRIX TYPE CALLS, and prints a line with words such as min_ns=TIME and phash=HASH. All programs that
 tell a figure or that hash of a matrix must tell the same, or it is said. The drivers of peers/, which peers/build makes of what is
 installed, are such programs. With --load, of process.c, the times are those of the processor, and
-the table has the greatest memory of a call too, in megabytes, and the requests for it."""
+the table has the greatest memory of a call too, in megabytes, and the requests for it. At the end stand the ratios of the first program to
+each other one: their geometric mean, and the least and the greatest."""
+import math
 import os
 import re
 import subprocess
@@ -19,6 +21,14 @@ def words(program, kind, matrix, calls, load):
     return dict(re.findall(r"(\w+)=(\S+)", ran.stdout + ran.stderr))
 
 
+def ratios(names, times):
+    """A line for each program but the first: the ratios of the first one's times to its own."""
+    for name in names[1:]:
+        found = sorted(it[names[0]] / it[name] for it in times)
+        mean = math.exp(sum(map(math.log, found)) / len(found))
+        yield f"{names[0]} to {name}: {mean:.3f} in the mean of {len(found)}, {found[0]:.2f} to {found[-1]:.2f}"
+
+
 def main():
     arguments = sys.argv[1:]
     rounds, calls, load = int(arguments.pop(0)), int(arguments.pop(0)), None
@@ -29,6 +39,7 @@ def main():
     names = [name for name, _, _ in programs]
     tells = ["ms", "MB", "requests"] if load else ["ms"]
     print("matrix", *(f"{name}.{it}" for name in names for it in tells), sep="\t", flush=True)
+    times = []
     for matrix in arguments[cut + 1:]:
         least, told, more = {}, {}, {}
         for _ in range(rounds):
@@ -38,8 +49,10 @@ def main():
                     told.setdefault(it, set()).update([said[it]] if it in said else [])
                 least[name] = min(least.get(name, 1 << 62), int(said["min_ns"]))
                 more[name] = [f"{int(said.get('peak', 0)) / 1e6:.2f}", said.get("requests")] if load else []
+        times.append(least)
         cells = [it for name in names for it in (f"{least[name] / 1e6:.2f}", *more[name])]
         print(os.path.basename(matrix), *cells, *["ANSWERS DIFFER"] * any(len(it) > 1 for it in told.values()), sep="\t", flush=True)
+    print(*ratios(names, times), sep="\n")
 
 
 main()

@@ -1,10 +1,13 @@
 #!/usr/bin/env python3
-"""Writes the matrices that docs/BENCHMARKS.md names: matrices.py FOLDER [NAME..]. A name not given: all but those of the growth.
+"""Writes the matrices that docs/BENCHMARKS.md names: matrices.py FOLDER [--seed N] [NAME..]. A name not given: all but those of the growth.
+`others` is the name of all kinds of `kinds.py`, to which nothing was tuned; they are drawn from the seed N, or from 1.
 
 A file has the number of rows, that of entries and the pointers in 64 bits, and the rows in 32, little endian."""
 import array
 import os
 import sys
+
+import kinds
 
 
 class Draws:
@@ -286,11 +289,19 @@ def write(path, columns):
     print(os.path.basename(path), len(pointers) - 1, len(rows), flush=True)
 
 
-def main(folder, *names):
+def main(folder, *words):
     os.makedirs(folder, exist_ok=True)
-    for name in names or [it for it in ALL if it not in GROWTH]:
+    words, seed = list(words), 1
+    if "--seed" in words:
+        at = words.index("--seed")
+        seed = int(words[at + 1])
+        del words[at:at + 2]
+    others = {name: lambda kind=kind: kind(seed) for name, kind in {**kinds.KINDS, **kinds.TINY}.items()}
+    every = {**ALL, **others}
+    names = [name for word in words for name in (others if word == "others" else [word])]
+    for name in names or [it for it in every if it not in GROWTH]:
         try:
-            write(os.path.join(folder, name), ALL[name]())
+            write(os.path.join(folder, name), every[name]())
         except ImportError as missing:
             print(f"{name}: skipped, {missing}")
 
