@@ -95,7 +95,8 @@ int32_t rimopaku_order_holding_i64(int64_t n, const int64_t *a_p, size_t a_p_len
                                    size_t p_len, int64_t *p_inv, size_t p_inv_len, struct rimopaku_statistics *statistics);
 
 /* Checks a matrix with n_row rows and n_col columns. Returns RIMOPAKU_INVALID exactly if it is not a column form, RIMOPAKU_OK exactly if it
- * is one whose columns are sorted and have no duplicates, else RIMOPAKU_OK_BUT_JUMBLED. Takes no memory. */
+ * is one whose columns are sorted and have no duplicates, else RIMOPAKU_OK_BUT_JUMBLED. Takes no memory. A negative n_row is no fault where
+ * there are no entries, as in the Rust crate amd; SuiteSparse's amd_valid refuses it. */
 int32_t rimopaku_valid_i32(int32_t n_row, int32_t n_col, const int32_t *a_p, size_t a_p_len, const int32_t *a_i, size_t a_i_len);
 int32_t rimopaku_valid_i64(int64_t n_row, int64_t n_col, const int64_t *a_p, size_t a_p_len, const int64_t *a_i, size_t a_i_len);
 

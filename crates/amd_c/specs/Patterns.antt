@@ -43,8 +43,11 @@ TellsPattern n ap ai info = HasPatternFigures n ap ai info × (info ≡ record (
   nz_a_plus_at = info.nz_a_plus_at;
 })
 
--- the degrees of the rows stand in the array, and the figures of the pattern in the statistics
+-- of a column form with sorted columns the degrees of the n rows stand in the array, and the figures of the pattern in the
+-- statistics
 pub record HoldsDegrees (n : ℤ) (ap ai : List ℤ) (m : Counted) : Type 0 where
+  pub form : IsSortedForm n ap ai
+  pub places : HasRowPlaces n m.degrees
   pub total : ℕ
   pub degrees : List ℕ
   pub info : Info
@@ -85,8 +88,11 @@ row_arrays pointers indices = record { pointers = pointers; indices = indices }
 abbrev pub HasPointerPlaces : ℤ → List ℤ → Type 0
 HasPointerPlaces n pointers = (k : ℕ) × (n ≡ pos k) × (length pointers ≡ k + 1)
 
--- the arrays hold the row form; what stands behind the indices stayed
+-- the arrays, of which that of the pointers has n + 1 places, hold the row form of a column form; what stands behind the
+-- indices stayed
 pub record HoldsRowForm (n : ℤ) (ap ai : List ℤ) (old new : RowArrays) : Type 0 where
+  pub form : IsInput n n ap ai
+  pub places : HasPointerPlaces n old.pointers
   pub indices : List ℤ
   pub clean : IsCleanTranspose n ap ai new.pointers indices
   pub written : new.indices ≡ indices ++ drop (length indices) old.indices

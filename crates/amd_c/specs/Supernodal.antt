@@ -24,8 +24,9 @@ blocks first ptr rows parent = record { first = first; ptr = ptr; rows = rows; p
 abbrev pub HasBlockPlaces : List ℤ → List ℤ → List ℤ → Type 0
 HasBlockPlaces first ptr parent = (length first ≡ length parent + 1) × (length ptr ≡ length parent + 1)
 
--- the arrays hold the supernodes of the factor under the order p; what stands behind them stayed
+-- the arrays, which have their places, hold the supernodes of the factor under the order p; what stands behind them stayed
 pub record HoldsSupernodes (n : ℤ) (ap ai p : List ℤ) (old new : Blocks) : Type 0 where
+  pub places : HasBlockPlaces old.first old.ptr old.parent
   pub first : List ℕ
   pub ptr : List ℕ
   pub rows : List ℕ

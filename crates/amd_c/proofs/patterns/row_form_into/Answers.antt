@@ -1,7 +1,9 @@
 -- What was copied is the row form.
-use Rattle.std.proofs.Common.{◌≡◌, ◌++◌, map, length, drop, sym, ◌∙◌, ap, arith, subst}
+use Rattle.std.proofs.Common.{◌≡◌, ◌++◌, map, length, drop, sym, ◌∙◌, ap, arith, rules, subst}
 use Rattle.std.proofs.lemmas.List.{drop-map, length-map, map-append}
 use Rattle.amd_input.specs.Transposes.{IsCleanTranspose}
+use Rattle.amd_model.specs.Input.Columns.{IsInput}
+use Rattle.amd_c.specs.Patterns.{HasPointerPlaces}
 use Rattle.amd_c.proofs.patterns.row_form_into.Goals as goal
 
 pub returns : goal.returns
@@ -15,7 +17,11 @@ returns g c =
     let m = length-map columns value in
     let size : c.len-2.result ≡ length (map value columns) = omega (arith, l, d, f, m) in
     let pointers = ap (map value) (c.copy_from_slice.ensures.after ∙ c.deref.ensures.value) in
+    let form : IsInput (value c.args.n) (value c.args.n) (map value c.args.a_p.now) (map value c.args.a_i.now) = search rules in
+    let places : HasPointerPlaces (value c.args.n) (map value c.args.pointers.now) = search rules in
     record {
+      form = form;
+      places = places;
       indices = map value columns;
       clean = subst (λ x. IsCleanTranspose (value c.args.n) (map value c.args.a_p.now) (map value c.args.a_i.now) x (map value columns))
           (sym pointers) c.in-Ok.ensures.clean;

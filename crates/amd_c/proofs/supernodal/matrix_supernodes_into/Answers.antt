@@ -1,5 +1,5 @@
 -- What was written to the front of each array are the numbers of the supernodes; where there was no place, they are more.
-use Rattle.std.proofs.Common.{◌≡◌, ◌<◌, ◌+◌, ◌⊎◌, ◌++◌, drop, take, inl, inr, map, pos, length, refl, sym, ◌∙◌, ap, subst, arith, rules}
+use Rattle.std.proofs.Common.{◌≡◌, ◌<◌, ◌⊎◌, ◌++◌, drop, take, inl, inr, map, pos, length, refl, sym, ◌∙◌, ap, subst, arith, rules}
 use Rattle.std.specs.Prelude.{slice_index}
 use Rattle.std.proofs.lemmas.List.{length-map}
 use Rattle.amd_types.specs.Counts.{counts}
@@ -56,7 +56,9 @@ returns g c =
     let cut = c.write_rows-cut.result in
     let rows = c.write_rows-cut.new.rows in
     let long : length rows ≡ c.index-below.result.now = search rules in
+    let places : HasBlockPlaces (map value c.args.first.now) (map value c.args.ptr.now) (map value c.args.parent.now) = search rules in
     record {
+      places = places;
       first = cut.first.items;
       ptr = cut.ptr.items;
       rows = counts (map value rows);
