@@ -40,3 +40,12 @@ line-last (x ∷ xs) none =
     let rest = line-last xs (λ j l. none (suc j) (omega arith)) in
     let other : eqb x 10 ≡ false = ne_eqb x 10 (none 0 (omega arith)) in
     rw other (ap (λ z. x ∷ z) rest.0, rest.1)
+
+-- bytes without a line feed are the front of a line, or all of it
+pub line-longer : (held more : List ℕ) → ((j : ℕ) → j < length held → get_or held j 0 ≢ 10) →
+    length held ≤ length (take_through 10 (held ++ more))
+line-longer [] more none = omega arith
+line-longer (x ∷ xs) more none =
+    let rest = line-longer xs more (λ j l. none (suc j) (omega arith)) in
+    let other : eqb x 10 ≡ false = ne_eqb x 10 (none 0 (omega arith)) in
+    rw other (omega (arith, rest))

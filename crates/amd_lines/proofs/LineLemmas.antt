@@ -1,22 +1,24 @@
 -- Lines that were read one after another.
 use Rattle.std.proofs.Common.{◌≡◌, ◌≢◌, ◌+◌, ◌<◌, ◌≤◌, ℕ, Bool, true, false, Option, Some, None, List, [], ◌∷◌, ◌++◌, cond, refl, sym}
 use Rattle.std.proofs.Common.{ap, ◌∙◌, subst}
-use Rattle.std.proofs.Common.{append-nil, arith, length, length-append, get_or, take, drop, zero, suc}
+use Rattle.std.proofs.Common.{append-nil, append_assoc, arith, length, length-append, get_or, take, drop, zero, suc}
 use Rattle.std.proofs.Common.{◌-◌, ◌⊎◌, inl, inr, eqb, length-drop}
 use Rattle.std.proofs.lemmas.Bool.{eq-eqb, eqb-true}
 use Rattle.std.specs.Prelude.{All, IfSome, min}
 use Rattle.std.specs.Io.BufRead.{take_through, drop_through}
-use Rattle.std.specs.Io.KnownBytes.{IsAtEnd, prepend_known}
+use Rattle.std.specs.Io.KnownBytes.{Consumes, IsAtEnd, prepend_known}
 use Rattle.std.proofs.lemmas.Bool.{cases_lt}
-use Rattle.std.proofs.lemmas.List.{take_all, drop_all, get_or-drop, get_or-take, length-take, take-take}
+use Rattle.std.proofs.lemmas.List.{take_all, drop_all, get_or-drop, get_or-take, length-take, take-take, length-take-le}
 use Rattle.memchr.specs.Find.{Passes, Nowhere, NoneBefore, is_byte}
 use Rattle.std.proofs.lemmas.List.Elements.{filter-append}
 use Rattle.amd_lines.specs.Words.{words, EndsAt}
 use Rattle.amd_lines.specs.Lines.{BeginsWith, TookLine, line_number, one_line_more}
 use Rattle.amd_lines.specs.Lines.{TakesLine, TakesLines, TakesTelling, TakesNotes, FailsAt, is_note}
-use Rattle.amd_lines.specs.Lines.{tells, telling, rest_of, line_of, EndsLine, HasNoFeed, KeepsRest}
+use Rattle.amd_lines.specs.Lines.{tells, telling, rest_of, line_of, EndsLine, HasNoFeed, KeepsRest, MeetsLong, IfLong}
+use Rattle.amd_lines.specs.declared.errors.LineCause.{LineCause}
+use Rattle.amd_lines.specs.declared.errors.LineCause.TheVariants as cause
 use Rattle.amd_lines.specs.Blocks.{held_of}
-use Rattle.amd_lines.proofs.BlockLemmas.{line-held, line-last}
+use Rattle.amd_lines.proofs.BlockLemmas.{line-held, line-last, line-longer}
 use Rattle.amd_lines.specs.declared.lines.LineReader.{LineReader}
 
 begins-append : (is js : List (List ℕ)) (bytes : List ℕ) (mid rest : Option (List ℕ)) → BeginsWith is bytes mid
@@ -70,24 +72,25 @@ pub takes-append : {R Z : Type 0} (remaining : R → Option (List ℕ)) (a b c :
     → TakesLines remaining a b is → TakesLines remaining b c js → TakesLines remaining a c (is ++ js)
 takes-append remaining a b c is js h k = record {
   counted = k.counted ∙ ap (λ n. line_number n js) h.counted ∙ sym (number-append a.lines is js);
+  longest = k.longest ∙ h.longest;
   took = known-append is js _ _ _ h.took k.took;
 }
 
 -- nothing was read
 pub takes-none : {R Z : Type 0} (remaining : R → Option (List ℕ)) (a : LineReader R Z) → TakesLines remaining a a []
-takes-none remaining a = record { counted = refl; took = known-none (rest_of remaining a) }
+takes-none remaining a = record { counted = refl; longest = refl; took = known-none (rest_of remaining a) }
 
 -- one line was read
 pub takes-one : {R Z : Type 0} (remaining : R → Option (List ℕ)) (a b : LineReader R Z) → TakesLine remaining a b true
     → TakesLines remaining a b (line_of b ∷ [])
-takes-one remaining a b h = record { counted = h.counted; took = line-known _ _ _ h.took }
+takes-one remaining a b h = record { counted = h.counted; longest = h.longest; took = line-known _ _ _ h.took }
 
 -- no line was left
 pub takes-end : {R Z : Type 0} (remaining : R → Option (List ℕ)) {mark : Option ℕ} (a b : LineReader R Z) → TakesLine remaining a b false →
     TakesNotes mark remaining a b
 takes-end remaining a b h = record {
   lines = [];
-  takes = record { counted = h.counted; took = end-known _ _ (line_of b) h.took };
+  takes = record { counted = h.counted; longest = h.longest; took = end-known _ _ (line_of b) h.took };
   tells = refl;
   end = last-known _ _ (line_of b) h.took;
 }
@@ -188,10 +191,11 @@ held-some held (Some xs) h = let l = length-append held xs in omega (arith, l, h
 
 -- the line was passed
 pub passed-line : {R Z : Type 0} (remaining : R → Option (List ℕ)) (a b : LineReader R Z) (count : ℕ) → EndsLine remaining a count →
-    b.lines ≡ one_line_more a.lines → line_of b ≡ take count (held_of a.block) → held_of b.block ≡ drop count (held_of a.block) →
-    b.input ≡ a.input → TakesLine remaining a b true
-passed-line remaining a b count h counted line held input = record {
+    b.lines ≡ one_line_more a.lines → b.longest ≡ a.longest → line_of b ≡ take count (held_of a.block) →
+    held_of b.block ≡ drop count (held_of a.block) → b.input ≡ a.input → TakesLine remaining a b true
+passed-line remaining a b count h counted longest line held input = record {
   counted = counted;
+  longest = longest;
   took = known (rest_of remaining a)
       (held-some (held_of a.block) (remaining a.input) (let w = h.within in let s = h.some in omega (arith, w, s))) h.line h.rest;
 }
@@ -291,6 +295,7 @@ pub keeps-takes : {R Z : Type 0} (remaining : R → Option (List ℕ)) (a b c : 
     TakesLine remaining b c some → TakesLine remaining a c some
 keeps-takes remaining a b c some h k = record {
   counted = k.counted ∙ ap (λ n. cond some (one_line_more n) n) h.counted;
+  longest = k.longest ∙ h.longest;
   took = same-then (λ bytes. TookLine bytes (line_of c) (rest_of remaining c) some) (rest_of remaining a)
       (rest_of remaining b) h.kept k.took;
 }
@@ -353,3 +358,103 @@ no-feed held none k d h e = none k (omega arith) h (eq-eqb _ _ (get_or-any held 
 pub none-behind : (old new more : List ℕ) → new ≡ old ++ more → length more ≡ 0 → All (λ b. b ≢ 10) old → All (λ b. b ≢ 10) new
 none-behind old new [] h e none = subst (λ z. All (λ b. b ≢ 10) z) (sym (h ∙ append-nil old)) none
 none-behind old new (x ∷ xs) h e none = absurd (omega arith)
+
+-- a fact of a line that is too long, where one is told
+pub if-long : (c : LineCause) {P : Type 0} → P → IfLong c P
+if-long cause.Long p = p
+if-long cause.Lines p = tt
+if-long cause.OutOfMemory p = tt
+if-long (cause.Input x) p = tt
+
+pub if-long-weaker : (c : LineCause) {P Q : Type 0} → (P → Q) → IfLong c P → IfLong c Q
+if-long-weaker cause.Long f p = f p
+if-long-weaker cause.Lines f p = tt
+if-long-weaker cause.OutOfMemory f p = tt
+if-long-weaker (cause.Input x) f p = tt
+
+-- the next line has so many bytes, and they are too many
+pub long-next : {R Z : Type 0} (remaining : R → Option (List ℕ)) (a : LineReader R Z) (count n : ℕ) → EndsLine remaining a count →
+    a.longest < count → n ≡ one_line_more a.lines → MeetsLong remaining a [] n
+long-next remaining a count n h long named = record {
+  line = take count (held_of a.block);
+  rest = behind_line (rest_of remaining a);
+  named = named;
+  took = known (rest_of remaining a) some h.line;
+  long = (let l = length-take-le count (held_of a.block) h.within in omega (arith, l, long));
+}
+  where
+    some : IfSome (rest_of remaining a) (λ bytes. 0 < length bytes)
+    some = held-some (held_of a.block) (remaining a.input) (let w = h.within in let s = h.some in omega (arith, w, s))
+
+    known : (o : Option (List ℕ)) → IfSome o (λ bytes. 0 < length bytes) →
+        IfSome o (λ bytes. take_through 10 bytes ≡ take count (held_of a.block)) →
+        IfSome o (λ bytes. BeginsWith (take count (held_of a.block) ∷ []) bytes (behind_line o))
+    known None s l = tt
+    known (Some bytes) s l = (s, sym l, refl)
+
+-- no line feed stands in the bytes that are held, and they are too many
+pub long-held : {R Z : Type 0} (remaining : R → Option (List ℕ)) (a : LineReader R Z) (n : ℕ) →
+    Nowhere (Passes (is_byte 10) (held_of a.block)) 0 (length (held_of a.block)) → a.longest < length (held_of a.block) →
+    n ≡ one_line_more a.lines → MeetsLong remaining a [] n
+long-held remaining a n none long named = record {
+  line = front (remaining a.input);
+  rest = behind_line (rest_of remaining a);
+  named = named;
+  took = known (remaining a.input);
+  long = longer (remaining a.input);
+}
+  where
+    held : List ℕ
+    held = held_of a.block
+
+    front : Option (List ℕ) → List ℕ
+    front None = held
+    front (Some more) = take_through 10 (held ++ more)
+
+    known : (o : Option (List ℕ)) → IfSome (prepend_known held o) (λ bytes. BeginsWith (front o ∷ []) bytes (behind_line (prepend_known held o)))
+    known None = tt
+    known (Some more) = let l = length-append held more in (omega (arith, l, long), refl, refl)
+
+    longer : (o : Option (List ℕ)) → a.longest < length (front o)
+    longer None = long
+    longer (Some more) =
+        let l = line-longer held more (λ j m e. none j (omega arith) m (eq-eqb _ _ e)) in
+        omega (arith, l, long)
+
+-- the same of a reader that has read more bytes
+pub keeps-long : {R Z : Type 0} (remaining : R → Option (List ℕ)) (a b : LineReader R Z) (n : ℕ) → KeepsRest remaining a b →
+    MeetsLong remaining b [] n → MeetsLong remaining a [] n
+keeps-long remaining a b n h k = record {
+  line = k.line;
+  rest = k.rest;
+  named = k.named ∙ ap one_line_more h.counted;
+  took = same-then (λ bytes. BeginsWith (k.line ∷ []) bytes k.rest) (rest_of remaining a) (rest_of remaining b) h.kept k.took;
+  long = (let l = h.longest in let m = k.long in omega (arith, l, m));
+}
+
+-- a reader that has read more bytes
+pub keeps-more : {R Z : Type 0} (remaining : R → Option (List ℕ)) (a b : LineReader R Z) (more : List ℕ) → b.lines ≡ a.lines →
+    b.longest ≡ a.longest → held_of b.block ≡ held_of a.block ++ more → Consumes (remaining a.input) (remaining b.input) more →
+    KeepsRest remaining a b
+keeps-more remaining a b more counted longest held took = record {
+  counted = counted;
+  longest = longest;
+  kept = rw held (known (remaining a.input) (remaining b.input) took);
+}
+  where
+    known : (o p : Option (List ℕ)) → Consumes o p more →
+        IfSome (prepend_known (held_of a.block) o) (λ bytes. prepend_known (held_of a.block ++ more) p ≡ Some bytes)
+    known None p h = tt
+    known (Some xs) None h = absurd h
+    known (Some xs) (Some ys) h = ap Some (append_assoc (held_of a.block) more ys ∙ ap (λ z. held_of a.block ++ z) (sym h))
+
+-- and behind lines that were read
+pub long-behind : {R Z : Type 0} (remaining : R → Option (List ℕ)) (a b : LineReader R Z) (is : List (List ℕ)) (n : ℕ) →
+    TakesLines remaining a b is → MeetsLong remaining b [] n → MeetsLong remaining a is n
+long-behind remaining a b is n h k = record {
+  line = k.line;
+  rest = k.rest;
+  named = k.named ∙ ap one_line_more h.counted ∙ sym (number-append a.lines is (k.line ∷ []));
+  took = known-append is (k.line ∷ []) _ _ k.rest h.took k.took;
+  long = (let l = h.longest in let m = k.long in omega (arith, l, m));
+}

@@ -6,6 +6,8 @@ use Rattle.std.specs.Io.KnownBytes.{prepend_known}
 use Rattle.amd_lines.specs.Words.{words}
 use Rattle.amd_lines.specs.Blocks.{held_of, passed_of}
 use Rattle.amd_lines.specs.declared.lines.LineReader.{LineReader}
+use Rattle.amd_lines.specs.declared.errors.LineCause.{LineCause}
+use Rattle.amd_lines.specs.declared.errors.LineCause.TheVariants as cause
 
 -- the byte '%', with which notes begin in matrix files
 abbrev pub percent : Option ℕ
@@ -84,12 +86,14 @@ pub record KeepsRest {R Z : Type 0} (remaining : R → Option (List ℕ)) (old n
 pub record TakesLine {R Z : Type 0} (remaining : R → Option (List ℕ)) (old new : LineReader R Z) (some : Bool) : Type 0
   where
     pub counted : new.lines ≡ (if some then one_line_more old.lines else old.lines)
+    pub longest : new.longest ≡ old.longest
     pub took : IfSome (rest_of remaining old) (λ bytes. TookLine bytes (line_of new) (rest_of remaining new) some)
 
 -- these lines were read and counted
 pub record TakesLines {R Z : Type 0} (remaining : R → Option (List ℕ)) (old new : LineReader R Z)
     (ls : List (List ℕ)) : Type 0 where
   pub counted : new.lines ≡ line_number old.lines ls
+  pub longest : new.longest ≡ old.longest
   pub took : IfSome (rest_of remaining old) (λ bytes. BeginsWith ls bytes (rest_of remaining new))
 
 -- lines were read, of which the last alone says something
@@ -121,3 +125,17 @@ pub record FailsAt {R Z : Type 0} (remaining : R → Option (List ℕ)) (old : L
   pub rest : Option (List ℕ)
   pub named : number ≡ line_number old.lines lines
   pub took : IfSome (rest_of remaining old) (λ bytes. BeginsWith lines bytes rest)
+
+-- these lines were read, and the next one, of this number, has more bytes than a line may have
+pub record MeetsLong {R Z : Type 0} (remaining : R → Option (List ℕ)) (old : LineReader R Z) (before : List (List ℕ))
+    (number : ℕ) : Type 0 where
+  pub line : List ℕ
+  pub rest : Option (List ℕ)
+  pub named : number ≡ line_number old.lines (before ++ line ∷ [])
+  pub took : IfSome (rest_of remaining old) (λ bytes. BeginsWith (before ++ line ∷ []) bytes rest)
+  pub long : old.longest < length line
+
+-- what holds where a line is said to be too long
+abbrev pub IfLong : LineCause → Type 0 → Type 0
+IfLong cause.Long P = P
+IfLong c P = Unit {0}

@@ -2,13 +2,14 @@
 // bytes that was read in one go. Called by the readers of formats: `amd_cases`, `amd_market`, and through the second
 // the lists of rows of `amd_request`.
 
-ghost use Rattle.std.specs.Prelude.{◌≡◌, ◌≢◌, ◌≤◌, ◌<◌, All, IfOk, IfErr, IfSome, IsTrue, length, take, true};
+ghost use Rattle.std.specs.Prelude.{◌≡◌, ◌≢◌, ◌≤◌, ◌<◌, [], ℕ, List, All, IfOk, IfErr, IfSome, IsTrue, length, take, true};
 ghost use Rattle.std.specs.Io.KnownBytes.{IsAtEnd};
 ghost use Rattle.memchr.specs.Find.{IsFirstByte, is_byte};
 ghost use Rattle.amd_lines.specs.Words.{words};
 ghost use Rattle.amd_lines.specs.Blocks.{held_of};
 ghost use Rattle.amd_lines.specs.Lines.{TakesLine, TakesNext, FailsAt, EndsLine, HasNoFeed, is_note};
 ghost use Rattle.amd_lines.specs.Lines.{one_line_more, lines_read, line_of, rest_of, longest_of};
+ghost use Rattle.amd_lines.specs.Lines.{MeetsLong, IfLong, telling};
 
 use crate::blocks::Block;
 use crate::errors::{LineCause, LineError};
@@ -82,7 +83,8 @@ impl<R: Read + Drop, A: Allocator> LineReader<R, A> {
 
     /// An error behind the line that was read last.
     fn at_line(&self, cause: LineCause) -> LineError
-        ensures { result.line ≡ lines_read self.now }
+        ensures named { result.line ≡ lines_read self.now }
+        ensures cause { result.cause ≡ cause }
     {
         LineError {
             line: self.lines,
@@ -92,7 +94,8 @@ impl<R: Read + Drop, A: Allocator> LineReader<R, A> {
 
     /// The error of a read that failed behind the line that was read last.
     fn at_input(&self, error: io::Error) -> LineError
-        ensures { result.line ≡ lines_read self.now }
+        ensures named { result.line ≡ lines_read self.now }
+        ensures cause { IfLong result.cause ⊥ }
     {
         if error.kind() == ErrorKind::OutOfMemory {
             self.at_line(LineCause::OutOfMemory)
@@ -122,6 +125,7 @@ impl<R: Read + Drop, A: Allocator> LineReader<R, A> {
         ensures short { IfOk result (λ some. length (line_of self.new) ≤ longest_of self.old) }
         ensures fails { IfErr result (λ e. FailsAt R.remaining self.old e.line) }
         ensures counted { IfErr result (λ e. e.line ≡ lines_read self.new) }
+        ensures long { IfErr result (λ e. IfLong e.cause (MeetsLong R.remaining self.old [] e.line)) }
         ensures longest { longest_of self.new ≡ longest_of self.old }
     {
         if count > self.longest {
@@ -140,6 +144,7 @@ impl<R: Read + Drop, A: Allocator> LineReader<R, A> {
         ensures short { IfOk result (λ some. IsTrue some → length (line_of self.new) ≤ longest_of self.old) }
         ensures fails { IfErr result (λ e. FailsAt R.remaining self.old e.line) }
         ensures counted { IfErr result (λ e. e.line ≡ lines_read self.new) }
+        ensures long { IfErr result (λ e. IfLong e.cause (MeetsLong R.remaining self.old [] e.line)) }
         ensures longest { longest_of self.new ≡ longest_of self.old }
     {
         let count = self.block.held().len();
@@ -182,6 +187,7 @@ impl<R: Read + Drop, A: Allocator> LineReader<R, A> {
         ensures short { IfOk result (λ some. IsTrue some → length (line_of self.new) ≤ longest_of self.old) }
         ensures fails { IfErr result (λ e. FailsAt R.remaining self.old e.line) }
         ensures counted { IfErr result (λ e. e.line ≡ lines_read self.new) }
+        ensures long { IfErr result (λ e. IfLong e.cause (MeetsLong R.remaining self.old [] e.line)) }
         ensures longest { longest_of self.new ≡ longest_of self.old }
     {
         let mut seen = 0;
@@ -212,6 +218,8 @@ impl<R: Read + Drop, A: Allocator> LineReader<R, A> {
     pub fn take_telling(&mut self, mark: Option<u8>) -> Result<bool, LineError>
         ensures takes { IfOk result (TakesNext mark R.remaining self.old self.new) }
         ensures fails { IfErr result (λ e. FailsAt R.remaining self.old e.line) }
+        ensures long { IfErr result (λ e. IfLong e.cause ((before : List (List ℕ)) ×
+            (telling mark before ≡ []) × MeetsLong R.remaining self.old before e.line)) }
         ensures counted { IfErr result (λ e. e.line ≡ lines_read self.new) }
     {
         'lines: for _ in 0..u64::MAX {
