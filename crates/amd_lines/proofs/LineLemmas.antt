@@ -411,7 +411,8 @@ long-held remaining a n none long named = record {
     front None = held
     front (Some more) = take_through 10 (held ++ more)
 
-    known : (o : Option (List ℕ)) → IfSome (prepend_known held o) (λ bytes. BeginsWith (front o ∷ []) bytes (behind_line (prepend_known held o)))
+    known : (o : Option (List ℕ)) →
+        IfSome (prepend_known held o) (λ bytes. BeginsWith (front o ∷ []) bytes (behind_line (prepend_known held o)))
     known None = tt
     known (Some more) = let l = length-append held more in (omega (arith, l, long), refl, refl)
 

@@ -23,7 +23,7 @@ kept-append (b ∷ bs) cs [] qs h = absurd (omega arith)
 kept-append (true ∷ bs) cs (p ∷ ps) qs h = ap (λ z. p ∷ z) (kept-append bs cs ps qs (omega arith))
 kept-append (false ∷ bs) cs (p ∷ ps) qs h = kept-append bs cs ps qs (omega arith)
 
-spells-append : (field : Field) (ls ms : List (List ℕ)) (bs cs : List Bool) → SpellsValues field ls bs → SpellsValues field ms cs →
+pub spells-append : (field : Field) (ls ms : List (List ℕ)) (bs cs : List Bool) → SpellsValues field ls bs → SpellsValues field ms cs →
     SpellsValues field (ls ++ ms) (bs ++ cs)
 spells-append field [] ms [] cs h k = k
 spells-append field [] ms (b ∷ bs) cs h k = elim h [ ]

@@ -1,7 +1,7 @@
 -- The numbers on the lines of a Harwell-Boeing file, and the entries that they stand for.
 use Rattle.std.proofs.Common.{◌≡◌, ◌+◌, ◌-◌, ◌<◌, ◌≤◌, ℕ, zero, suc, List, [], ◌∷◌, ◌++◌, length, take, drop, get_or}
 use Rattle.std.proofs.Common.{length-append, append-nil, append_assoc, refl, sym, ap, ◌∙◌, subst, arith}
-use Rattle.std.specs.Prelude.{◌==◌, ◌||◌, Bool, true, false, flat_map, All, slice_range, min, Option, Some, None, IfSome}
+use Rattle.std.specs.Prelude.{◌==◌, ◌||◌, Bool, true, false, flat_map, All, slice_range, min, Option, Some, None, IfSome, MatchOption}
 use Rattle.std.specs.Char.{to_ascii_lowercase}
 use Rattle.std.proofs.lemmas.Bool.{eqb-true}
 use Rattle.amd_lines.specs.Words.{words}
@@ -9,13 +9,14 @@ use Rattle.std.proofs.lemmas.Grind.{flat_map-append}
 use Rattle.std.proofs.lemmas.List.Elements.{All-append, All-take, All-drop, All-map, All-cons, All-weaker}
 use Rattle.amd_market.specs.Headers.{pairs_of}
 use Rattle.amd_market.specs.Boeing.{is_whole_letter, SpellsCounts, SpellsField, SpellsFields, SpellsTable, ArePointers}
+use Rattle.amd_market.specs.Boeing.{FillsLines, behind_fields}
 use Rattle.amd_market.specs.Boeing.{listed_entries, column_entries}
 use Rattle.amd_market.proofs.EntryLemmas.{Inside, entries-inside}
 use Rattle.amd_market.specs.declared.headers.Symmetry.{Symmetry}
-use Rattle.amd_lines.specs.Lines.{TakesLines, line_of}
-use Rattle.amd_market.specs.Faults.{IsOfList, IsToldBehind, last, reading, in_boeing}
-use Rattle.amd_market.specs.declared.faults.ReadFault.{ReadFault}
-use Rattle.amd_market.specs.declared.faults.ReadFault.TheVariants as fault
+use Rattle.std.specs.Io.BufRead.{take_through}
+use Rattle.amd_lines.specs.Lines.{TakesLine, TakesLines, TookLine, line_of, rest_of}
+use Rattle.amd_lines.proofs.LineLemmas.{takes-one}
+use Rattle.amd_market.specs.Stops.{LacksCounts}
 use Rattle.amd_lines.specs.declared.lines.LineReader.{LineReader}
 
 -- a front or a back of a list whose length may be less
@@ -147,24 +148,47 @@ pub boeing-inside : (n : ℕ) (s : Symmetry) (ps rows : List ℕ) → All (λ i.
 boeing-inside n s ps rows h = entries-inside n s (listed_entries ps rows n) (listed-inside n ps rows n h (omega arith))
 
 -- what the second line spells, where it spells anything
-pub sides-line : {R Z : Type 0} (remaining : R → Option (List ℕ)) (a b : LineReader R Z) (o : Option ℕ) →
-    TakesLines remaining a b (line_of b ∷ []) → IfSome o (SpellsCounts (words (line_of b))) →
-    IfSome o (λ sides. (line : List ℕ) × TakesLines remaining a b (line ∷ []) × SpellsCounts (words line) sides)
-sides-line remaining a b None h k = tt
-sides-line remaining a b (Some sides) h k = (line_of b, h, k)
+pub sides-line : {R Z : Type 0} (remaining : R → Option (List ℕ)) (a b : LineReader R Z) (o : Option ℕ) → TakesLine remaining a b true →
+    MatchOption o ((k : ℕ) → SpellsCounts (words (line_of b)) k → ⊥) (SpellsCounts (words (line_of b))) →
+    MatchOption o (LacksCounts (rest_of remaining a)) (λ sides. (line : List ℕ) × TakesLines remaining a b (line ∷ []) ×
+    SpellsCounts (words line) sides)
+sides-line remaining a b None h none = known (rest_of remaining a) h.took
+  where
+    known : (o : Option (List ℕ)) → IfSome o (λ bytes. TookLine bytes (line_of b) (rest_of remaining b) true) → LacksCounts o
+    known None k = tt
+    known (Some bytes) k = λ sides spells. none sides (subst (λ z. SpellsCounts (words z) sides) (sym k.1) spells)
+sides-line remaining a b (Some sides) h spells = (line_of b, takes-one remaining a b h, spells)
 
--- a fault of the numbers of a line
-pub list-behind : (f : ReadFault) (line : List ℕ) (rest : Option (List ℕ)) → IsOfList f → IsToldBehind f (line ∷ []) rest
-list-behind fault.OutOfMemory line rest h = reading tt
-list-behind fault.Kind line rest h = last [] line refl (in_boeing tt)
-list-behind fault.Elemental line rest h = last [] line refl (in_boeing tt)
-list-behind (fault.NotSquare r k) line rest h = last [] line refl (in_boeing tt)
-list-behind fault.Layout line rest h = last [] line refl (in_boeing tt)
-list-behind fault.Number line rest h = last [] line refl (in_boeing tt)
-list-behind (fault.Row n r) line rest h = last [] line refl (in_boeing tt)
-list-behind (fault.Pointer n r) line rest h = last [] line refl (in_boeing tt)
-list-behind fault.Pointers line rest h = last [] line refl (in_boeing tt)
-list-behind f line rest h = absurd h
+-- no line is left
+pub sides-end : {R Z : Type 0} (remaining : R → Option (List ℕ)) (a b : LineReader R Z) → TakesLine remaining a b false →
+    LacksCounts (rest_of remaining a)
+sides-end remaining a b h = known (rest_of remaining a) h.took
+  where
+    no-words : (sides : ℕ) → SpellsCounts [] sides → ⊥
+    no-words sides k = let e = k.parts in cc
+
+    known : (o : Option (List ℕ)) → IfSome o (λ bytes. TookLine bytes (line_of b) (rest_of remaining b) false) → LacksCounts o
+    known None k = tt
+    known (Some bytes) k = λ sides spells. no-words sides (subst (λ z. SpellsCounts (words (take_through 10 z)) sides) k.0 spells)
+
+-- numbers that fill lines, and those of one line more
+pub fills-more : (per_line width bound : ℕ) (ls : List (List ℕ)) (ks : List ℕ) (line : List ℕ) (more : List ℕ) →
+    FillsLines per_line width bound ls ks → length more ≡ per_line → SpellsFields width bound line more →
+    FillsLines per_line width bound (ls ++ line ∷ []) (ks ++ more)
+fills-more per_line width bound [] ks line more h size fields =
+    subst (λ z. FillsLines per_line width bound (line ∷ []) (z ++ more)) (sym h)
+    (more, [], sym (append-nil more), size, fields, refl)
+fills-more per_line width bound (l ∷ ls) ks line more h size fields =
+    let here = h.0 in
+    let behind = h.1 in
+    let rest = fills-more per_line width bound ls behind line more h.5 size fields in
+    (here, behind ++ more, ap (λ z. z ++ more) h.2 ∙ append_assoc here behind more, h.3, h.4, rest)
+
+-- what stands behind the fields of one number more
+pub behind-more : (width : ℕ) (text ks : List ℕ) (k : ℕ) →
+    behind_fields width text (ks ++ k ∷ []) ≡ drop width (behind_fields width text ks)
+behind-more width text [] k = refl
+behind-more width text (j ∷ ks) k = behind-more width (drop width text) ks k
 
 -- no number was read
 pub table-none : (per_line width bound count : ℕ) (numbers js : List ℕ) (ns : List (List ℕ)) → numbers ≡ [] →
@@ -182,15 +206,3 @@ listed-more s ps rows own old new j so_far are more =
     more ∙ ap (λ z. z ++ flat_map (pairs_of s) (column_entries own j)) so_far ∙
     ap (λ z. flat_map (pairs_of s) (listed_entries ps rows j) ++ flat_map (pairs_of s) (column_entries z j)) are ∙
     sym (flat_map-append (pairs_of s) (listed_entries ps rows j) (column_entries part j))
-
--- a list that has an element has a last one
-last-of : (l : List ℕ) (ls : List (List ℕ)) → (before : List (List ℕ)) × (line : List ℕ) × (l ∷ ls ≡ before ++ line ∷ [])
-last-of l [] = ([], l, refl)
-last-of l (m ∷ ls) = let rest = last-of m ls in (l ∷ rest.0, rest.1, ap (λ z. l ∷ z) rest.2)
-
--- pointers that do not rise are told at the last of their lines
-pub pointers-behind : (per_line width bound count : ℕ) (ls : List (List ℕ)) (ks : List ℕ) (rest : Option (List ℕ)) → 0 < count →
-    SpellsTable per_line width bound count ls ks → IsToldBehind fault.Pointers ls rest
-pointers-behind per_line width bound count [] ks rest some h = let none = h.0 in absurd (omega (arith, none))
-pointers-behind per_line width bound count (l ∷ ls) ks rest some h =
-    let at = last-of l ls in last at.0 at.1 at.2 (in_boeing tt)

@@ -1,5 +1,5 @@
 -- The parts of a file, read one after another.
-use Rattle.std.proofs.Common.{◌≡◌, ◌+◌, ℕ, true, false, Option, Some, None, List, [], ◌∷◌, ◌++◌, length, length-append}
+use Rattle.std.proofs.Common.{◌≡◌, ◌+◌, ◌<◌, ℕ, true, false, Option, Some, None, List, [], ◌∷◌, ◌++◌, length, length-append}
 use Rattle.std.proofs.Common.{refl, sym, ap, ◌∙◌, subst}
 use Rattle.std.proofs.Common.{append-nil}
 use Rattle.std.specs.Prelude.{IfSome, flat_map, All}
@@ -10,18 +10,20 @@ use Rattle.amd_market.specs.Headers.{is_array}
 use Rattle.amd_market.specs.Arrays.{SpellsShape, SpellsArray}
 use Rattle.amd_market.specs.Boeing.{SpellsBoeing}
 use Rattle.amd_market.specs.Faults.{HasHeaderFault}
-use Rattle.amd_lines.specs.Lines.{BeginsWith, line_number, TakesLines, TakesTelling, TakesNotes, FailsAt, telling, rest_of, percent}
+use Rattle.amd_lines.specs.Lines.{BeginsWith, TakesLines, TakesTelling, TakesNotes, telling, rest_of, percent}
 use Rattle.amd_lines.proofs.LineLemmas.{end-append, takes-append, takes-none, telling-both}
-use Rattle.amd_market.specs.Faults.{named_line, reading, IsTold, IsOfReading}
+use Rattle.amd_market.specs.Faults.{IsTold, IsOfMachine}
+use Rattle.amd_market.specs.Stops.{Stop, EntryStops, EntriesStop}
 use Rattle.amd_market.specs.Columns.{HoldsOnce}
-use Rattle.amd_market.specs.Files.{TakesEntries, TakesBody, SpellsBody, SpellsFile, market, boeing, NamesLine, FailsFor}
+use Rattle.amd_market.specs.Files.{TakesEntries, TakesBody, SpellsBody, SpellsFile, market, boeing, FailsFor}
 use Rattle.amd_market.proofs.EntryLemmas.{Inside, entries-more, all-inside}
 use Rattle.amd_market.specs.declared.headers.Format.{Format}
 use Rattle.amd_market.specs.declared.headers.Format.TheVariants.{Coordinate, Array}
 use Rattle.amd_market.specs.declared.headers.Header.{Header}
 use Rattle.amd_market.specs.declared.faults.ReadFault.TheVariants as fault
 use Rattle.amd_lines.specs.declared.lines.LineReader.{LineReader}
-use Rattle.amd_market.proofs.FaultLemmas.{for-behind, for-telling}
+use Rattle.amd_market.proofs.FaultLemmas.{for-behind, for-machine}
+use Rattle.amd_market.proofs.StopLemmas.{entry-behind}
 use Rattle.amd_market.specs.declared.faults.ReadFault.{ReadFault}
 use Rattle.amd_market.specs.declared.faults.ReadError.{ReadError}
 
@@ -61,14 +63,19 @@ entries-next remaining a b c header n k ps qs line e h t one more = record {
 module _ {R Z : Type 0} {remaining : R → Option (List ℕ)} {a b : LineReader R Z} {header : Header} {n k : ℕ} {ps : List (ℕ × ℕ)}
     (read : TakesEntries remaining a b header n k ps) where
   -- an error behind the entries
-  pub entries-behind : {e : ReadError} → FailsFor remaining b e → FailsFor remaining a e
-  entries-behind {e} fails = for-behind remaining a b read.lines e read.takes fails
+  pub entries-behind : {told : ℕ} {e : ReadError} → k < told → FailsFor (EntryStops header.field n k told []) remaining b e →
+      FailsFor (EntriesStop header.field n told []) remaining a e
+  entries-behind {told} {e} few fails =
+      for-behind remaining a b read.lines e read.takes (λ s h. entry-behind remaining a b header n k told ps read s few h) fails
 
   module _ {c : LineReader R Z} {entry : ℕ × ℕ}
       (next : (line : List ℕ) × TakesTelling percent remaining b c line × SpellsEntry header.field n line entry) where
-    -- a fault of reading behind one entry more
-    pub entries-stopped : {e : ReadError} {f : ReadFault} → IsTold c.lines f e → IsOfReading f → FailsFor remaining a e
-    entries-stopped {e} {f} told is = entries-behind (for-telling remaining b c next.0 e f next.1 told (reading is))
+    -- a fault that no text has behind one entry more
+    pub entries-stopped : {P : Stop → Type 0} {e : ReadError} {f : ReadFault} → IsTold c.lines f e → IsOfMachine f →
+        FailsFor P remaining a e
+    entries-stopped {e = e} {f = f} told is =
+        for-machine remaining a c (read.lines ++ next.1.lines) e f
+        (takes-append remaining a b c read.lines next.1.lines read.takes next.1.takes) told is
 
     pub entries-and : {qs : List (ℕ × ℕ)} → qs ≡ ps ++ pairs_of header.symmetry entry → TakesEntries remaining a c header n (k + 1) qs
     entries-and {qs} more = entries-next remaining a b c header n k ps qs next.0 entry read next.1 next.2 more
@@ -153,14 +160,3 @@ boeing-whole remaining a b c input line ls n ap' ai repeats same first none behi
         IfSome first' (λ bytes. SpellsFile bytes n ap' ai repeats)
     known None last w = tt
     known (Some bytes) last w = boeing line ls last none w spells
-
--- an error of a reader that began at the start of a text
-pub names-line : {R Z : Type 0} (remaining : R → Option (List ℕ)) (a : LineReader R Z) (input : R) (e : ReadError) → rest_of remaining a
-    ≡ remaining input →
-    a.lines ≡ 0
-    → FailsAt remaining a (named_line e) → IfSome (remaining input) (λ bytes. NamesLine bytes e)
-names-line remaining a input e same none h = rw (← same) (known (rest_of remaining a) h.took)
-  where
-    known : (first : Option (List ℕ)) → IfSome first (λ bytes. BeginsWith h.lines bytes h.rest) → IfSome first (λ bytes. NamesLine bytes e)
-    known None k = tt
-    known (Some bytes) k = record { lines = h.lines; rest = h.rest; named = h.named ∙ ap (λ n. line_number n h.lines) none; begins = k }

@@ -1,7 +1,9 @@
 pub mod EntryLemmas
 pub mod ArrayLemmas
 pub mod BoeingLemmas
+pub mod CardLemmas
 pub mod FaultLemmas
+pub mod StopLemmas
 pub mod FileLemmas
 pub mod ColumnLemmas
 pub mod KeyLemmas

@@ -29,6 +29,8 @@ pub record SpellsFormat (word : List ℕ) (per_line width : ℕ) : Type 0 where
   pub is_whole : to_ascii_lowercase letter ≡ 105
   pub repeated : SpellsRepeat front per_line
   pub wide : SpellsNumber back (pos width)
+  pub some : 0 < per_line
+  pub room : 0 < width
 
 -- the field has one word, the number of one of so many things, of which the first is 1
 abbrev pub SpellsField : List ℕ → ℕ → ℕ → Type 0
@@ -38,6 +40,17 @@ SpellsField field bound k = (w : List ℕ) × ((words field ≡ w ∷ []) × Spe
 abbrev pub SpellsFields : ℕ → ℕ → List ℕ → List ℕ → Type 0
 SpellsFields width bound text [] = Unit {0}
 SpellsFields width bound text (k ∷ ks) = SpellsField (take width text) bound k × SpellsFields width bound (drop width text) ks
+
+-- what stands behind the fields of some numbers
+abbrev pub behind_fields : ℕ → List ℕ → List ℕ → List ℕ
+behind_fields width text [] = text
+behind_fields width text (k ∷ ks) = behind_fields width (drop width text) ks
+
+-- the numbers stand on the lines, and each line has as many as it may
+abbrev pub FillsLines : ℕ → ℕ → ℕ → List (List ℕ) → List ℕ → Type 0
+FillsLines per_line width bound [] ks = ks ≡ []
+FillsLines per_line width bound (l ∷ ls) ks = (here : List ℕ) × (behind : List ℕ) × (ks ≡ here ++ behind) ×
+    (length here ≡ per_line) × SpellsFields width bound l here × FillsLines per_line width bound ls behind
 
 -- so many numbers stand on the lines: each line has as many as it may, and the last one the rest
 abbrev pub SpellsTable : ℕ → ℕ → ℕ → ℕ → List (List ℕ) → List ℕ → Type 0
@@ -52,6 +65,14 @@ SpellsSides [] sides = sides ≡ 0
 SpellsSides (w ∷ []) sides = SpellsNumber w (pos sides)
 SpellsSides (w ∷ v ∷ ws) sides = ⊥
 
+-- the word is the number of some things
+abbrev pub IsCount : List ℕ → Type 0
+IsCount word = (k : ℕ) × SpellsNumber word (pos k)
+
+-- there is no word, or the first one is no such number
+abbrev pub BeginsWithNoCount : List (List ℕ) → Type 0
+BeginsWithNoCount ws = (w : List ℕ) → (others : List (List ℕ)) → ws ≡ w ∷ others → IsCount w → ⊥
+
 -- the words are four numbers of lines, and maybe a fifth, that of right-hand sides
 pub record SpellsCounts (ws : List (List ℕ)) (sides : ℕ) : Type 0 where
   pub first : List ℕ
@@ -60,6 +81,10 @@ pub record SpellsCounts (ws : List (List ℕ)) (sides : ℕ) : Type 0 where
   pub fourth : List ℕ
   pub behind : List (List ℕ)
   pub parts : ws ≡ first ∷ (second ∷ (third ∷ (fourth ∷ behind)))
+  pub has_first : IsCount first
+  pub has_second : IsCount second
+  pub has_third : IsCount third
+  pub has_fourth : IsCount fourth
   pub has_sides : SpellsSides behind sides
 
 -- 'r', 'c', 'p', 'i' and 'q'
@@ -91,12 +116,12 @@ pub record SpellsSizes (ws : List (List ℕ)) (rows columns entries : ℕ) : Typ
   pub has_entries : SpellsNumber third (pos entries)
 
 -- the third line is a type, and the numbers of rows, of columns and of entries
-pub record SpellsKind (line : List ℕ) (s : Symmetry) (n entries : ℕ) : Type 0 where
+pub record SpellsKind (line : List ℕ) (s : Symmetry) (rows columns entries : ℕ) : Type 0 where
   pub word : List ℕ
   pub behind : List (List ℕ)
   pub parts : words line ≡ word ∷ behind
   pub has_type : SpellsType word s
-  pub has_sizes : SpellsSizes behind n n entries
+  pub has_sizes : SpellsSizes behind rows columns entries
 
 -- the fourth line begins with the formats of pointers and of rows
 pub record SpellsLayout (line : List ℕ) (l : Layout) : Type 0 where
@@ -132,7 +157,7 @@ pub record SpellsHead (lines : List (List ℕ)) (k : Kind) (l : Layout) : Type 0
   pub parts : lines ≡ (counts ∷ []) ++ ((third ∷ []) ++ ((fourth ∷ []) ++ more))
   pub sides : ℕ
   pub has_counts : SpellsCounts (words counts) sides
-  pub has_kind : SpellsKind third k.symmetry k.n k.entries
+  pub has_kind : SpellsKind third k.symmetry k.n k.n k.entries
   pub has_layout : SpellsLayout fourth l
   pub has_more : length more ≡ cond (sides == 0) 0 1
 

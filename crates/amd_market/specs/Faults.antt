@@ -1,17 +1,18 @@
 -- Which fault a line has.
-use Rattle.std.specs.Prelude.{◌≡◌, ◌≢◌, ◌<◌, ◌+◌, ℕ, ℤ, true, false, List, [], ◌∷◌, ◌++◌, Option, Some, None}
-use Rattle.std.specs.Prelude.{length, drop, map, codes, slice_index}
-use Rattle.std.specs.List.{list_all}
+use Rattle.std.specs.Prelude.{◌≡◌, ◌≢◌, ◌<◌, ℕ, ℤ, true, List, [], ◌∷◌, Option, None}
+use Rattle.std.specs.Prelude.{length, take, map, codes, slice_index}
 use Rattle.std.specs.Char.{to_ascii_lowercase}
-use Rattle.std.specs.Float.Parse.{is_float_text}
 use Rattle.amd_lines.specs.Words.{words, BeginsWithByte, SpellsNumber}
 use Rattle.amd_market.specs.Headers.{value_words, SpellsHeader, lowered, without_mark, format_text, field_text, is_void}
-use Rattle.amd_market.specs.Arrays.{HasShapeFault}
-use Rattle.amd_market.specs.Entries.{SpellsSize, SpellsIndex}
-use Rattle.amd_lines.specs.Lines.{is_note, percent}
+use Rattle.amd_market.specs.Entries.{SpellsSize, SpellsIndex, AreValues}
+use Rattle.amd_market.specs.Boeing.{SpellsType, SpellsKind, SpellsLayout, SpellsField, SpellsFields, behind_fields}
 use Rattle.amd_market.specs.declared.headers.Format.{Format}
 use Rattle.amd_market.specs.declared.headers.Field.{Field}
 use Rattle.amd_market.specs.declared.headers.Header.{Header}
+use Rattle.amd_market.specs.declared.headers.Symmetry.{Symmetry}
+use Rattle.amd_market.specs.declared.formats.Layout.{Layout}
+use Rattle.amd_market.specs.declared.fields.Listed.{Listed}
+use Rattle.amd_market.specs.declared.fields.Listed.TheVariants as listed
 use Rattle.amd_market.specs.declared.found.Found.{Found}
 use Rattle.amd_market.specs.declared.faults.ReadFault.{ReadFault}
 use Rattle.amd_market.specs.declared.faults.ReadFault.TheVariants as fault
@@ -45,21 +46,23 @@ HasValueFault fault.Words count ws = count < length ws
 HasValueFault fault.Value count ws = length ws ≡ count
 HasValueFault f count ws = ⊥
 
--- the fault of a line where an entry of a matrix with n rows and columns must stand: its first word is no row, its
--- second one no column, there are not two numbers, or the words behind them are no value of the field
-abbrev pub HasEntryFault : Field → ℕ → ReadFault → List ℕ → Type 0
-HasEntryFault field n (fault.Row number rows) line = (rows ≡ n) × ((first : List ℕ) × ((behind : List (List ℕ)) ×
-    ((words line ≡ first ∷ behind) × (SpellsNumber first number × ((i : ℕ) → SpellsIndex first n i → ⊥)))))
-HasEntryFault field n (fault.Column number columns) line = (columns ≡ n) × ((first : List ℕ) × ((second : List ℕ) ×
-    ((behind : List (List ℕ)) × ((words line ≡ first ∷ (second ∷ behind)) × (SpellsNumber second number ×
-    ((i : ℕ) → SpellsIndex second n i → ⊥))))))
-HasEntryFault field n fault.Entry line = (first second : List ℕ) → (behind : List (List ℕ)) → (a b : ℤ) →
-    words line ≡ first ∷ (second ∷ behind) → SpellsNumber first a → SpellsNumber second b → ⊥
-HasEntryFault field n fault.NoValue line = length (words line) < 2 + value_words field
-HasEntryFault field n fault.Words line = 2 + value_words field < length (words line)
-HasEntryFault field n fault.Value line = (length (words line) ≡ 2 + value_words field) ×
-    (list_all is_float_text (drop 2 (words line)) ≡ false)
-HasEntryFault field n f line = ⊥
+-- the fault of a line where an entry of a matrix with n rows and columns must stand: it has no two words; or its first
+-- word is no row; or this is one, and its second one is no column; or both are, and the words behind are no value
+pub data HasEntryFault (field : Field) (n : ℕ) (f : ReadFault) (line : List ℕ) : Type 0 where
+  too_few : f ≡ fault.Entry → length (words line) < 2 → HasEntryFault field n f line
+  no_row : (first second : List ℕ) → (behind : List (List ℕ)) → words line ≡ first ∷ (second ∷ behind) →
+      ((i : ℕ) → SpellsIndex first n i → ⊥) → HasRowFault f first n → HasEntryFault field n f line
+  no_column : (first second : List ℕ) → (behind : List (List ℕ)) → words line ≡ first ∷ (second ∷ behind) → (i : ℕ) →
+      SpellsIndex first n i → ((j : ℕ) → SpellsIndex second n j → ⊥) → HasColumnFault f second n →
+      HasEntryFault field n f line
+  no_value : (first second : List ℕ) → (behind : List (List ℕ)) → words line ≡ first ∷ (second ∷ behind) → (i j : ℕ) →
+      SpellsIndex first n i → SpellsIndex second n j → (AreValues (value_words field) behind → ⊥) →
+      HasValueFault f (value_words field) behind → HasEntryFault field n f line
+
+-- the fault of a line where a value of an array must stand: its words are no value
+abbrev pub HasCellFault : Field → ReadFault → List ℕ → Type 0
+HasCellFault field f line = (AreValues (value_words field) (words line) → ⊥) ×
+    HasValueFault f (value_words field) (words line)
 
 -- a word, but for the case of its letters
 abbrev pub low : List ℕ → List ℕ
@@ -71,16 +74,20 @@ HasKindFault fault.Field ws = (f : Field) → (vs : List (List ℕ)) → ws ≢ 
 HasKindFault fault.Symmetry ws = (f : Field) × ((vs : List (List ℕ)) × (ws ≡ low (field_text f) ∷ vs))
 HasKindFault f ws = ⊥
 
+-- the line begins as gzip writes
+abbrev pub IsGzip : List ℕ → Type 0
+IsGzip line = (slice_index line 0 ≡ 31) × (slice_index line 1 ≡ 139)
+
 -- a first line that lacks the banner: it begins as gzip writes, or not
 abbrev pub HasBannerFault : ReadFault → List ℕ → Type 0
-HasBannerFault fault.Gzip line = (slice_index line 0 ≡ 31) × (slice_index line 1 ≡ 139)
-HasBannerFault fault.Banner line = Unit {0}
+HasBannerFault fault.Gzip line = IsGzip line
+HasBannerFault fault.Banner line = IsGzip line → ⊥
 HasBannerFault f line = ⊥
 
 -- a first line that lacks the banner, in a file of no kind: its first word begins as a comment does, or not
 abbrev pub HasUnknownFault : ReadFault → List ℕ → Type 0
 HasUnknownFault fault.Comment line = BeginsWithByte 37 (words line)
-HasUnknownFault fault.Banner line = Unit {0}
+HasUnknownFault fault.Banner line = BeginsWithByte 37 (words line) → ⊥
 HasUnknownFault f line = ⊥
 
 -- the words of a first line, but for the case of their letters, and the two that it must begin with
@@ -99,10 +106,8 @@ BeginsHeader line ws = header_words line ≡ banner_word ∷ (object_word ∷ ws
 
 -- which word of a first line is wrong, where those before it are right
 abbrev pub HasWordFault : ReadFault → List ℕ → Type 0
-HasWordFault fault.Gzip line = (slice_index line 0 ≡ 31) × (slice_index line 1 ≡ 139)
-HasWordFault fault.Banner line = (vs : List (List ℕ)) → header_words line ≢ banner_word ∷ vs
-HasWordFault fault.Comment line = ((vs : List (List ℕ)) → header_words line ≢ banner_word ∷ vs) ×
-    BeginsWithByte 37 (words line)
+HasWordFault fault.Gzip line = IsGzip line
+HasWordFault fault.Banner line = (IsGzip line → ⊥) × ((vs : List (List ℕ)) → header_words line ≢ banner_word ∷ vs)
 HasWordFault fault.Object line = (ws : List (List ℕ)) × ((header_words line ≡ banner_word ∷ ws) ×
     ((vs : List (List ℕ)) → ws ≢ object_word ∷ vs))
 HasWordFault fault.Format line = (ws : List (List ℕ)) × (BeginsHeader line ws ×
@@ -117,60 +122,65 @@ HasWordFault f line = ⊥
 abbrev pub HasHeaderFault : ReadFault → List ℕ → Type 0
 HasHeaderFault f line = HasWordFault f line × ((h : Header) → SpellsHeader line h → ⊥)
 
--- the faults of a line that is read where none may stand but notes
-abbrev pub IsMore : ReadFault → Type 0
-IsMore (fault.More told) = Unit {0}
-IsMore fault.MorePlaces = Unit {0}
-IsMore f = ⊥
-
--- such a line: it says something
-abbrev pub HasMoreFault : ReadFault → List ℕ → Type 0
-HasMoreFault f line = IsMore f × (is_note percent (words line) ≡ false)
-
 -- the line is a header, but an array of this kind has no lines
 abbrev pub HasVoidFault : ReadFault → List ℕ → Type 0
 HasVoidFault fault.Void line = (h : Header) × (SpellsHeader line h × (is_void h ≡ true))
 HasVoidFault f line = ⊥
 
--- the faults of a line of a Harwell-Boeing file; of what is wrong with the line they say nothing here
-abbrev pub IsOfBoeing : ReadFault → Type 0
-IsOfBoeing fault.Kind = Unit {0}
-IsOfBoeing fault.Elemental = Unit {0}
-IsOfBoeing (fault.NotSquare rows columns) = Unit {0}
-IsOfBoeing fault.Layout = Unit {0}
-IsOfBoeing fault.Number = Unit {0}
-IsOfBoeing (fault.Row number rows) = Unit {0}
-IsOfBoeing (fault.Pointer number last) = Unit {0}
-IsOfBoeing fault.Pointers = Unit {0}
-IsOfBoeing f = ⊥
+-- the fault of a first line that is told at once: it is no header, but has the banner or begins as gzip writes; or it
+-- is a header of an array without values
+pub data HasFirstFault (f : ReadFault) (line : List ℕ) : Type 0 where
+  no_header : HasHeaderFault f line → f ≢ fault.Banner → HasFirstFault f line
+  void : HasVoidFault f line → HasFirstFault f line
 
--- the faults of adding the numbers of a line to a list: one of these, or memory was refused
-abbrev pub IsOfList : ReadFault → Type 0
-IsOfList fault.OutOfMemory = Unit {0}
-IsOfList f = IsOfBoeing f
+-- the word is three letters of which the last says that the matrix is not assembled
+abbrev pub IsElemental : List ℕ → Type 0
+IsElemental word = (value : ℕ) × ((shape : ℕ) × (low word ≡ value ∷ (shape ∷ (101 ∷ []))))
 
--- what is wrong with a line: it is no header, or one of an array without values, no size of a sparse matrix or of an
--- array, no entry for some field and number of rows, no value of some field, one too many, or one of a Harwell-Boeing
--- file
-pub data LineHas (f : ReadFault) (line : List ℕ) : Type 0 where
-  in_header : HasHeaderFault f line → LineHas f line
-  in_void : HasVoidFault f line → LineHas f line
-  in_size : HasSizeFault f line → LineHas f line
-  in_shape : HasShapeFault f line → LineHas f line
-  in_entry : (field : Field) → (n : ℕ) → HasEntryFault field n f line → LineHas f line
-  in_value : (field : Field) → HasValueFault f (value_words field) (words line) → LineHas f line
-  in_more : HasMoreFault f line → LineHas f line
-  in_boeing : IsOfBoeing f → LineHas f line
+-- the fault of a word where a type must stand
+abbrev pub HasTypeFault : ReadFault → List ℕ → Type 0
+HasTypeFault fault.Kind word = (s : Symmetry) → SpellsType word s → ⊥
+HasTypeFault fault.Elemental word = IsElemental word
+HasTypeFault f word = ⊥
 
--- the faults of an input that ends too early
-abbrev pub EndHas : ReadFault → Type 0
-EndHas fault.Empty = Unit {0}
-EndHas fault.Size = Unit {0}
-EndHas fault.Shape = Unit {0}
-EndHas (fault.Missing found told) = Unit {0}
-EndHas (fault.NoPlace row column) = Unit {0}
-EndHas fault.Short = Unit {0}
-EndHas f = ⊥
+-- the fault of the third line of a Harwell-Boeing file: it is no type with the numbers of rows, columns and entries
+-- behind it; or the matrix is not assembled; or there are not as many rows as columns
+abbrev pub HasCardFault : ReadFault → List ℕ → Type 0
+HasCardFault fault.Kind line = (s : Symmetry) → (r c e : ℕ) → SpellsKind line s r c e → ⊥
+HasCardFault fault.Elemental line = (word : List ℕ) × ((behind : List (List ℕ)) × ((words line ≡ word ∷ behind) ×
+    IsElemental word))
+HasCardFault (fault.NotSquare rows columns) line = (rows ≢ columns) × ((s : Symmetry) × ((e : ℕ) ×
+    SpellsKind line s rows columns e))
+HasCardFault f line = ⊥
+
+-- the fault of its fourth line: it does not begin with two formats of whole numbers
+abbrev pub HasLayoutFault : ReadFault → List ℕ → Type 0
+HasLayoutFault f line = (f ≡ fault.Layout) × ((l : Layout) → SpellsLayout line l → ⊥)
+
+-- the field has one word, and that is this number
+abbrev pub IsNumberField : List ℕ → ℤ → Type 0
+IsNumberField field z = (w : List ℕ) × ((words field ≡ w ∷ []) × SpellsNumber w z)
+
+-- the fault of a field where one of so many pointers or rows must stand: it is not one number, or that is out of range
+abbrev pub HasFieldFault : Listed → ℕ → ReadFault → List ℕ → Type 0
+HasFieldFault listed bound fault.Number field = (z : ℤ) → IsNumberField field z → ⊥
+HasFieldFault listed.Pointers bound (fault.Pointer number last) field = (last ≡ bound) × IsNumberField field number
+HasFieldFault listed.Rows bound (fault.Row number rows) field = (rows ≡ bound) × IsNumberField field number
+HasFieldFault listed bound f field = ⊥
+
+-- the fault of a line where so many pointers or rows must stand in fields: some stand there, and the next field has it
+pub record HasFieldsFault (listed : Listed) (width count bound : ℕ) (f : ReadFault) (line : List ℕ) : Type 0 where
+  pub numbers : List ℕ
+  pub few : length numbers < count
+  pub spells : SpellsFields width bound line numbers
+  pub none : (k : ℕ) → SpellsField (take width (behind_fields width line numbers)) bound k → ⊥
+  pub has : HasFieldFault listed bound f (take width (behind_fields width line numbers))
+
+-- the faults that no text has: memory was refused, or 64 bits do not count the lines
+abbrev pub IsOfMachine : ReadFault → Type 0
+IsOfMachine fault.Lines = Unit {0}
+IsOfMachine fault.OutOfMemory = Unit {0}
+IsOfMachine f = ⊥
 
 -- the faults that no text spells: there is no room for a line, for what was read, or for the count of lines
 abbrev pub IsOfReading : ReadFault → Type 0
@@ -178,14 +188,6 @@ IsOfReading fault.Long = Unit {0}
 IsOfReading fault.Lines = Unit {0}
 IsOfReading fault.OutOfMemory = Unit {0}
 IsOfReading f = ⊥
-
--- a fault that was told behind these lines: the last of them has it, or the text ends behind them, or it is one of
--- reading
-pub data IsToldBehind (f : ReadFault) (lines : List (List ℕ)) (rest : Option (List ℕ)) : Type 0 where
-  last : (before : List (List ℕ)) → (line : List ℕ) → lines ≡ before ++ line ∷ [] → LineHas f line →
-      IsToldBehind f lines rest
-  end : EndHas f → rest ≡ Some [] → IsToldBehind f lines rest
-  reading : IsOfReading f → IsToldBehind f lines rest
 
 -- the number of the line that an error names
 abbrev pub named_line : ReadError → ℕ
@@ -208,7 +210,7 @@ abbrev pub IsUnread : ReadError → Type 0
 IsUnread (Line n f found) = IsOfReading f
 IsUnread (Input n error) = Unit {0}
 
--- the same of an error; of an input that could not be read it says nothing
-abbrev pub Blames : ReadError → List (List ℕ) → Option (List ℕ) → Type 0
-Blames (Line n f found) lines rest = IsToldBehind f lines rest
-Blames (Input n error) lines rest = Unit {0}
+-- what holds where a line is told to be too long
+abbrev pub IfTooLong : ReadError → Type 0 → Type 0
+IfTooLong (Line n fault.Long found) P = P
+IfTooLong e P = Unit {0}

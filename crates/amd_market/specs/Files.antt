@@ -1,12 +1,12 @@
 -- The text of a file, and the matrix that it spells.
-use Rattle.std.specs.Prelude.{◌≡◌, ◌++◌, ℕ, Bool, Some, IfSome, List, [], ◌∷◌, length, flat_map, Option}
+use Rattle.std.specs.Prelude.{◌≡◌, ◌^◌, ◌++◌, ℕ, Bool, Some, IfSome, List, [], ◌∷◌, length, flat_map, Option}
 use Rattle.amd_market.specs.Headers.{SpellsHeader, pairs_of}
 use Rattle.amd_market.specs.Entries.{SpellsSize, SpellsEntries}
 use Rattle.amd_lines.specs.Lines.{BeginsWith, line_number, TakesLines, telling, rest_of, percent}
 use Rattle.amd_market.specs.Arrays.{SpellsShape, SpellsValues, SpellsArray, kept}
 use Rattle.amd_market.specs.Boeing.{SpellsBoeing}
-use Rattle.amd_market.specs.Faults.{named_line}
-use Rattle.amd_market.specs.Faults.{Blames, HasHeaderFault}
+use Rattle.amd_market.specs.Faults.{named_line, HasHeaderFault}
+use Rattle.amd_market.specs.Stops.{Stop, FileStops, Blames}
 use Rattle.amd_market.specs.Columns.{HoldsOnce}
 use Rattle.amd_market.specs.declared.headers.Format.{Format}
 use Rattle.amd_market.specs.declared.headers.Format.TheVariants.{Coordinate, Array}
@@ -79,28 +79,21 @@ pub data SpellsFile (bytes : List ℕ) (n : ℕ) (ap ai : List ℕ) (repeats : �
       HasHeaderFault fault.Banner title → BeginsWith (title ∷ lines) bytes rest →
       SpellsBoeing lines n ap ai repeats → SpellsFile bytes n ap ai repeats
 
--- the text begins with some lines, and the error names the last of them by its number, from 1 on; 0 where there are
--- none
-pub record NamesLine (bytes : List ℕ) (e : ReadError) : Type 0 where
+-- some lines were read, the error names the last of them, and the reading stopped there, as it says
+pub record FailsFor {R Z : Type 0} (Stops : Stop → Type 0) (remaining : R → Option (List ℕ)) (old : LineReader R Z)
+    (e : ReadError) : Type 0 where
   pub lines : List (List ℕ)
   pub rest : Option (List ℕ)
-  pub named : named_line e ≡ line_number 0 lines
-  pub begins : BeginsWith lines bytes rest
+  pub named : named_line e ≡ line_number old.lines lines
+  pub took : IfSome (rest_of remaining old) (λ bytes. BeginsWith lines bytes rest)
+  pub cause : Blames Stops old.longest e lines rest
 
--- some lines were read, the error names the last of them, and what it says is true of them
-pub record FailsFor {R Z : Type 0} (remaining : R → Option (List ℕ)) (old : LineReader R Z) (e : ReadError) : Type 0
-  where
-    pub lines : List (List ℕ)
-    pub rest : Option (List ℕ)
-    pub named : named_line e ≡ line_number old.lines lines
-    pub took : IfSome (rest_of remaining old) (λ bytes. BeginsWith lines bytes rest)
-    pub cause : Blames e lines rest
-
--- the text begins with some lines, the error names the last of them by its number, from 1 on, and what it says is true
--- of that line, or of a text that ends there; 0 where there are none
+-- the text begins with some lines, the error names the last of them by its number, from 1 on, or 0 where there are
+-- none; and the reading stopped there, as it says: the lines before can be read on, and this one cannot, or the text
+-- ends there
 pub record NamesFault (bytes : List ℕ) (e : ReadError) : Type 0 where
   pub lines : List (List ℕ)
   pub rest : Option (List ℕ)
   pub named : named_line e ≡ line_number 0 lines
   pub begins : BeginsWith lines bytes rest
-  pub cause : Blames e lines rest
+  pub cause : Blames FileStops (2 ^ 16) e lines rest

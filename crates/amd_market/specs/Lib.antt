@@ -7,4 +7,5 @@ pub mod Faults
 pub mod Columns
 pub mod Keys
 pub mod Pairs
+pub mod Stops
 pub mod Files

@@ -7,8 +7,7 @@ ghost use Rattle.amd_lines.specs.Words.{words};
 ghost use Rattle.amd_market.specs.Entries.{AreValues};
 ghost use Rattle.amd_market.specs.Arrays.{is_zero_byte, is_zero, SpellsShape, SpellsValue};
 ghost use Rattle.amd_market.specs.Arrays.{HasShapeFault};
-ghost use Rattle.amd_market.specs.Faults.{HasValueFault};
-ghost use Rattle.amd_market.specs.Headers.{value_words};
+ghost use Rattle.amd_market.specs.Faults.{HasCellFault};
 
 use crate::entries::{count_of, has_values, value_fault};
 use crate::faults::ReadFault;
@@ -85,7 +84,7 @@ fn are_zeros(text: &[u8]) -> bool
 pub fn value_of(line: &[u8], field: Field) -> Result<bool, ReadFault>
     ensures value { MatchResult result (SpellsValue field line.now)
         (λ _. (b : Bool) → SpellsValue field line.now b → ⊥) }
-    ensures fault { IfErr result (λ f. HasValueFault f (value_words field) (words line.now)) }
+    ensures fault { IfErr result (λ f. HasCellFault field f line.now) }
 {
     if has_values(line, field.words()) {
         Ok(!are_zeros(line))

@@ -2,15 +2,19 @@
 // of fixed width. The values behind them are not read. Called by `reader`, where the first line was read already.
 // Source: the Harwell-Boeing and Rutherford-Boeing exchange formats.
 
-ghost use Rattle.std.specs.Prelude.{◌≡◌, ◌++◌, ◌∷◌, ◌≤◌, ◌+◌, ◌<◌, ◌==◌, [], ℕ, List, cond, length};
+ghost use Rattle.std.specs.Prelude.{◌≡◌, ◌++◌, ◌∷◌, ◌+◌, ◌<◌, ◌==◌, ◌↔◌, [], ℕ, List, cond, length};
+ghost use Rattle.amd_market.specs.Keys.{IsLevel};
 ghost use Rattle.std.specs.Prelude.{slice_index, slice_range};
-ghost use Rattle.std.specs.Prelude.{OnOk, IfOk, IfErr, IfSome, IsTrue, All, flat_map};
+ghost use Rattle.std.specs.Prelude.{OnOk, IfOk, IfErr, IsTrue, MatchOption, All, flat_map};
 ghost use Rattle.amd_lines.specs.Words.{words};
 ghost use Rattle.amd_market.specs.Headers.{pairs_of};
 ghost use Rattle.amd_market.specs.Boeing.{SpellsCounts, SpellsKind, SpellsLayout, SpellsTable};
 ghost use Rattle.amd_market.specs.Boeing.{SpellsHead, SpellsColumns, SpellsBoeing};
 ghost use Rattle.amd_market.specs.Boeing.{column_entries, listed_entries, ArePointers};
-ghost use Rattle.amd_lines.specs.Lines.{TakesLines, line_of};
+ghost use Rattle.amd_lines.specs.Lines.{TakesLines, line_of, rest_of};
+ghost use Rattle.amd_market.specs.Faults.{HasCardFault, HasLayoutFault};
+ghost use Rattle.amd_market.specs.Stops.{StopsBehind, CardStops, HeadStops, TableStop, PointersStop, ColumnsStop};
+ghost use Rattle.amd_market.specs.Stops.{BoeingStops, LacksCounts, NoLine, NoEnd, all};
 ghost use Rattle.amd_market.specs.Files.{FailsFor};
 
 use crate::cards::{Kind, kind_of, layout_of, sides_of};
@@ -27,7 +31,7 @@ use std::io::Read;
 /// Reads a line, where there must be one.
 fn take_some<R: Read + Drop, A: Allocator>(lines: &mut LineReader<R, A>) -> Result<(), ReadError>
     ensures takes { OnOk result (TakesLines R.remaining lines.old lines.new (line_of lines.new ∷ [])) }
-    ensures fails { IfErr result (FailsFor R.remaining lines.old) }
+    ensures fails { IfErr result (FailsFor (CardStops NoLine []) R.remaining lines.old) }
 {
     if take_line(lines)? {
         Ok(())
@@ -40,9 +44,9 @@ fn take_some<R: Read + Drop, A: Allocator>(lines: &mut LineReader<R, A>) -> Resu
 fn take_sides<R: Read + Drop, A: Allocator>(
     lines: &mut LineReader<R, A>,
 ) -> Result<Option<usize>, ReadError>
-    ensures takes { IfOk result (λ o. IfSome o (λ sides. (line : List ℕ) ×
-        TakesLines R.remaining lines.old lines.new (line ∷ []) × SpellsCounts (words line) sides)) }
-    ensures fails { IfErr result (FailsFor R.remaining lines.old) }
+    ensures takes { IfOk result (λ o. MatchOption o (LacksCounts (rest_of R.remaining lines.old)) (λ sides.
+        (line : List ℕ) × TakesLines R.remaining lines.old lines.new (line ∷ []) × SpellsCounts (words line) sides)) }
+    ensures fails { IfErr result (FailsFor (StopsBehind all NoLine NoEnd []) R.remaining lines.old) }
 {
     if !take_line(lines)? {
         return Ok(None);
@@ -53,8 +57,8 @@ fn take_sides<R: Read + Drop, A: Allocator>(
 /// Reads the third line.
 fn take_kind<R: Read + Drop, A: Allocator>(lines: &mut LineReader<R, A>) -> Result<Kind, ReadError>
     ensures takes { IfOk result (λ k. (line : List ℕ) × TakesLines R.remaining lines.old lines.new (line ∷ []) ×
-        SpellsKind line k.symmetry k.n k.entries) }
-    ensures fails { IfErr result (FailsFor R.remaining lines.old) }
+        SpellsKind line k.symmetry k.n k.n k.entries) }
+    ensures fails { IfErr result (FailsFor (CardStops HasCardFault []) R.remaining lines.old) }
 {
     take_some(lines)?;
     match kind_of(lines.line()) {
@@ -70,7 +74,7 @@ fn take_extra<R: Read + Drop, A: Allocator>(
 ) -> Result<(), ReadError>
     ensures takes { OnOk result ((more : List (List ℕ)) × TakesLines R.remaining lines.old lines.new more ×
         (length more ≡ cond (sides == 0) 0 1)) }
-    ensures fails { IfErr result (FailsFor R.remaining lines.old) }
+    ensures fails { IfErr result (FailsFor (λ s. (0 < sides) × CardStops NoLine [] s) R.remaining lines.old) }
 {
     if sides == 0 {
         return Ok(());
@@ -84,7 +88,7 @@ fn take_layout<R: Read + Drop, A: Allocator>(
 ) -> Result<Layout, ReadError>
     ensures takes { IfOk result (λ l. (line : List ℕ) × TakesLines R.remaining lines.old lines.new (line ∷ []) ×
         SpellsLayout line l) }
-    ensures fails { IfErr result (FailsFor R.remaining lines.old) }
+    ensures fails { IfErr result (FailsFor (CardStops HasLayoutFault []) R.remaining lines.old) }
 {
     take_some(lines)?;
     match layout_of(lines.line()) {
@@ -104,7 +108,7 @@ fn take_numbers<R: Read + Drop, A: Allocator + Copy>(
 ) -> Result<Vec<usize, A>, ReadError>
     ensures takes { IfOk result (λ v. (ls : List (List ℕ)) × TakesLines R.remaining lines.old lines.new ls ×
         SpellsTable fields.per_line fields.width bound count ls v.items) }
-    ensures fails { IfErr result (FailsFor R.remaining lines.old) }
+    ensures fails { IfErr result (FailsFor (TableStop listed fields count bound []) R.remaining lines.old) }
 {
     let mut numbers = Vec::new(alloc);
     'lines: while numbers.len() < count {
@@ -174,8 +178,7 @@ fn listed_pairs<A: Allocator>(
 
 /// Whether each number is at least the one before.
 fn are_rising(numbers: &[usize]) -> bool
-    ensures { IsTrue result → (j : ℕ) → j + 1 < length numbers.now →
-        slice_index numbers.now j ≤ slice_index numbers.now (j + 1) }
+    ensures { IsTrue result ↔ IsLevel numbers.now }
 {
     'places: for place in 1..numbers.len() {
         if numbers[place] < numbers[place - 1] {
@@ -188,7 +191,7 @@ fn are_rising(numbers: &[usize]) -> bool
 /// Whether pointers are those of `n` columns with so many entries.
 fn are_pointers(pointers: &[usize], n: usize, entries: usize) -> bool
     requires { length pointers.now ≡ n + 1 }
-    ensures { IsTrue result → ArePointers n entries pointers.now }
+    ensures { IsTrue result ↔ ArePointers n entries pointers.now }
 {
     pointers[0] == 0 && pointers[n] == entries && are_rising(pointers)
 }
@@ -203,7 +206,7 @@ fn take_pointers<R: Read + Drop, A: Allocator + Copy>(
     ensures takes { IfOk result (λ v. (ls : List (List ℕ)) × TakesLines R.remaining lines.old lines.new ls ×
         SpellsTable fields.per_line fields.width (kind.entries + 1) (kind.n + 1) ls v.items) }
     ensures pointers { IfOk result (λ v. ArePointers kind.n kind.entries v.items) }
-    ensures fails { IfErr result (FailsFor R.remaining lines.old) }
+    ensures fails { IfErr result (FailsFor (PointersStop kind fields []) R.remaining lines.old) }
 {
     let Some(count) = kind.n.checked_add(1) else {
         return Err(at_line(lines, ReadFault::OutOfMemory));
@@ -223,9 +226,9 @@ fn take_pointers<R: Read + Drop, A: Allocator + Copy>(
 fn take_head<R: Read + Drop, A: Allocator>(
     lines: &mut LineReader<R, A>,
 ) -> Result<Option<(Kind, Layout)>, ReadError>
-    ensures takes { IfOk result (λ o. IfSome o (λ h. (ls : List (List ℕ)) ×
-        TakesLines R.remaining lines.old lines.new ls × SpellsHead ls h.0 h.1)) }
-    ensures fails { IfErr result (FailsFor R.remaining lines.old) }
+    ensures takes { IfOk result (λ o. MatchOption o (LacksCounts (rest_of R.remaining lines.old)) (λ h.
+        (ls : List (List ℕ)) × TakesLines R.remaining lines.old lines.new ls × SpellsHead ls h.0 h.1)) }
+    ensures fails { IfErr result (FailsFor HeadStops R.remaining lines.old) }
 {
     let Some(sides) = take_sides(lines)? else {
         return Ok(None);
@@ -246,7 +249,7 @@ fn take_columns<R: Read + Drop, A: Allocator + Copy>(
     ensures takes { IfOk result (λ v. (ls : List (List ℕ)) × TakesLines R.remaining lines.old lines.new ls ×
         SpellsColumns ls kind layout v.items) }
     ensures inside { IfOk result (λ v. All (λ p. (p.0 < kind.n) × (p.1 < kind.n)) v.items) }
-    ensures fails { IfErr result (FailsFor R.remaining lines.old) }
+    ensures fails { IfErr result (FailsFor (ColumnsStop kind layout []) R.remaining lines.old) }
 {
     let pointers = take_pointers(alloc, lines, layout.pointers, kind)?;
     let rows = take_numbers(
@@ -268,9 +271,10 @@ pub(crate) fn take_boeing<R: Read + Drop, A: Allocator + Copy>(
     alloc: A,
     lines: &mut LineReader<R, A>,
 ) -> Result<Option<Matrix<A>>, ReadError>
-    ensures takes { IfOk result (λ o. IfSome o (λ m. (ls : List (List ℕ)) ×
-        TakesLines R.remaining lines.old lines.new ls × SpellsBoeing ls m.n m.a_p.items m.a_i.items m.repeats)) }
-    ensures fails { IfErr result (FailsFor R.remaining lines.old) }
+    ensures takes { IfOk result (λ o. MatchOption o (LacksCounts (rest_of R.remaining lines.old)) (λ m.
+        (ls : List (List ℕ)) × TakesLines R.remaining lines.old lines.new ls ×
+        SpellsBoeing ls m.n m.a_p.items m.a_i.items m.repeats)) }
+    ensures fails { IfErr result (FailsFor BoeingStops R.remaining lines.old) }
 {
     let Some((kind, layout)) = take_head(lines)? else {
         return Ok(None);

@@ -1,11 +1,13 @@
 // The lines at the head of a Harwell-Boeing or a Rutherford-Boeing file, behind its title. Called by `boeing`. Source:
 // the Harwell-Boeing and Rutherford-Boeing exchange formats.
 
-ghost use Rattle.std.specs.Prelude.{◌≡◌, ◌∷◌, ℕ, List, pos, IfOk, IfErr, IfSome};
-ghost use Rattle.amd_market.specs.Faults.{IsOfBoeing};
+ghost use Rattle.std.specs.Prelude.{◌≡◌, ◌∷◌, ℕ, List, pos, IfOk, IfErr, MatchOption, MatchResult};
+ghost use Rattle.amd_market.specs.Faults.{HasTypeFault, HasCardFault};
 ghost use Rattle.amd_lines.specs.Words.{words, SpellsNumber};
-ghost use Rattle.amd_market.specs.Boeing.{SpellsCounts, SpellsType, SpellsSizes, SpellsKind, SpellsLayout};
-ghost use Rattle.amd_market.specs.Boeing.{is_value_letter, letter_symmetry};
+ghost use Rattle.amd_market.specs.Boeing.{SpellsSides, SpellsCounts, SpellsType, SpellsSizes, SpellsKind, SpellsLayout};
+ghost use Rattle.amd_market.specs.Boeing.{is_value_letter, letter_symmetry, BeginsWithNoCount};
+ghost use Rattle.amd_market.specs.declared.headers.Symmetry.{Symmetry};
+ghost use Rattle.amd_market.specs.declared.formats.Layout.{Layout};
 
 use crate::entries::count_of;
 use crate::faults::ReadFault;
@@ -27,26 +29,36 @@ pub(crate) struct Kind {
 
 /// The number at the beginning of a text, and what stands behind it.
 fn first_count(text: &[u8]) -> Option<(usize, &[u8])>
-    ensures { IfSome result (λ p. (w : List ℕ) × (words text.now ≡ w ∷ words p.1.now) × SpellsNumber w (pos p.0)) }
+    ensures { MatchOption result (BeginsWithNoCount (words text.now))
+        (λ p. (w : List ℕ) × (words text.now ≡ w ∷ words p.1.now) × SpellsNumber w (pos p.0)) }
 {
     let (word, rest) = first_word(text)?;
     Some((count_of(word)?, rest))
 }
 
+/// How many lines of right-hand sides a text tells, which stands behind four numbers: 0 where it has no word.
+fn sides_in(text: &[u8]) -> Option<usize>
+    ensures { MatchOption result ((k : ℕ) → SpellsSides (words text.now) k → ⊥) (SpellsSides (words text.now)) }
+{
+    let Some((word, rest)) = first_word(text) else {
+        return Some(0);
+    };
+    if first_word(rest).is_some() {
+        return None;
+    }
+    count_of(word)
+}
+
 /// How many lines of right-hand sides the second line of a file tells: its fifth number, 0 where it has four. They are
 /// the numbers of all lines behind the fourth, and of those of pointers, of rows, of values and of right-hand sides.
 pub(crate) fn sides_of(line: &[u8]) -> Option<usize>
-    ensures { IfSome result (SpellsCounts (words line.now)) }
+    ensures { MatchOption result ((k : ℕ) → SpellsCounts (words line.now) k → ⊥) (SpellsCounts (words line.now)) }
 {
     let (_, rest) = first_count(line)?;
     let (_, rest) = first_count(rest)?;
     let (_, rest) = first_count(rest)?;
     let (_, rest) = first_count(rest)?;
-    match first_word(rest) {
-        None => Some(0),
-        Some((word, rest)) if first_word(rest).is_none() => count_of(word),
-        Some(_) => None,
-    }
+    sides_in(rest)
 }
 
 /// Whether a lower-case letter says what values are: real, complex, none, whole numbers, or in another file.
@@ -72,8 +84,8 @@ fn letter_symmetry(letter: u8) -> Option<Symmetry>
 /// The symmetry of a type of an assembled matrix, which is three letters in any case: those of values, of symmetry, and
 /// `A`. An `E` in its place says that the matrix is not assembled.
 fn type_of(word: &[u8]) -> Result<Symmetry, ReadFault>
-    ensures type_is { IfOk result (SpellsType word.now) }
-    ensures fault { IfErr result IsOfBoeing }
+    ensures type_is { MatchResult result (SpellsType word.now) (λ _. (s : Symmetry) → SpellsType word.now s → ⊥) }
+    ensures fault { IfErr result (λ f. HasTypeFault f word.now) }
 {
     let [value, shape, storage] = word else {
         return Err(ReadFault::Kind);
@@ -93,7 +105,8 @@ fn type_of(word: &[u8]) -> Result<Symmetry, ReadFault>
 
 /// The numbers of rows, of columns and of entries at the beginning of a text.
 fn spelled_sizes(text: &[u8]) -> Option<(usize, usize, usize)>
-    ensures { IfSome result (λ s. SpellsSizes (words text.now) s.0 s.1 s.2) }
+    ensures { MatchOption result ((r c e : ℕ) → SpellsSizes (words text.now) r c e → ⊥)
+        (λ s. SpellsSizes (words text.now) s.0 s.1 s.2) }
 {
     let (rows, rest) = first_count(text)?;
     let (columns, rest) = first_count(rest)?;
@@ -103,8 +116,8 @@ fn spelled_sizes(text: &[u8]) -> Option<(usize, usize, usize)>
 
 /// What the third line of a file says, or what is wrong with it.
 pub(crate) fn kind_of(line: &[u8]) -> Result<Kind, ReadFault>
-    ensures kind { IfOk result (λ k. SpellsKind line.now k.symmetry k.n k.entries) }
-    ensures fault { IfErr result IsOfBoeing }
+    ensures kind { IfOk result (λ k. SpellsKind line.now k.symmetry k.n k.n k.entries) }
+    ensures fault { IfErr result (λ f. HasCardFault f line.now) }
 {
     let Some((word, rest)) = first_word(line) else {
         return Err(ReadFault::Kind);
@@ -125,7 +138,7 @@ pub(crate) fn kind_of(line: &[u8]) -> Result<Kind, ReadFault>
 
 /// The formats of pointers and of rows, with which the fourth line of a file begins.
 pub(crate) fn layout_of(line: &[u8]) -> Option<Layout>
-    ensures { IfSome result (λ l. SpellsLayout line.now l) }
+    ensures { MatchOption result ((l : Layout) → SpellsLayout line.now l → ⊥) (SpellsLayout line.now) }
 {
     let (first, rest) = first_word(line)?;
     let (second, _) = first_word(rest)?;

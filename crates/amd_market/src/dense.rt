@@ -1,10 +1,11 @@
 // The values of an array: a line for each place, column by column, of which those that are not zero are entries. Called
 // by `reader`. Source: the Matrix Market exchange formats.
 
-ghost use Rattle.std.specs.Prelude.{◌≡◌, ◌-◌, ◌<◌, ◌≤◌, ◌∷◌, [], ℕ, List, IfOk, IfErr, OnOk};
+ghost use Rattle.std.specs.Prelude.{◌≡◌, ◌-◌, ◌+◌, ◌^◌, ◌<◌, ◌≤◌, ◌∷◌, [], ℕ, List, IfOk, IfErr, OnOk};
 ghost use Rattle.amd_market.specs.Arrays.{SpellsShape, SpellsValue, column_places, array_places, first_row};
 ghost use Rattle.amd_lines.specs.Lines.{TakesTelling, percent};
 ghost use Rattle.amd_market.specs.Files.{TakesValues, FailsFor};
+ghost use Rattle.amd_market.specs.Stops.{ShapeStops, ValueStops, ValuesStop};
 
 use crate::arrays::{shape_of, value_of};
 use crate::faults::{ReadError, ReadFault};
@@ -21,7 +22,7 @@ pub(crate) fn take_shape<R: Read + Drop, A: Allocator>(
 ) -> Result<usize, ReadError>
     ensures takes { IfOk result (λ n. (line : List ℕ) × TakesTelling percent R.remaining lines.old lines.new line ×
         SpellsShape line n n) }
-    ensures fails { IfErr result (FailsFor R.remaining lines.old) }
+    ensures fails { IfErr result (FailsFor ShapeStops R.remaining lines.old) }
 {
     if !take_telling(lines)? {
         return Err(at_end(lines, ReadFault::Shape));
@@ -38,16 +39,17 @@ fn take_value<R: Read + Drop, A: Allocator>(
     field: Field,
     place: (usize, usize),
 ) -> Result<bool, ReadError>
+    requires { (place.0 + 1 < 2 ^ 64) × (place.1 + 1 < 2 ^ 64) }
     ensures takes { IfOk result (λ b. (line : List ℕ) × TakesTelling percent R.remaining lines.old lines.new line ×
         SpellsValue field line b) }
-    ensures fails { IfErr result (FailsFor R.remaining lines.old) }
+    ensures fails { IfErr result (FailsFor (ValueStops field place []) R.remaining lines.old) }
 {
     if !take_telling(lines)? {
         return Err(at_line(
             lines,
             ReadFault::NoPlace {
-                row: place.0.saturating_add(1),
-                column: place.1.saturating_add(1),
+                row: place.0 + 1,
+                column: place.1 + 1,
             },
         ));
     }
@@ -76,9 +78,10 @@ fn take_place<R: Read + Drop, A: Allocator + Copy>(
     place: (usize, usize),
     pairs: &mut Vec<(usize, usize), A>,
 ) -> Result<(), ReadError>
+    requires { (place.0 + 1 < 2 ^ 64) × (place.1 + 1 < 2 ^ 64) }
     ensures takes { OnOk result (TakesValues R.remaining lines.old lines.new header (place ∷ [])
         pairs.old.items pairs.new.items) }
-    ensures fails { IfErr result (FailsFor R.remaining lines.old) }
+    ensures fails { IfErr result (FailsFor (ValuesStop header.field (place ∷ []) []) R.remaining lines.old) }
 {
     let other = take_value(lines, header.field, place)?;
     if !other {
@@ -99,10 +102,12 @@ fn take_column<R: Read + Drop, A: Allocator + Copy>(
     column: usize,
     pairs: &mut Vec<(usize, usize), A>,
 ) -> Result<(), ReadError>
-    requires { first ≤ n }
+    requires rows { first ≤ n }
+    requires column { column < n }
     ensures takes { OnOk result (TakesValues R.remaining lines.old lines.new header
         (column_places first column (n - first)) pairs.old.items pairs.new.items) }
-    ensures fails { IfErr result (FailsFor R.remaining lines.old) }
+    ensures fails { IfErr result (FailsFor (ValuesStop header.field
+        (column_places first column (n - first)) []) R.remaining lines.old) }
 {
     'rows: for row in first..n {
         take_place(lines, header, (row, column), pairs)?;
@@ -119,7 +124,8 @@ pub(crate) fn take_values<R: Read + Drop, A: Allocator + Copy>(
 ) -> Result<Vec<(usize, usize), A>, ReadError>
     ensures takes { IfOk result (λ v. TakesValues R.remaining lines.old lines.new header
         (array_places header.symmetry n n) [] v.items) }
-    ensures fails { IfErr result (FailsFor R.remaining lines.old) }
+    ensures fails { IfErr result (FailsFor (ValuesStop header.field
+        (array_places header.symmetry n n) []) R.remaining lines.old) }
 {
     let mut pairs = Vec::new(alloc);
     'columns: for column in 0..n {

@@ -1,8 +1,10 @@
 // Numbers in fields of one width, so many on a line, as Fortran writes them: a format such as `(16I5)`. Called by
 // `cards` and `boeing`. Source: the Harwell-Boeing and Rutherford-Boeing exchange formats.
 
-ghost use Rattle.std.specs.Prelude.{◌≡◌, ◌++◌, ◌∷◌, [], ℕ, List, length, IfSome, IfErr, OnOk};
-ghost use Rattle.amd_market.specs.Faults.{IsOfBoeing, IsOfList};
+ghost use Rattle.std.specs.Prelude.{◌≡◌, ◌≢◌, ◌++◌, ◌∷◌, ◌⊎◌, [], ℕ, List, false, length, All};
+ghost use Rattle.std.specs.Prelude.{IfErr, OnOk, MatchOption};
+ghost use Rattle.amd_market.specs.Faults.{HasFieldFault, HasFieldsFault};
+ghost use Rattle.amd_market.specs.declared.faults.ReadFault.TheVariants as fault;
 ghost use Rattle.std.specs.Char.{to_ascii_lowercase};
 ghost use Rattle.std.specs.List.{position};
 ghost use Rattle.amd_market.specs.Boeing.{is_whole_letter, SpellsRepeat, SpellsFormat, SpellsField, SpellsFields};
@@ -15,7 +17,8 @@ use std::alloc::Allocator;
 
 /// What a word has between parentheses.
 fn bracketed(word: &[u8]) -> Option<&[u8]>
-    ensures { IfSome result (λ t. word.now ≡ 40 ∷ (t.now ++ 41 ∷ [])) }
+    ensures { MatchOption result ((t : List ℕ) → word.now ≢ 40 ∷ (t ++ 41 ∷ []))
+        (λ t. word.now ≡ 40 ∷ (t.now ++ 41 ∷ [])) }
 {
     let (first, rest) = word.split_first()?;
     let (last, inner) = rest.split_last()?;
@@ -35,8 +38,9 @@ fn letter_place(text: &[u8]) -> Option<usize>
 
 /// What stands before and behind the first `I` of a text, in either case.
 fn around_letter(text: &[u8]) -> Option<(&[u8], &[u8])>
-    ensures { IfSome result (λ p. (letter : ℕ) × ((to_ascii_lowercase letter ≡ 105) ×
-        (text.now ≡ p.0.now ++ letter ∷ p.1.now))) }
+    ensures { MatchOption result (All (λ b. is_whole_letter b ≡ false) text.now) (λ p. (letter : ℕ) ×
+        ((to_ascii_lowercase letter ≡ 105) × ((text.now ≡ p.0.now ++ letter ∷ p.1.now) ×
+        All (λ b. is_whole_letter b ≡ false) p.0.now))) }
 {
     let place = letter_place(text)?;
     Some((&text[..place], &text[place + 1..]))
@@ -44,7 +48,7 @@ fn around_letter(text: &[u8]) -> Option<(&[u8], &[u8])>
 
 /// How many numbers the front of a format says.
 fn repeat_of(front: &[u8]) -> Option<usize>
-    ensures { IfSome result (SpellsRepeat front.now) }
+    ensures { MatchOption result ((k : ℕ) → SpellsRepeat front.now k → ⊥) (SpellsRepeat front.now) }
 {
     if front.is_empty() {
         Some(1)
@@ -55,7 +59,8 @@ fn repeat_of(front: &[u8]) -> Option<usize>
 
 /// The fields of which a word is the format.
 pub(crate) fn fields_of(word: &[u8]) -> Option<Fields>
-    ensures { IfSome result (λ f. SpellsFormat word.now f.per_line f.width) }
+    ensures { MatchOption result ((k w : ℕ) → SpellsFormat word.now k w → ⊥)
+        (λ f. SpellsFormat word.now f.per_line f.width) }
 {
     let (front, back) = around_letter(bracketed(word)?)?;
     let per_line = repeat_of(front)?;
@@ -77,11 +82,14 @@ pub(crate) enum Listed {
 
 /// What is wrong with a field that has no number from 1 to `bound`.
 fn field_fault(field: &[u8], bound: usize, listed: Listed) -> ReadFault
-    ensures { IsOfBoeing result }
+    ensures { HasFieldFault listed bound result field.now }
 {
-    let Some((word, _)) = first_word(field) else {
+    let Some((word, rest)) = first_word(field) else {
         return ReadFault::Number;
     };
+    if first_word(rest).is_some() {
+        return ReadFault::Number;
+    }
     match (number_of(word), listed) {
         (Some(number), Listed::Pointers) => ReadFault::Pointer {
             number,
@@ -97,7 +105,7 @@ fn field_fault(field: &[u8], bound: usize, listed: Listed) -> ReadFault
 
 /// The number that a field has, from 0 on; the field counts from 1.
 fn number_in(field: &[u8], bound: usize) -> Option<usize>
-    ensures { IfSome result (SpellsField field.now bound) }
+    ensures { MatchOption result ((k : ℕ) → SpellsField field.now bound k → ⊥) (SpellsField field.now bound) }
 {
     let (word, rest) = first_word(field)?;
     if first_word(rest).is_some() {
@@ -118,7 +126,7 @@ pub(crate) fn add_numbers<A: Allocator>(
     ensures adds { OnOk result ((more : List ℕ) × (length more ≡ count) ×
         (numbers.new.items ≡ numbers.old.items ++ more) ×
         SpellsFields width bound line.now more) }
-    ensures fault { IfErr result IsOfList }
+    ensures fault { IfErr result (λ f. (f ≡ fault.OutOfMemory) ⊎ HasFieldsFault listed width count bound f line.now) }
 {
     let mut left = line;
     'fields: for _done in 0..count {

@@ -2,9 +2,9 @@
 // `reader`, `dense` and `boeing`, and by the lists of rows of the crate `amd_request`. The reader of lines is that of
 // the crate `amd_lines`; no more is read of a line that is too long than a block.
 
-ghost use Rattle.std.specs.Prelude.{◌≡◌, IfOk, IfErr};
-ghost use Rattle.amd_lines.specs.Lines.{TakesLine, TakesNext, FailsAt, lines_read, percent};
-ghost use Rattle.amd_market.specs.Faults.{IsTold, IsUnread, named_line};
+ghost use Rattle.std.specs.Prelude.{◌≡◌, [], ℕ, List, IfOk, IfErr};
+ghost use Rattle.amd_lines.specs.Lines.{TakesLine, TakesNext, FailsAt, MeetsLong, lines_read, percent, telling};
+ghost use Rattle.amd_market.specs.Faults.{IsTold, IsUnread, IfTooLong, named_line};
 
 use crate::faults::{ReadError, ReadFault};
 use crate::found::found_in;
@@ -50,6 +50,7 @@ pub(crate) fn take_line<R: Read + Drop, A: Allocator>(
     ensures takes { IfOk result (TakesLine R.remaining lines.old lines.new) }
     ensures fails { IfErr result (λ e. FailsAt R.remaining lines.old (named_line e)) }
     ensures unread { IfErr result IsUnread }
+    ensures long { IfErr result (λ e. IfTooLong e (MeetsLong R.remaining lines.old [] (named_line e))) }
 {
     Ok(lines.take_line()?)
 }
@@ -61,6 +62,8 @@ pub fn take_telling<R: Read + Drop, A: Allocator>(
     ensures takes { IfOk result (TakesNext percent R.remaining lines.old lines.new) }
     ensures fails { IfErr result (λ e. FailsAt R.remaining lines.old (named_line e)) }
     ensures unread { IfErr result IsUnread }
+    ensures long { IfErr result (λ e. IfTooLong e ((before : List (List ℕ)) × (telling percent before ≡ []) ×
+        MeetsLong R.remaining lines.old before (named_line e))) }
 {
     Ok(lines.take_telling(Some(b'%'))?)
 }

@@ -4,14 +4,16 @@
 
 ghost use Rattle.std.specs.Prelude.{◌≡◌, ◌<◌, ◌≤◌, ◌^◌, ◌∷◌, [], ℕ, List, All, true, false};
 ghost use Rattle.std.specs.Prelude.{IfOk, IfErr, IfSome, MatchOption, OnOk};
-ghost use Rattle.amd_market.specs.Headers.{SpellsHeader, is_array};
+ghost use Rattle.amd_market.specs.Headers.{SpellsHeader, is_array, is_void};
 ghost use Rattle.amd_market.specs.Entries.{SpellsSize, SpellsEntry};
 ghost use Rattle.amd_lines.specs.Lines.{TakesLines, TakesTelling, TakesNotes, line_of, percent};
 ghost use Rattle.amd_market.specs.Files.{TakesEntries, TakesBody, FailsFor, SpellsFile, NamesFault};
 ghost use Rattle.amd_market.specs.Columns.{HoldsOnce};
 ghost use Rattle.amd_market.specs.Keys.{pairs_of_keys};
 ghost use Rattle.amd_market.specs.Pairs.{pairs_in, AreFor};
-ghost use Rattle.amd_market.specs.Faults.{HasHeaderFault, IsMore};
+ghost use Rattle.amd_market.specs.Faults.{HasHeaderFault};
+ghost use Rattle.amd_market.specs.Stops.{FirstStops, SizeStops, EntryStops, EntriesStop, MoreStops};
+ghost use Rattle.amd_market.specs.Stops.{ListedStops, ArrayStops, BodyStops};
 ghost use Rattle.amd_market.specs.declared.faults.ReadFault.TheVariants as fault;
 
 use crate::boeing::take_boeing;
@@ -32,8 +34,9 @@ fn take_header<R: Read + Drop, A: Allocator>(
     lines: &mut LineReader<R, A>,
 ) -> Result<Option<Header>, ReadError>
     ensures takes { IfOk result (λ o. TakesLines R.remaining lines.old lines.new (line_of lines.new ∷ []) ×
-        MatchOption o (HasHeaderFault fault.Banner (line_of lines.new)) (SpellsHeader (line_of lines.new))) }
-    ensures fails { IfErr result (FailsFor R.remaining lines.old) }
+        MatchOption o (HasHeaderFault fault.Banner (line_of lines.new))
+        (λ h. SpellsHeader (line_of lines.new) h × (is_void h ≡ false))) }
+    ensures fails { IfErr result (FailsFor FirstStops R.remaining lines.old) }
 {
     if !take_line(lines)? {
         return Err(at_line(lines, ReadFault::Empty));
@@ -54,7 +57,7 @@ fn take_header<R: Read + Drop, A: Allocator>(
 fn take_size<R: Read + Drop, A: Allocator>(lines: &mut LineReader<R, A>) -> Result<Size, ReadError>
     ensures takes { IfOk result (λ s. (line : List ℕ) × TakesTelling percent R.remaining lines.old lines.new line ×
         SpellsSize line s.rows s.rows s.entries) }
-    ensures fails { IfErr result (FailsFor R.remaining lines.old) }
+    ensures fails { IfErr result (FailsFor SizeStops R.remaining lines.old) }
 {
     if !take_telling(lines)? {
         return Err(at_end(lines, ReadFault::Size));
@@ -75,7 +78,8 @@ fn take_entry<R: Read + Drop, A: Allocator>(
 ) -> Result<(usize, usize), ReadError>
     ensures takes { IfOk result (λ e. (line : List ℕ) × TakesTelling percent R.remaining lines.old lines.new line ×
         SpellsEntry header.field size.rows line e) }
-    ensures fails { IfErr result (FailsFor R.remaining lines.old) }
+    ensures fails { IfErr result (FailsFor (EntryStops header.field size.rows done size.entries [])
+        R.remaining lines.old) }
 {
     if !take_telling(lines)? {
         return Err(at_line(
@@ -119,7 +123,8 @@ fn next_entry<R: Read + Drop, A: Allocator>(
 ) -> Result<(usize, usize), ReadError>
     ensures takes { IfOk result (λ e. (line : List ℕ) × TakesTelling percent R.remaining lines.old lines.new line ×
         SpellsEntry header.field size.rows line e) }
-    ensures fails { IfErr result (FailsFor R.remaining lines.old) }
+    ensures fails { IfErr result (FailsFor (EntryStops header.field size.rows done size.entries [])
+        R.remaining lines.old) }
 {
     match take_plain(lines, header.field, size.rows) {
         Some(entry) => Ok(entry),
@@ -137,7 +142,7 @@ fn take_keys<R: Read + Drop, A: Allocator + Copy>(
     requires { size.rows ≤ 2 ^ 32 }
     ensures takes { IfOk result (λ v. TakesEntries R.remaining lines.old lines.new header size.rows size.entries
         (pairs_of_keys v.items)) }
-    ensures fails { IfErr result (FailsFor R.remaining lines.old) }
+    ensures fails { IfErr result (FailsFor (EntriesStop header.field size.rows size.entries []) R.remaining lines.old) }
 {
     let mut keys = keys_for(alloc, header.symmetry, size.entries);
     'entries: for done in 0..size.entries {
@@ -158,7 +163,7 @@ fn take_pairs<R: Read + Drop, A: Allocator + Copy>(
 ) -> Result<Vec<(usize, usize), A>, ReadError>
     ensures takes { IfOk result (λ v. TakesEntries R.remaining lines.old lines.new header size.rows size.entries
         v.items) }
-    ensures fails { IfErr result (FailsFor R.remaining lines.old) }
+    ensures fails { IfErr result (FailsFor (EntriesStop header.field size.rows size.entries []) R.remaining lines.old) }
 {
     let mut pairs = pairs_for(alloc, header.symmetry, size.entries);
     'entries: for done in 0..size.entries {
@@ -180,7 +185,7 @@ fn take_entries<R: Read + Drop, A: Allocator + Copy>(
     ensures takes { IfOk result (λ p. TakesEntries R.remaining lines.old lines.new header size.rows size.entries
         (pairs_in p)) }
     ensures kind { IfOk result (AreFor size.rows) }
-    ensures fails { IfErr result (FailsFor R.remaining lines.old) }
+    ensures fails { IfErr result (FailsFor (EntriesStop header.field size.rows size.entries []) R.remaining lines.old) }
 {
     if size.rows > MOST_SORTED {
         return match take_pairs(alloc, lines, header, size) {
@@ -199,9 +204,8 @@ fn take_end<R: Read + Drop, A: Allocator>(
     lines: &mut LineReader<R, A>,
     more: ReadFault,
 ) -> Result<(), ReadError>
-    requires { IsMore more }
     ensures takes { OnOk result (TakesNotes percent R.remaining lines.old lines.new) }
-    ensures fails { IfErr result (FailsFor R.remaining lines.old) }
+    ensures fails { IfErr result (FailsFor (MoreStops more []) R.remaining lines.old) }
 {
     if take_telling(lines)? {
         return Err(at_line(lines, more));
@@ -219,7 +223,7 @@ fn take_listed<R: Read + Drop, A: Allocator + Copy>(
     ensures takes { IfOk result (λ r. TakesBody R.remaining lines.old lines.new header r.0 (pairs_in r.1)) }
     ensures kind { IfOk result (λ r. AreFor r.0 r.1) }
     ensures inside { IfOk result (λ r. All (λ p. (p.0 < r.0) × (p.1 < r.0)) (pairs_in r.1)) }
-    ensures fails { IfErr result (FailsFor R.remaining lines.old) }
+    ensures fails { IfErr result (FailsFor (ListedStops header) R.remaining lines.old) }
 {
     let size = take_size(lines)?;
     let pairs = take_entries(alloc, lines, header, size)?;
@@ -238,7 +242,7 @@ fn take_array<R: Read + Drop, A: Allocator + Copy>(
     ensures takes { IfOk result (λ r. TakesBody R.remaining lines.old lines.new header r.0 (pairs_in r.1)) }
     ensures kind { IfOk result (λ r. AreFor r.0 r.1) }
     ensures inside { IfOk result (λ r. All (λ p. (p.0 < r.0) × (p.1 < r.0)) (pairs_in r.1)) }
-    ensures fails { IfErr result (FailsFor R.remaining lines.old) }
+    ensures fails { IfErr result (FailsFor (ArrayStops header) R.remaining lines.old) }
 {
     let n = take_shape(lines)?;
     let pairs = take_values(alloc, lines, header, n)?;
@@ -255,7 +259,7 @@ fn take_body<R: Read + Drop, A: Allocator + Copy>(
     ensures takes { IfOk result (λ r. TakesBody R.remaining lines.old lines.new header r.0 (pairs_in r.1)) }
     ensures kind { IfOk result (λ r. AreFor r.0 r.1) }
     ensures inside { IfOk result (λ r. All (λ p. (p.0 < r.0) × (p.1 < r.0)) (pairs_in r.1)) }
-    ensures fails { IfErr result (FailsFor R.remaining lines.old) }
+    ensures fails { IfErr result (FailsFor (BodyStops header.format header) R.remaining lines.old) }
 {
     match header.format {
         Format::Coordinate => take_listed(alloc, lines, header),
@@ -272,7 +276,7 @@ fn take_market<R: Read + Drop, A: Allocator + Copy>(
     ensures takes { IfOk result (λ m. (pairs : List (ℕ × ℕ)) ×
         TakesBody R.remaining lines.old lines.new header m.n pairs ×
         HoldsOnce m.n pairs m.a_p.items m.a_i.items m.repeats) }
-    ensures fails { IfErr result (FailsFor R.remaining lines.old) }
+    ensures fails { IfErr result (FailsFor (BodyStops header.format header) R.remaining lines.old) }
 {
     let (n, pairs) = take_body(alloc, lines, header)?;
     match matrix_of(alloc, n, pairs) {
@@ -290,8 +294,8 @@ fn take_market<R: Read + Drop, A: Allocator + Copy>(
 /// # Errors
 ///
 /// `Line` for a line at fault, an input that ends too early, or refused memory; `Input` where the input cannot be read.
-/// Each names the line that was read last, or the first one where the second shows that it is no matrix file; a fault
-/// is one that this line has, or that of a text that ends behind it.
+/// Each names the line that was read last, or the first one where the second shows that it is no matrix file. The lines
+/// before it can be read on, and the fault is that of this line, or of a text that ends behind it.
 pub fn read_matrix<R: Read + Drop, A: Allocator + Copy>(
     alloc: A,
     input: R,

@@ -398,7 +398,7 @@ isa                        3             3             4             0
 ];
 
 /// The lines behind the title of a Harwell-Boeing file at fault, and what is told of it.
-static NO_BOEINGS: [(&str, &str); 14] = [
+static NO_BOEINGS: [(&str, &str); 15] = [
     ("1 1 0 none\n", UNKNOWN_TITLE),
     ("1 1 0\n", UNKNOWN_TITLE),
     ("", UNKNOWN_TITLE),
@@ -429,6 +429,10 @@ static NO_BOEINGS: [(&str, &str); 14] = [
     (
         "2 1 1 0\nRUA 1 1 1\n(2I4) (I4)\n   1   x\n",
         "line 5: here must stand numbers, as the formats of the fourth line tell, found: 1   x",
+    ),
+    (
+        "2 1 1 0\nRUA 1 1 1\n(2I8) (I8)\n     1 2       2\n",
+        "line 5: here must stand numbers, as the formats of the fourth line tell, found: 1 2       2",
     ),
     (
         "2 1 1 0\nRUA 1 1 1\n(2I4) (I4)\n   1   3\n",

@@ -1,17 +1,23 @@
 -- The parts were read one after another; an error of a part names its line behind those of the parts before.
 use Rattle.std.proofs.Common.{◌++◌, refl}
-use Rattle.std.proofs.lemmas.Result.{err_from_is_err_and}
-use Rattle.amd_market.specs.Faults.{reading}
 use Rattle.amd_lines.proofs.LineLemmas.{takes-append}
-use Rattle.amd_market.proofs.FaultLemmas.{for-behind, for-here}
+use Rattle.amd_market.specs.Stops.{in_pointers, in_rows}
+use Rattle.amd_market.proofs.FaultLemmas.{for-behind, for-machine, for-weaker, handed-on}
+use Rattle.amd_market.proofs.StopLemmas.{table-first}
 use Rattle.amd_market.proofs.BoeingLemmas.{boeing-inside, table-within, table-size}
 use Rattle.amd_market.proofs.boeing.take_columns.Goals as goal
+
+pub returns-in_err-pointers-clause-fails : goal.returns-in_err-pointers-clause-fails
+returns-in_err-pointers-clause-fails g c = handed-on _ c.from_residual.result c.from_residual.ensures.1
+    (for-weaker _ _ _ (λ s h. in_pointers h) c.in_err-pointers.ensures.fails)
 
 pub returns-in_err-rows-clause-fails : goal.returns-in_err-rows-clause-fails
 returns-in_err-rows-clause-fails g c =
     let first = c.in_ok-pointers.ensures.takes in
-    let p = err_from_is_err_and c.from_residual-in_err-rows.result c.from_residual-in_err-rows.ensures.1 in
-    rw (p.1, p.2) (for-behind _ _ _ first.0 _ first.1 c.in_err-rows.ensures.fails)
+    handed-on _ c.from_residual-in_err-rows.result c.from_residual-in_err-rows.ensures.1
+    (for-behind _ _ _ first.0 _ first.1
+    (λ s h. in_rows first.0 _ first.2 c.in_ok-pointers.ensures.pointers (table-first _ _ _ _ first.0 s h))
+    c.in_err-rows.ensures.fails)
 
 pub listed_pairs-requires : goal.listed_pairs-requires
 listed_pairs-requires g c =
@@ -49,4 +55,4 @@ pub returns-clause-fails : goal.returns-clause-fails
 returns-clause-fails g c =
     let first = c.in_ok-pointers.ensures.takes in
     let second = c.in_ok-rows.ensures.takes in
-    for-here _ _ _ (first.0 ++ second.0) _ _ (takes-append _ _ _ _ first.0 second.0 first.1 second.1) c.at_line.ensures (reading tt)
+    for-machine _ _ _ (first.0 ++ second.0) _ _ (takes-append _ _ _ _ first.0 second.0 first.1 second.1) c.at_line.ensures tt

@@ -1,16 +1,11 @@
 -- The next line was read, and it is at fault, or not.
-use Rattle.std.proofs.Common.{[], ◌∷◌, refl}
-use Rattle.std.proofs.lemmas.Result.{err_from_is_err_and}
-use Rattle.amd_lines.specs.Lines.{line_of}
-use Rattle.amd_market.specs.Faults.{last, in_boeing}
-use Rattle.amd_market.proofs.FaultLemmas.{for-here}
+use Rattle.amd_market.proofs.FaultLemmas.{any-line, for-line, for-weaker, handed-on}
 use Rattle.amd_market.proofs.boeing.take_kind.Goals as goal
 
 pub returns-in_err-take_some-clause-fails : goal.returns-in_err-take_some-clause-fails
-returns-in_err-take_some-clause-fails g c =
-    let p = err_from_is_err_and c.from_residual.result c.from_residual.ensures.1 in rw (p.1, p.2) c.in_err-take_some.ensures.fails
+returns-in_err-take_some-clause-fails g c = handed-on _ c.from_residual.result c.from_residual.ensures.1
+    (for-weaker _ _ _ (λ s h. any-line _ s h) c.in_err-take_some.ensures.fails)
 
 pub returns-in-Err-clause-fails : goal.returns-in-Err-clause-fails
 returns-in-Err-clause-fails g c =
-    let line = line_of c.take_some.new.lines in
-    for-here _ _ _ (line ∷ []) _ _ c.in_ok-take_some.ensures.takes c.at_line.ensures (last [] line refl (in_boeing c.in-Err.ensures.fault))
+    for-line c.in_ok-take_some.ensures.takes c.at_line.ensures (rw c.line.ensures at c.in-Err.ensures.fault)

@@ -1,30 +1,54 @@
 -- Each turn reads the numbers of one line more.
-use Rattle.std.proofs.Common.{◌-◌, ◌++◌, ◌∷◌, [], length, length-append, arith, ap, ◌∙◌}
+use Rattle.std.proofs.Common.{◌<◌, ◌-◌, ◌++◌, ◌∷◌, [], length, length-append, arith, ap, ◌∙◌}
 use Rattle.std.specs.Prelude.{min}
-use Rattle.std.proofs.lemmas.Result.{err_from_is_err_and}
 use Rattle.amd_lines.specs.Lines.{line_of}
 use Rattle.amd_lines.proofs.LineLemmas.{takes-none, takes-append}
-use Rattle.amd_market.proofs.FaultLemmas.{for-here, for-behind}
-use Rattle.amd_market.proofs.BoeingLemmas.{table-none, table-turn, table-whole, list-behind}
+use Rattle.amd_market.proofs.FaultLemmas.{all-first, any-line, for-here, for-behind, handed-on}
+use Rattle.amd_market.proofs.BoeingLemmas.{fills-more, table-none, table-turn, table-whole}
+use Rattle.amd_market.proofs.StopLemmas.{list-stop}
 use Rattle.amd_market.proofs.boeing.take_numbers.Goals as goal
 
 pub lines-init : goal.lines-init
 lines-init g c =
-    let none = ap length c.new-numbers.ensures.items in
-    ([], takes-none _ _, omega (arith, none), λ ns js h. table-none _ _ _ _ _ js ns c.new-numbers.ensures.items h)
+    let none = ap length c.new-numbers.ensures.items in (
+      [],
+      takes-none _ _,
+      omega (arith, none),
+      λ ns js h. table-none _ _ _ _ _ js ns c.new-numbers.ensures.items h,
+      λ h. c.new-numbers.ensures.items,
+    )
 
 pub returns-in_err-take_some-clause-fails : goal.returns-in_err-take_some-clause-fails
 returns-in_err-take_some-clause-fails g c =
     let inv = c.lines.invariant in
-    let p = err_from_is_err_and c.from_residual.result c.from_residual.ensures.1 in
-    rw (p.1, p.2) (for-behind _ _ _ inv.0 _ inv.1 c.in_err-take_some.ensures.fails)
+    let old = c.len.ensures ∙ c.lines.numbers.ok.0 in
+    let test = c.lines-test.true in
+    let room : length c.lines.numbers.items < c.args.count = omega (arith, old, test) in
+    handed-on _ c.from_residual.result c.from_residual.ensures.1 (for-behind _ _ _ inv.0 _ inv.1 (λ s h. record {
+      lines = inv.0;
+      numbers = c.lines.numbers.items;
+      full = inv.4 room;
+      few = room;
+      stops = all-first inv.0 s (any-line [] s h);
+    }) c.in_err-take_some.ensures.fails)
 
 pub returns-in-Err-clause-fails : goal.returns-in-Err-clause-fails
 returns-in-Err-clause-fails g c =
     let inv = c.lines.invariant in
     let line = line_of c.take_some.new.lines in
-    for-behind _ _ _ inv.0 _ inv.1 (for-here _ _ _ (line ∷ []) _ _ c.in_ok-take_some.ensures.takes c.at_line.ensures
-    (list-behind _ line _ c.in-Err.ensures.fault))
+    let old = c.len.ensures ∙ c.lines.numbers.ok.0 in
+    let test = c.lines-test.true in
+    let room : length c.lines.numbers.items < c.args.count = omega (arith, old, test) in
+    let before = c.len-in-lines.ensures ∙ c.lines.numbers.ok.0 in
+    let here = c.min-here.ensures ∙ ap (λ z. min c.args.fields.per_line (c.args.count - z)) before in
+    for-behind _ _ _ inv.0 _ inv.1 (λ s h. record {
+      lines = inv.0;
+      numbers = c.lines.numbers.items;
+      full = inv.4 room;
+      few = room;
+      stops = all-first inv.0 s h;
+    }) (for-here _ _ _ (line ∷ []) _ _ c.in_ok-take_some.ensures.takes c.at_line.ensures
+    (list-stop _ _ _ _ _ line _ _ (rw (here, c.line.ensures) at c.in-Err.ensures.fault)))
 
 pub lines-preserved : goal.lines-preserved
 lines-preserved g c =
@@ -44,6 +68,8 @@ lines-preserved g c =
       omega (arith, long, size, old, room),
       (rw items (λ ns js h. table-turn c.args.fields.per_line c.args.fields.width c.args.bound c.args.count inv.0 ns line numbers added.0 js
           (omega (arith, old, room)) inv.3 size fields h)),
+      (rw items (λ h. fills-more c.args.fields.per_line c.args.fields.width c.args.bound inv.0 numbers line added.0
+          (inv.4 (omega (arith, old, room))) (let both = length-append numbers added.0 in omega (arith, size, both, h)) fields)),
     )
 
 pub returns-clause-takes : goal.returns-clause-takes

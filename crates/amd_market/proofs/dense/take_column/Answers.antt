@@ -1,8 +1,8 @@
 -- Each turn reads the value of one place more.
-use Rattle.std.proofs.lemmas.Result.{err_from_is_err_and}
 use Rattle.std.proofs.Common.{◌∷◌, [], arith}
 use Rattle.amd_market.proofs.ArrayLemmas.{values-none, values-append, column-none, column-next}
-use Rattle.amd_market.proofs.FaultLemmas.{for-behind}
+use Rattle.amd_market.proofs.FaultLemmas.{for-behind, handed-on}
+use Rattle.amd_market.proofs.StopLemmas.{column-split, values-behind}
 use Rattle.amd_market.proofs.dense.take_column.Goals as goal
 
 pub rows-init : goal.rows-init
@@ -11,8 +11,9 @@ rows-init g c = rw (column-none c.args.first c.args.column) (values-none _ _ _ _
 pub returns-in_err-take_place-clause-fails : goal.returns-in_err-take_place-clause-fails
 returns-in_err-take_place-clause-fails g c =
     let inv = c.rows.invariant in
-    let p = err_from_is_err_and c.from_residual.result c.from_residual.ensures.1 in
-    rw (p.1, p.2) (for-behind _ _ _ inv.lines _ inv.takes c.in_err-take_place.ensures.fails)
+    let split = column-split c.args.first c.args.column c.rows.row c.args.n (omega arith) (omega arith) in
+    handed-on _ c.from_residual.result c.from_residual.ensures.1 (for-behind _ _ _ inv.lines _ inv.takes
+    (λ s h. values-behind _ _ _ _ _ _ split.0 _ _ _ inv s split.1 h) c.in_err-take_place.ensures.fails)
 
 pub rows-preserved : goal.rows-preserved
 rows-preserved g c =

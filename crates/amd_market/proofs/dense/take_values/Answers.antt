@@ -1,15 +1,15 @@
 -- Each turn reads one column more.
 use Rattle.std.proofs.Common.{[], add-one, arith}
-use Rattle.std.proofs.lemmas.Result.{err_from_is_err_and}
 use Rattle.amd_market.proofs.ArrayLemmas.{values-none, values-append, first-within}
-use Rattle.amd_market.proofs.FaultLemmas.{for-behind}
+use Rattle.amd_market.proofs.FaultLemmas.{for-behind, handed-on}
+use Rattle.amd_market.proofs.StopLemmas.{array-split, values-behind}
 use Rattle.amd_market.proofs.dense.take_values.Goals as goal
 
 pub columns-init : goal.columns-init
 columns-init g c = rw c.new-pairs.ensures.items (values-none _ _ _ [])
 
-pub take_column-requires : goal.take_column-requires
-take_column-requires g c =
+pub take_column-requires-clause-rows : goal.take_column-requires-clause-rows
+take_column-requires-clause-rows g c =
     let within = first-within c.args.header.symmetry c.columns.column in
     let first = c.first_row-first.ensures in
     omega (arith, within, first)
@@ -17,8 +17,10 @@ take_column-requires g c =
 pub returns-in_err-take_column-clause-fails : goal.returns-in_err-take_column-clause-fails
 returns-in_err-take_column-clause-fails g c =
     let inv = c.columns.invariant in
-    let p = err_from_is_err_and c.from_residual.result c.from_residual.ensures.1 in
-    rw (p.1, p.2) (for-behind _ _ _ inv.lines _ inv.takes c.in_err-take_column.ensures.fails)
+    let split = array-split c.args.header.symmetry c.args.n c.columns.column (omega arith) in
+    let fails = rw c.first_row-first.ensures at c.in_err-take_column.ensures.fails in
+    handed-on _ c.from_residual.result c.from_residual.ensures.1 (for-behind _ _ _ inv.lines _ inv.takes
+    (λ s h. values-behind _ _ _ _ _ _ split.0 _ _ _ inv s split.1 h) fails)
 
 pub columns-preserved : goal.columns-preserved
 columns-preserved g c =
