@@ -1,20 +1,31 @@
 /* amd.h: the calls of SuiteSparse's AMD over the library rimopaku, with the same names, arguments and numbers, as SuiteSparse 5 and 7
  * have them, for C99 and C++11.
  *
- * A C or C++ program that includes "amd.h" is compiled with the folder of this file first in the include path, and linked with librimopaku,
- * or with libamd_c.a and liblibc_c.a, instead of SuiteSparse's libamd, with no other change. The permutation and the status are the same.
+ * A C or C++ program that includes "amd.h" or <suitesparse/amd.h> is compiled with the folder of this file first in the include path, and
+ * linked with librimopaku, or with libamd_c.a and liblibc_c.a, instead of SuiteSparse's libamd, with no other change. The permutation and
+ * the status are the same.
+ *
+ * What is passed: a square matrix in compressed sparse columns, with columns and rows counted from 0. Only its pattern is read, and that of
+ * A + A' is ordered: one triangle of a symmetric matrix is enough, and entries on the diagonal change nothing. There are no values.
+ * Columns may be unsorted and have duplicates. Nothing is factorized.
+ *
  * What differs:
  *
  *   - Control [AMD_DENSE]: up to n = 1,000,000 a row is dense exactly where it is in SuiteSparse's AMD. Above, the parameter is rounded to
  *     thousandths, and one that is no whole number of them moves the number of entries above which a row is dense by at most
- *     sqrt (n) / 2000 + 1. NaN stands for the default; SuiteSparse does not say what it does then.
+ *     sqrt (n) / 2000 + 1. NaN stands for the default; SuiteSparse does not say what it does then. Where the parameter times sqrt (n) is too
+ *     large for SuiteSparse's integers, as with infinity (opts.dense = Inf in Octave), no row is dense here. SuiteSparse's AMD converts
+ *     that number to an integer all the same, and then takes each row with more than 16 entries as dense (tried on x86-64): the
+ *     permutation is another one.
  *   - Info [AMD_LNZ] to Info [AMD_NMULTSUBS_LU] saturate at 2^64, and a count above 2^53 is rounded to a double. SuiteSparse adds up
  *     doubles, so its last digits differ there.
  *   - Info [AMD_MEMORY] is what SuiteSparse's AMD would take for such a matrix, and not what this library takes.
  *   - Info [AMD_NCMPA] counts the compactions of this library's workspace.
  *   - amd_order takes a second array of n integers for the inverse permutation. If malloc refuses it, the call returns AMD_OUT_OF_MEMORY,
  *     even if the matrix is not valid.
- *   - The first line that amd_control and amd_info print names this library.
+ *   - amd_control and amd_info print the same texts but for two places. Their first lines are "AMD by rimopaku: approximate minimum degree
+ *     ordering" and "AMD by rimopaku, results:", where SuiteSparse's have "AMD version 2.4.6, May 4, 2016" or a later one. And the four
+ *     lines of amd_info on approximate statistics are one line, "Upper bounds for a factorization of A(P,P) + A(P,P)':".
  *   - There is no amd_malloc or amd_printf, and SuiteSparse_config is not used: memory comes from malloc, and text goes to standard output.
  *
  * What a caller must uphold, as with SuiteSparse: each pointer that is not NULL points to as many numbers as the comment at its function
@@ -107,10 +118,11 @@
 #define AMD_NMULTSUBS_LU 12  /* multiply-subtract steps of LU, at most */
 #define AMD_DMAX 13          /* entries of a column of L with its diagonal, at most */
 
-#define AMD_OK RIMOPAKU_OK
-#define AMD_OUT_OF_MEMORY RIMOPAKU_OUT_OF_MEMORY
-#define AMD_INVALID RIMOPAKU_INVALID
-#define AMD_OK_BUT_JUMBLED RIMOPAKU_OK_BUT_JUMBLED
+/* The statuses, with the numbers of rimopaku.h. They are no names of an enum, which C++20 does not compare with a double of Info. */
+#define AMD_OK 0
+#define AMD_OUT_OF_MEMORY (-1)
+#define AMD_INVALID (-2)
+#define AMD_OK_BUT_JUMBLED 1
 
 /* What the calls for long integers return. */
 #ifndef RIMOPAKU_AMD_LONG_STATUS
