@@ -2,8 +2,8 @@
  *
  *     supernodal_cholesky MATRIX [SOLUTION]
  *
- * MATRIX is a Matrix Market file, `coordinate real symmetric`, of a positive definite matrix. The library orders its rows and tells the
- * supernodes of the factor L. Then everything that the numbers need is reserved once, and A = L L' is factored block by block: each
+ * MATRIX is a Matrix Market file, `coordinate real symmetric`, of a positive definite matrix; or `coordinate pattern symmetric`, which
+ * stands for ones off the diagonal and n on it. The library orders its rows and tells the supernodes of the factor L. Then everything that the numbers need is reserved once, and A = L L' is factored block by block: each
  * supernode is one dense block, in columns, of its own places and the rows below them. The system A x = b is solved, where b[i] is
  * 1 + i / n in the order of the file, and the residual |A x - b| / (|A| |x| + |b|) by greatest absolute values is printed. The solution is
  * written into the file SOLUTION, a number on each line.
@@ -91,17 +91,21 @@ static struct matrix read_matrix(const char *path)
     long long n, columns, count, row, column;
     FILE *file = fopen(path, "r");
     need(file != NULL && fgets(line, sizeof line, file) != NULL, "no file");
-    need(!strncmp(line, "%%MatrixMarket matrix coordinate real symmetric", 47), "no real symmetric matrix in coordinates");
+    int is_pattern = !strncmp(line, "%%MatrixMarket matrix coordinate pattern symmetric", 50);
+    need(is_pattern || !strncmp(line, "%%MatrixMarket matrix coordinate real symmetric", 47), "no real symmetric matrix in coordinates");
     do
         need(fgets(line, sizeof line, file) != NULL, "no sizes");
     while (line[0] == '%');
     need(sscanf(line, "%lld %lld %lld", &n, &columns, &count) == 3 && n > 0 && n == columns && count >= 0, "wrong sizes");
-    struct entry *entry = room(count, sizeof *entry);
+    struct entry *entry = room(count + (is_pattern ? n : 0), sizeof *entry);
     for (int64_t e = 0; e < count; e++) {
-        need(fscanf(file, "%lld %lld %lf", &row, &column, &entry[e].value) == 3, "an entry is missing");
+        need(fscanf(file, "%lld %lld", &row, &column) == 2, "an entry is missing");
         need(1 <= column && column <= row && row <= n, "an entry outside the lower triangle");
-        entry[e].row = row - 1, entry[e].column = column - 1;
+        entry[e].row = row - 1, entry[e].column = column - 1, entry[e].value = row == column ? 0 : 1;
+        need(is_pattern || fscanf(file, "%lf", &entry[e].value) == 1, "a value is missing");
     }
+    for (int64_t j = 0; is_pattern && j < n; j++)
+        entry[count++] = (struct entry){j, j, (double)n};
     fclose(file);
     struct matrix a = in_columns(n, entry, count);
     free(entry);
