@@ -1,13 +1,15 @@
 """The calls of include/rimopaku.h by ctypes, over arrays of numpy. Called by the package.
 
-The shared library is the one that the environment variable RIMOPAKU_LIBRARY names, or that of the wheel, or the
-installed one. ctypes gives up the interpreter's lock during a call, so threads can order at the same time.
+The shared library is the one that the environment variable RIMOPAKU_LIBRARY names, or that of the wheel, or, where the
+package stands in a clone of the repository, that of prebuilt, or the installed one. ctypes gives up the interpreter's
+lock during a call, so threads can order at the same time.
 """
 
 from __future__ import annotations
 
 import ctypes
 import os
+import platform
 from ctypes import POINTER, c_bool, c_int32, c_int64, c_size_t, c_void_p
 from pathlib import Path
 from typing import TYPE_CHECKING, Any, List, NamedTuple, NoReturn, Tuple
@@ -66,9 +68,12 @@ class RoomTooSmall(Exception):
 
 
 def _load() -> ctypes.CDLL:
-    named = os.environ.get("RIMOPAKU_LIBRARY")
-    own = Path(__file__).with_name("librimopaku.so")
-    library = ctypes.CDLL(named or (str(own) if own.exists() else "librimopaku.so.1"))
+    here = Path(__file__).resolve()
+    found = [here.with_name("librimopaku.so")]
+    if len(here.parents) > 3:
+        found.append(here.parents[3] / "prebuilt" / f"{platform.machine()}-linux" / "librimopaku.so.1")
+    own = next((str(it) for it in found if it.exists()), "librimopaku.so.1")
+    library = ctypes.CDLL(os.environ.get("RIMOPAKU_LIBRARY") or own)
     array: List[Any] = [c_void_p, c_size_t]
     for suffix, number in (("i32", c_int32), ("i64", c_int64)):
         arguments = {
