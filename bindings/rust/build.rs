@@ -1,5 +1,6 @@
-//! Finds the C library. In this order: the folder that RIMOPAKU_LIB_DIR names, the folder `lib/TARGET` of this package,
-//! and pkg-config. A folder has `librimopaku.a`, or `libamd_c.a` and `liblibc_c.a` as the Rattle kit makes them.
+//! Finds the C library. In this order: the folder that RIMOPAKU_LIB_DIR names, the folder `lib/ARCH-linux` of this
+//! package, that folder in `prebuilt` of the repository, and pkg-config. A folder has `librimopaku.a`, or `libamd_c.a`
+//! and `liblibc_c.a` as the Rattle kit makes them.
 
 use std::env;
 use std::path::{Path, PathBuf};
@@ -20,6 +21,15 @@ fn links_folder(folder: &Path) -> bool {
         println!("cargo:rerun-if-changed={}", folder.join(format!("lib{archive}.a")).display());
     }
     true
+}
+
+/// The name of the folder with the archives for a target. They call malloc, realloc and free of any C library.
+fn archives_of(target: &str) -> Option<&'static str> {
+    match target {
+        "x86_64-unknown-linux-gnu" | "x86_64-unknown-linux-musl" => Some("x86_64-linux"),
+        "aarch64-unknown-linux-gnu" | "aarch64-unknown-linux-musl" => Some("aarch64-linux"),
+        _ => None,
+    }
 }
 
 /// Links what pkg-config knows as `rimopaku`; returns whether it knows it.
@@ -54,10 +64,12 @@ fn main() {
         return;
     }
     let target = env::var("TARGET").expect("cargo names the target");
-    let own =
-        PathBuf::from(env::var_os("CARGO_MANIFEST_DIR").expect("cargo names the package")).join("lib").join(&target);
+    let package = PathBuf::from(env::var_os("CARGO_MANIFEST_DIR").expect("cargo names the package"));
+    let is_found = archives_of(&target).map_or(false, |name| {
+        links_folder(&package.join("lib").join(name)) || links_folder(&package.join("../../prebuilt").join(name))
+    });
     let is_native = env::var("HOST").ok().as_deref() == Some(&*target);
-    if !(links_folder(&own) || is_native && links_installed()) {
+    if !(is_found || is_native && links_installed()) {
         panic!("no librimopaku for {target}: install it, or name the folder of librimopaku.a in RIMOPAKU_LIB_DIR");
     }
 }

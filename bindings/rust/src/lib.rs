@@ -7,7 +7,8 @@
 //! amd = { package = "rimopaku-amd", version = "1" }
 //! ```
 //!
-//! and gets the same permutations, up to three times as fast. What differs is listed at [`order`]. Beside them:
+//! with `git = "URL"` of the repository in the place of the version until it is published, and gets the same
+//! permutations, up to three times as fast. What differs is listed at [`order`]. Beside them:
 //!
 //! - [`try_order`] returns an error where memory is refused, in place of ending the program;
 //! - [`order_holding`] places rows that the caller marks last;
@@ -25,6 +26,10 @@
 //! assert_eq!(p_inv, [0, 4, 2, 1, 3]);
 //! assert_eq!(info.lnz, 5);
 //! ```
+//!
+//! What to pass: a square matrix, with rows and columns counted from 0. The pattern of `A + A'` is ordered: one triangle
+//! of a symmetric matrix is enough, the diagonal changes nothing, and there are no values. A permutation comes back;
+//! nothing is factorized.
 //!
 //! A matrix with `n` rows and `n` columns is passed in compressed sparse columns, called a *column form*: `a_p` has
 //! `n + 1` numbers or more; the first is 0; they never descend up to `a_p[n]`; `a_i` has `a_p[n]` numbers or more;
