@@ -14,6 +14,10 @@
  * Everything else is checked, except by rimopaku_amd_2_i32 and rimopaku_amd_2_i64: the arrays and `n` may have any values. No call ends the
  * program. Each block of memory that a call takes is freed before it returns; this is tested, and not proved.
  *
+ * What to pass: a square matrix, with rows and columns counted from 0. The pattern of A + A' is ordered: one triangle of a symmetric matrix
+ * is enough, entries on the diagonal change nothing, and there are no values. A permutation comes back, in all tests that of SuiteSparse's
+ * AMD and of the Rust crate amd. Nothing is factorized.
+ *
  * A matrix with n rows and n columns is passed in compressed sparse columns, called a column form: `a_p` has n + 1 numbers or more; the
  * first is 0; they never descend up to a_p[n]; a_p[n] is at most a_i_len; and column j has the rows a_i[a_p[j]] to a_i[a_p[j + 1] - 1],
  * each from 0 to n - 1. Columns may be unsorted and have duplicates. What follows in either array is ignored.
