@@ -20,16 +20,16 @@ typedef long INT;
 
 enum { ROWS = 400, ENTRIES = 8000, INFO = 20, UNTOUCHED = -77 };
 
-/* A library, by its symbols. */
+/* A library, by its symbols. A status is read as an int, as SuiteSparse 7 returns it in both widths. */
 struct library {
-    INT (*order)(INT, const INT *, const INT *, INT *, double *, double *);
+    int (*order)(INT, const INT *, const INT *, INT *, double *, double *);
     void (*two)(INT, INT *, INT *, INT *, INT, INT, INT *, INT *, INT *, INT *, INT *, INT *, INT *, double *, double *);
     void (*one)(INT, const INT *, const INT *, INT *, INT *, INT *, INT, INT *, double *, double *);
     size_t (*aat)(INT, const INT *, const INT *, INT *, INT *, double *);
     void (*preprocess)(INT, const INT *, const INT *, INT *, INT *, INT *, INT *);
     void (*postorder)(INT, INT *, INT *, INT *, INT *, INT *, INT *, INT *);
     INT (*post_tree)(INT, INT, INT *, const INT *, INT *, INT *);
-    INT (*valid)(INT, INT, const INT *, const INT *);
+    int (*valid)(INT, INT, const INT *, const INT *);
     void (*defaults)(double *);
 };
 
