@@ -19,7 +19,7 @@ use Rattle.core.specs.contracts.option.Option as option
 use Rattle.linked_list_allocator.specs.Ownership.{bytes_at}
 use Rattle.linked_list_allocator.proofs.Values.{sized_val, sized_own, sized_told}
 use Rattle.linked_list_allocator.proofs.Nodes.{retypes}
-use Rattle.amd_lent.specs.Pieces.{IsWhole, whole_size}
+use Rattle.amd_lent.specs.Pieces.{whole_size}
 use Rattle.amd_lent.specs.contracts.piece.Piece as piece
 
 abbrev pub Taken : RattleType
