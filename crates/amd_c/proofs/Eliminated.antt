@@ -7,9 +7,9 @@ use Rattle.amd_types.specs.declared.amd.Info.{Info}
 use Rattle.amd_workspace.specs.Laying.{IsLaidOut}
 use Rattle.amd_engine.specs.InPlace.{AnswersInPlace, LaysGraph}
 use Rattle.amd_engine.proofs.RaisedLists.{answers_same}
-use Rattle.amd_c.specs.declared.records.Parameters.{Parameters}
+use Rattle.amd_calls.specs.declared.records.Parameters.{Parameters}
 use Rattle.amd_c.specs.Laid.{Eliminated, HoldsElimination}
-use Rattle.amd_c.specs.Numbers.{statistics_of}
+use Rattle.amd_calls.specs.Numbers.{statistics_of}
 use Rattle.amd_c.proofs.SameLists.{lays_copied}
 
 -- an answer to a copy is one to the caller's lists

@@ -1,9 +1,3 @@
--- What an ordering leaves, and the same in the numbers of C.
-pub mod Leaving
--- What the columns of a factor leave, and the same in the numbers of C.
-pub mod ColumnsLeft
--- What the counts of those columns leave, and the same in the numbers of C.
-pub mod CountsLeft
 -- What the degrees and the row form leave, and the same in the numbers of C.
 pub mod PatternsLeft
 -- The walk of the test of a forest, and the marks and ranks that it leaves.

@@ -3,11 +3,11 @@ use Rattle.std.proofs.Common.{ℤ, List, ◌≡◌, ◌∙◌, ap, subst, to_z, 
 use Rattle.std.specs.Prelude.{Result}
 use Rattle.std.proofs.lemmas.List.{map-id}
 use Rattle.amd_symbolic.specs.declared.factor.Fault.{Fault}
-use Rattle.amd_c.specs.Columns.{number_of_end}
+use Rattle.amd_calls.specs.Columns.{number_of_end}
 use Rattle.amd_c.specs.Patterns.{Counted, counted, LeavesDegrees, DegreesInto, RowArrays, row_arrays, LeavesRowForm, RowFormInto}
-use Rattle.amd_c.specs.declared.records.Statistics.{Statistics}
-use Rattle.amd_c.proofs.Leaving.{values}
-use Rattle.amd_c.proofs.ColumnsLeft.{number_comes_back}
+use Rattle.amd_calls.specs.declared.records.Statistics.{Statistics}
+use Rattle.amd_calls.proofs.Leaving.{values}
+use Rattle.amd_calls.proofs.ColumnsLeft.{number_comes_back}
 
 -- what a call leaves in the values is what it leaves in the integers
 pub degrees_into : (m n : ℤ) (a_p a_i xs ys : List ℤ) (before after : Statistics) (outcome : Result (Unit {0}) Fault) (number : ℤ) →

@@ -3,11 +3,11 @@ use Rattle.std.proofs.Common.{ℤ, List, ◌≡◌, ◌∙◌, ap, subst, to_z, 
 use Rattle.std.specs.Prelude.{Result}
 use Rattle.std.proofs.lemmas.List.{map-id}
 use Rattle.amd_symbolic.specs.declared.factor.Fault.{Fault}
-use Rattle.amd_c.specs.Columns.{number_of_end}
+use Rattle.amd_calls.specs.Columns.{number_of_end}
 use Rattle.amd_c.specs.Supernodal.{Blocks, LeavesSizes, LeavesSupernodes, SizesInto, SupernodesInto, blocks}
-use Rattle.amd_c.specs.declared.records.SupernodeSizes.{SupernodeSizes}
-use Rattle.amd_c.proofs.ColumnsLeft.{number_comes_back}
-use Rattle.amd_c.proofs.Leaving.{values}
+use Rattle.amd_calls.specs.declared.records.SupernodeSizes.{SupernodeSizes}
+use Rattle.amd_calls.proofs.ColumnsLeft.{number_comes_back}
+use Rattle.amd_calls.proofs.Leaving.{values}
 
 blocks_of_values : (first ptr rows parent : List ℤ) →
     blocks (values first) (values ptr) (values rows) (values parent) ≡ blocks first ptr rows parent

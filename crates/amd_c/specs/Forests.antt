@@ -7,7 +7,7 @@ use Rattle.amd_postorder.specs.Trees.{IsElementForest, IsPostorderOf, is_tree_el
 use Rattle.amd_types.specs.Links.{named}
 use Rattle.amd_types.specs.declared.amd.Status.{Status}
 use Rattle.amd_types.specs.declared.amd.Status.TheVariants.{OK, Invalid, OkButJumbled, OutOfMemory}
-use Rattle.amd_c.specs.Numbers.{number_of}
+use Rattle.amd_calls.specs.Numbers.{number_of}
 
 -- ---- the test
 

@@ -7,9 +7,9 @@ use Rattle.amd_types.specs.Records.{fresh_info}
 use Rattle.amd_types.specs.declared.amd.Info.{Info}
 use Rattle.amd_types.specs.declared.amd.Status.{Status}
 use Rattle.amd_types.specs.declared.amd.Status.TheVariants.{OK, Invalid, OkButJumbled, OutOfMemory}
-use Rattle.amd_c.specs.declared.records.Parameters.{Parameters}
-use Rattle.amd_c.specs.declared.records.Statistics.{Statistics}
-use Rattle.amd_c.specs.Numbers.{number_of, statistics_of}
+use Rattle.amd_calls.specs.declared.records.Parameters.{Parameters}
+use Rattle.amd_calls.specs.declared.records.Statistics.{Statistics}
+use Rattle.amd_calls.specs.Numbers.{number_of, statistics_of}
 
 -- what stands in a caller's arrays: of each row the number of rows of its block, the permutation and its inverse, the
 -- number of rows of each front, and the statistics

@@ -11,9 +11,9 @@ use Rattle.amd_symbolic.specs.declared.factor.Fault.TheVariants.{NotColumnForm, 
 use Rattle.amd_symbolic.specs.declared.factor.Fault.TheVariants.{OutOfMemory}
 use Rattle.amd_types.specs.Records.{fresh_info}
 use Rattle.amd_types.specs.declared.amd.Info.{Info}
-use Rattle.amd_c.specs.Columns.{number_of_end}
-use Rattle.amd_c.specs.Numbers.{statistics_of}
-use Rattle.amd_c.specs.declared.records.Statistics.{Statistics}
+use Rattle.amd_calls.specs.Columns.{number_of_end}
+use Rattle.amd_calls.specs.Numbers.{statistics_of}
+use Rattle.amd_calls.specs.declared.records.Statistics.{Statistics}
 
 -- ---- the degrees
 

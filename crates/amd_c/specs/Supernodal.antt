@@ -7,8 +7,8 @@ use Rattle.amd_symbolic.specs.Supernodes.{IsSupernodesOf}
 use Rattle.amd_symbolic.specs.declared.factor.Fault.{Fault}
 use Rattle.amd_symbolic.specs.declared.factor.Fault.TheVariants.{NotColumnForm, NotPermutation, RoomTooSmall}
 use Rattle.amd_symbolic.specs.declared.factor.Fault.TheVariants.{OutOfMemory}
-use Rattle.amd_c.specs.Columns.{number_of_end, parent_number}
-use Rattle.amd_c.specs.declared.records.SupernodeSizes.{SupernodeSizes}
+use Rattle.amd_calls.specs.Columns.{number_of_end, parent_number}
+use Rattle.amd_calls.specs.declared.records.SupernodeSizes.{SupernodeSizes}
 
 -- what stands in a caller's arrays for the beginnings, the pointers, the rows and the parents
 pub record Blocks : Type 0 where

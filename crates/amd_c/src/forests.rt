@@ -12,7 +12,7 @@ ghost use Rattle.amd_c.specs.Forests.{LeavesPostorder, MarksRise};
 ghost use Rattle.amd_c.specs.Forests.{StaysInside, parent_in};
 
 use crate::patterns::has_row_places;
-use crate::signed::SignedIndex;
+use amd_calls::signed::SignedIndex;
 use amd_postorder::postorder::postorder;
 use amd_types::amd::Status;
 use amd_types::internal::value_at;

@@ -5,23 +5,23 @@ ghost use Rattle.std.specs.Prelude.{◌≡◌, ◌<◌, ◌+◌, ◌^◌, ℕ, n
 ghost use Rattle.amd_model.specs.Graph.{Graph};
 ghost use Rattle.amd_workspace.specs.Laying.{IsLaidOut};
 ghost use Rattle.amd_engine.specs.InPlace.{LaysGraph};
-ghost use Rattle.amd_c.specs.Calls.{ClassifiesInput, OrdersInto, memory};
-ghost use Rattle.amd_c.specs.Columns.{ColumnsInto, arrays};
-ghost use Rattle.amd_c.specs.Counting.{CountsInto, tallies};
+ghost use Rattle.amd_calls.specs.Calls.{ClassifiesInput, OrdersInto, memory};
+ghost use Rattle.amd_calls.specs.Columns.{ColumnsInto, arrays};
+ghost use Rattle.amd_calls.specs.Counting.{CountsInto, tallies};
 ghost use Rattle.amd_c.specs.Forests.{PostorderInto};
 ghost use Rattle.amd_c.specs.Laid.{EliminatesInto, HasPlacesFor, elimination};
 ghost use Rattle.amd_c.specs.Patterns.{DegreesInto, RowFormInto, counted, row_arrays};
 ghost use Rattle.amd_c.specs.Supernodal.{SizesInto, SupernodesInto, blocks};
 
-use crate::counting::counts_into;
-use crate::factors::{columns_into, number_of_end};
 use crate::forests::postorder_into;
 use crate::narrow::eliminate_narrow;
 use crate::patterns::{degrees_into, row_form_into};
-use crate::records::{Needs, Parameters, Statistics, SupernodeSizes, number_of};
 use crate::supernodal::{supernode_sizes_into, supernodes_into};
-use crate::writing::order_into;
 use amd::valid::valid;
+use amd_calls::counting::counts_into;
+use amd_calls::factors::{columns_into, number_of_end};
+use amd_calls::records::{Needs, Parameters, Statistics, SupernodeSizes, number_of};
+use amd_calls::writing::order_into;
 use std::alloc::Global;
 
 /// Orders a matrix, as `order` of the crate `amd`, and returns the number of the status.

@@ -6,23 +6,18 @@
 //! arrays, and a call returns the number of a status. The header `include/rimopaku.h` says what a caller must uphold.
 #![tactic(auto)]
 
-mod counting;
-mod factors;
 mod forests;
 pub mod int32;
 pub mod int64;
 mod laid;
 mod narrow;
 mod patterns;
-pub mod records;
-mod signed;
 mod supernodal;
-mod writing;
 
 ghost use Rattle.std.specs.Prelude.{◌≡◌, pos, true};
 
-use crate::records::Parameters;
 use amd::Control;
+use amd_calls::records::Parameters;
 
 /// Writes the default parameters: 10000 thousandths, aggressive absorption.
 ///

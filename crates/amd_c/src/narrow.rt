@@ -8,7 +8,7 @@ ghost use Rattle.amd_workspace.specs.Laying.{IsLaidOut};
 ghost use Rattle.amd_engine.specs.InPlace.{AnswersInPlace, LaysGraph};
 ghost use Rattle.amd_c.specs.Laid.{HasPlacesFor, LeavesElimination, elimination};
 
-use crate::records::{Parameters, Statistics, statistics_of};
+use amd_calls::records::{Parameters, Statistics, statistics_of};
 use amd_engine::amd_2::amd_2_from;
 use amd_types::amd::{Control, Info, Status};
 use amd_words::{Cell, Word, cell_of, put_word, word_at};

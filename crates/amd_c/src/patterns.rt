@@ -7,8 +7,8 @@ ghost use Rattle.amd_c.specs.Patterns.{HasPointerPlaces, HasRowPlaces, IsSortedF
 ghost use Rattle.amd_c.specs.Patterns.{counted, row_arrays};
 ghost use Rattle.amd_model.specs.Input.Columns.{IsInput};
 
-use crate::factors::{has_numbers, write_numbers};
-use crate::records::{Statistics, statistics_of};
+use amd_calls::factors::{has_numbers, write_numbers};
+use amd_calls::records::{Statistics, statistics_of};
 use amd_input::aat::aat;
 use amd_input::preprocess::preprocess;
 use amd_input::valid::valid;

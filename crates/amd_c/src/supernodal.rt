@@ -6,8 +6,8 @@ ghost use Rattle.std.specs.Prelude.{◌≡◌, ◌↔◌, IsTrue, map};
 ghost use Rattle.amd_symbolic.specs.Partitions.{OrderedMatrix, ordered_matrix};
 ghost use Rattle.amd_c.specs.Supernodal.{HasBlockPlaces, LeavesSizes, LeavesSupernodes, blocks};
 
-use crate::factors::{has_numbers, has_parents, write_first_numbers, write_first_parents};
-use crate::records::SupernodeSizes;
+use amd_calls::factors::{has_numbers, has_parents, write_first_numbers, write_first_parents};
+use amd_calls::records::SupernodeSizes;
 use amd_symbolic::{Fault, supernode_partition, supernode_sizes, write_rows};
 use amd_types::index::Index;
 use num_traits::PrimInt;

@@ -6,7 +6,7 @@ ghost use Rattle.std.specs.Prelude.{◌≤◌};
 
 use crate::int32::{rimopaku_supernode_sizes_i32, rimopaku_supernodes_i32};
 use crate::int64::{rimopaku_supernode_sizes_i64, rimopaku_supernodes_i64};
-use crate::records::SupernodeSizes;
+use amd_calls::records::SupernodeSizes;
 use std::alloc::Global;
 
 /// Sizes in which no call has written.

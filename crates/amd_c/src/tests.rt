@@ -9,9 +9,9 @@ use crate::int64::{
     rimopaku_aat_i64, rimopaku_columns_i64, rimopaku_counts_i64, rimopaku_order_holding_i64,
     rimopaku_order_i64, rimopaku_postorder_i64, rimopaku_preprocess_i64, rimopaku_valid_i64,
 };
-use crate::records::{Needs, Parameters, Statistics, statistics_of};
 use crate::rimopaku_defaults;
 use amd::Info;
+use amd_calls::records::{Needs, Parameters, Statistics, statistics_of};
 
 /// The parameters of a caller who chooses nothing.
 fn defaults() -> Parameters {

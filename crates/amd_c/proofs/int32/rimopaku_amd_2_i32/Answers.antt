@@ -3,7 +3,7 @@ use Rattle.std.proofs.Common.{negsuc, refl, sym, rules, ◌≡◌, ◌∙◌, SF
 use Rattle.std.proofs.lemmas.Int.{to_z-of_z}
 use Rattle.amd_types.specs.declared.amd.Status.{Status}
 use Rattle.amd_types.specs.declared.amd.Status.TheVariants.{OK, Invalid, OkButJumbled, OutOfMemory}
-use Rattle.amd_c.specs.Numbers.{number_of}
+use Rattle.amd_calls.specs.Numbers.{number_of}
 use Rattle.amd_c.proofs.int32.rimopaku_amd_2_i32.Goals as goal
 
 refused : (status : Status) → number_of status ≡ negsuc 0 → status ≡ OutOfMemory

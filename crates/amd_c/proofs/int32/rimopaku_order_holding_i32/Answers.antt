@@ -1,7 +1,7 @@
 use Rattle.std.proofs.Common.{w32}
 use Rattle.std.specs.Prelude.{Some}
 use Rattle.std.proofs.lemmas.Int.{to_z-of_z}
-use Rattle.amd_c.proofs.Leaving.{orders_into}
+use Rattle.amd_calls.proofs.Leaving.{orders_into}
 use Rattle.amd_c.proofs.int32.rimopaku_order_holding_i32.Goals as goal
 
 pub returns : goal.returns

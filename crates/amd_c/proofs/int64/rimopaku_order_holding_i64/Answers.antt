@@ -1,7 +1,7 @@
 use Rattle.std.proofs.Common.{w64}
 use Rattle.std.specs.Prelude.{Some}
 use Rattle.std.proofs.lemmas.Int.{to_z-of_z}
-use Rattle.amd_c.proofs.Leaving.{orders_into}
+use Rattle.amd_calls.proofs.Leaving.{orders_into}
 use Rattle.amd_c.proofs.int64.rimopaku_order_holding_i64.Goals as goal
 
 pub returns : goal.returns

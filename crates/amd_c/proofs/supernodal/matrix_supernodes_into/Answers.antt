@@ -5,9 +5,9 @@ use Rattle.std.proofs.lemmas.List.{length-map}
 use Rattle.amd_types.specs.Counts.{counts}
 use Rattle.amd_symbolic.proofs.PartitionEnds.{partition_of, rows_end}
 use Rattle.amd_symbolic.proofs.TypedRows.{count-length}
-use Rattle.amd_c.specs.Columns.{parent_number}
+use Rattle.amd_calls.specs.Columns.{parent_number}
 use Rattle.amd_c.specs.Supernodal.{HasBlockPlaces}
-use Rattle.amd_c.proofs.ColumnsLeft.{front_values}
+use Rattle.amd_calls.proofs.ColumnsLeft.{front_values}
 use Rattle.amd_c.proofs.Parted.{passes}
 use Rattle.amd_c.proofs.supernodal.matrix_supernodes_into.Goals as goal
 use mathlib.Core.List.{not-mem-nil}

@@ -1,6 +1,0 @@
-use Rattle.std.proofs.Common.{ℕ, ◌<◌, pos}
-use Rattle.std.specs.Prelude.{slice_index}
-use Rattle.amd_c.proofs.factors.has_numbers.Given as goal
-
-abbrev pub invariant-counts : goal.invariant-counts
-invariant-counts g l = (i : ℕ) → i < l.k → g.I.Index.fits (pos (slice_index l.counts i))

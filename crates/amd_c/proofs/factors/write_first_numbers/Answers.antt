@@ -1,7 +1,0 @@
-use Rattle.std.proofs.Common.{length, pos, refl}
-use Rattle.amd_c.proofs.ColumnsLeft.{front_values}
-use Rattle.amd_c.proofs.factors.write_first_numbers.Goals as goal
-
-pub returns : goal.returns
-returns g c = front_values g.I.Index.value pos c.write_numbers.new.numbers c.args.numbers.now c.args.counts.now (length c.args.counts.now)
-    c.write_numbers.ensures refl

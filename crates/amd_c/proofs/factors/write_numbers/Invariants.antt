@@ -1,8 +1,0 @@
-use Rattle.std.proofs.Common.{◌≡◌, length, map, pos, take}
-use Rattle.amd_c.proofs.factors.write_numbers.Given as goal
-
-abbrev pub invariant-counts : goal.invariant-counts
-invariant-counts g l = record {
-  size : length l.numbers ≡ length l.counts;
-  items : map g.I.Index.value (take l.k l.numbers) ≡ map pos (take l.k l.counts);
-}

@@ -1,0 +1,6 @@
+-- What an ordering leaves, and the same in the numbers of C.
+pub mod Leaving
+-- What the columns of a factor leave, and the same in the numbers of C.
+pub mod ColumnsLeft
+-- What the counts of those columns leave, and the same in the numbers of C.
+pub mod CountsLeft

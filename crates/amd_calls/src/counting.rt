@@ -1,0 +1,74 @@
+// Writes the counts of a factor's columns into a caller's arrays, for any integer type and any allocator. The arrays and
+// the record are written last, so they stay as they were where there is a fault.
+
+ghost use Rattle.std.specs.Prelude.{◌≡◌, map};
+ghost use Rattle.amd_model.specs.Figures.{cut};
+ghost use Rattle.amd_calls.specs.Counting.{LeavesCounts, needs_of, tallies};
+
+use crate::factors::{has_numbers, has_parents, write_numbers, write_parents};
+use crate::records::Needs;
+use crate::writing::have_places;
+use amd_symbolic::needs::Need;
+use amd_symbolic::{Fault, counts};
+use num_traits::PrimInt;
+use std::alloc::Allocator;
+
+/// A figure, or the greatest count where the figure exceeds it.
+#[tactic(auto, unfolding(amd_model::specs::Figures::cut))]
+fn cut_to_count(figure: u128) -> usize
+    ensures { result ≡ cut figure }
+{
+    figure.min(usize::MAX as u128) as usize
+}
+
+/// What a factor needs, each figure cut at the greatest count.
+fn needs_of(need: &Need) -> Needs
+    ensures { result ≡ needs_of need.now }
+{
+    Needs {
+        lnz: cut_to_count(need.lnz),
+        n_mult_subs_ldl: cut_to_count(need.n_mult_subs_ldl),
+        n_mult_subs_lu: cut_to_count(need.n_mult_subs_lu),
+        d_max: cut_to_count(need.d_max),
+    }
+}
+
+/// Writes how many entries each column of the factor of a matrix has under the order `p`, and what the factor needs.
+///
+/// The input is as that of `counts` of the crate `amd_symbolic`. The number of entries of each column is written into
+/// `sizes`, and the parents into `parent`, with -1 for none. Each of the two has `n` places. What the factor needs is
+/// written into `needs`, each figure cut at the greatest count.
+///
+/// # Errors
+///
+/// Those of `counts`; all stays as it was. `NotColumnForm` also where `sizes` or `parent` has not `n` places.
+///
+/// Source: Rose, Tarjan and Lueker 1976; Liu 1986; Gilbert, Ng and Peyton 1994.
+pub fn counts_into<I: PrimInt, A: Allocator + Copy>(
+    alloc: A,
+    n: I,
+    a_p: &[I],
+    a_i: &[I],
+    p: &[I],
+    sizes: &mut [I],
+    parent: &mut [I],
+    needs: &mut Needs,
+) -> Result<(), Fault>
+    // A number of a primitive type is always in range.
+    requires fits { I.fits (I.value n) }
+    ensures { LeavesCounts (I.value n) (map I.value a_p.now) (map I.value a_i.now) (map I.value p.now)
+        (tallies (map I.value sizes.old) (map I.value parent.old) needs.old)
+        (tallies (map I.value sizes.new) (map I.value parent.new) needs.new) result }
+{
+    if !have_places(n, sizes, parent) {
+        return Err(Fault::NotColumnForm);
+    }
+    let counted = counts(alloc, n, a_p, a_i, p)?;
+    if !has_numbers::<I>(&counted.sizes) || !has_parents::<I>(&counted.parent) {
+        return Err(Fault::OutOfMemory);
+    }
+    write_numbers(&counted.sizes, sizes);
+    write_parents(&counted.parent, parent);
+    *needs = needs_of(&counted.need);
+    Ok(())
+}

@@ -1,0 +1,73 @@
+// Writes an ordering into a caller's arrays, for any integer type and any allocator. The arrays and the record are
+// written last, so they stay as they were where there is no ordering.
+
+ghost use Rattle.std.specs.Prelude.{◌↔◌, IsTrue, map};
+ghost use Rattle.std.specs.Option.{option_copied};
+ghost use Rattle.amd_calls.specs.Calls.{HasPlaces, OrdersInto, memory};
+
+use crate::records::{Parameters, Statistics, number_of, statistics_of};
+use amd::{Control, Status, order_marked};
+use amd_types::index::Index;
+use amd_types::internal::to_count;
+use num_traits::PrimInt;
+use std::alloc::Allocator;
+
+/// Whether each of two arrays has `n` places.
+pub fn have_places<I: Index>(n: I, p: &[I], p_inv: &[I]) -> bool
+    ensures { IsTrue result ↔ HasPlaces (I.value n) (map I.value p.now) (map I.value p_inv.now) }
+{
+    match to_count(n) {
+        Some(count) => p.len() == count && p_inv.len() == count,
+        None => false,
+    }
+}
+
+/// Orders a matrix into the caller's arrays, with or without marks of rows to hold last, and returns the number of the
+/// status.
+///
+/// The input is as that of `order` of the crate `amd`, and with marks as that of `order_holding`: `hold` then has one
+/// for each of the `n` rows. The permutation is written into `p`, its inverse into `p_inv`, and what the ordering tells
+/// into `statistics`. Each of the two arrays has `n` places. The status is `OkButJumbled` where some column is out of
+/// order or has a duplicate, else `OK`.
+///
+/// # Errors
+///
+/// A status that is an error; all stays as it was. `Invalid` exactly where `p` or `p_inv` has not `n` places, or
+/// `order`, with marks `order_holding`, returns it. `OutOfMemory` as they do.
+///
+/// Source: AMD user guide; Amestoy, Davis and Duff 1996 and 2004.
+pub fn order_into<I: PrimInt, A: Allocator + Copy>(
+    alloc: A,
+    n: I,
+    a_p: &[I],
+    a_i: &[I],
+    parameters: &Parameters,
+    hold: Option<&[bool]>,
+    p: &mut [I],
+    p_inv: &mut [I],
+    statistics: &mut Statistics,
+) -> i32
+    // A number of a primitive type is always in range.
+    requires fits { I.fits (I.value n) }
+    ensures { OrdersInto (option_copied hold.entry) (I.value n) parameters.now
+        (map I.value a_p.now) (map I.value a_i.now)
+        (memory (map I.value p.old) (map I.value p_inv.old) statistics.old)
+        (memory (map I.value p.new) (map I.value p_inv.new) statistics.new) result }
+{
+    if !have_places(n, p, p_inv) {
+        return number_of(&Status::Invalid);
+    }
+    let control = Control {
+        dense: parameters.dense,
+        aggressive: parameters.aggressive,
+    };
+    match order_marked(alloc, n, a_p, a_i, &control, hold) {
+        Ok((rows, places, info)) => {
+            p.copy_from_slice(&rows);
+            p_inv.copy_from_slice(&places);
+            *statistics = statistics_of(&info);
+            number_of(&info.status)
+        }
+        Err(status) => number_of(&status),
+    }
+}
