@@ -1,0 +1,169 @@
+// What runs beside the page: it reads files, calls the proved module, and counts what is drawn. The page sends one message for
+// each task, with an id that comes back.
+import { bytes } from "./bytes.js";
+import { NotPermutation, OutOfMemory, callsOf } from "./calls.js";
+import { FileFault, looksLikePermutation, readMatrix, readPermutation } from "./matrix.js";
+import { counted, kindAt, symmetrized, treeLayout, treeRaster } from "./pattern.js";
+import { SAMPLES } from "./samples.js";
+
+// A factor with more entries is counted, and not drawn: that many take half a second to count into pixels.
+const MOST_DRAWN = 60_000_000;
+
+let calls;
+const state = { matrix: undefined, pattern: undefined, orders: {}, layouts: {} };
+
+const tell = (id, message, transfer = []) => postMessage({ id, ...message }, transfer);
+const progress = (id, stage, part) => tell(id, { kind: "progress", stage, part });
+
+async function bytesOf(file, name) {
+  if (!/\.gz$/i.test(name)) return new Uint8Array(await file.arrayBuffer());
+  try {
+    const plain = file.stream().pipeThrough(new DecompressionStream("gzip"));
+    return new Uint8Array(await new Response(plain).arrayBuffer());
+  } catch {
+    throw new FileFault(0, "this is no gzip file, or it is cut off");
+  }
+}
+
+/** An order with the exact figures of its factor. */
+function measured(p, pInv, info) {
+  const { n, pointers, indices } = state.matrix;
+  const { sizes, parent, ...needs } = calls.counts(n, pointers, indices, p);
+  return { p, pInv, info, sizes, parent, needs };
+}
+
+/** The same with the pattern of the factor, which is written when it is first drawn, if it is small enough. */
+function drawnOrder(key) {
+  const order = state.orders[key];
+  if (order.rows === undefined && isDrawn(order)) {
+    const { n, pointers, indices } = state.matrix;
+    const factor = calls.columns(n, pointers, indices, order.p, { room: order.needs.lnz });
+    Object.assign(order, { pointers: factor.pointers, rows: factor.rows });
+  }
+  return order;
+}
+
+const isDrawn = (order) => order.needs.lnz <= MOST_DRAWN;
+
+function inverseOf(p) {
+  const inverse = new Int32Array(p.length);
+  for (let k = 0; k < p.length; k++) inverse[p[k]] = k;
+  return inverse;
+}
+
+const figuresOf = (order) => ({ ...order.needs, isDrawn: isDrawn(order), info: order.info });
+
+function keep(key, p, pInv, info) {
+  state.orders[key] = measured(p, pInv, info);
+  delete state.layouts[key];
+  return figuresOf(state.orders[key]);
+}
+
+function identity(n, isReversed) {
+  return Int32Array.from({ length: n }, (_, k) => (isReversed ? n - 1 - k : k));
+}
+
+function open(matrix) {
+  Object.assign(state, { matrix, pattern: undefined, orders: {}, layouts: {} });
+  return { n: matrix.n, entries: matrix.indices.length };
+}
+
+/** The pattern of A + A', which is made when it is first drawn. */
+const patternOf = () => (state.pattern ??= symmetrized(state.matrix));
+
+function ordered(options) {
+  const { n, pointers, indices } = state.matrix;
+  const started = performance.now();
+  const { hold, ...choice } = options;
+  const told = hold.length > 0 ? calls.orderHolding(n, pointers, indices, hold, choice) : calls.order(n, pointers, indices, choice);
+  const milliseconds = performance.now() - started;
+  return { milliseconds, figures: keep("amd", told.p, told.pInv, told.info) };
+}
+
+const tasks = {
+  async open(id, { file, name }) {
+    progress(id, "reading", 0);
+    const data = await bytesOf(file, name);
+    if (state.matrix && looksLikePermutation(data)) return { own: tasks.own(id, { data }) };
+    return { summary: open(readMatrix(data, (part) => progress(id, "reading", part / 2))) };
+  },
+
+  sample(id, { key }) {
+    progress(id, "making the sample", 0);
+    return { summary: open(SAMPLES.find((sample) => sample.key === key).make()) };
+  },
+
+  order(id, { options }) {
+    progress(id, "ordering", 0.6);
+    return ordered(options);
+  },
+
+  /** Counts the natural or the reversed order. */
+  count(id, { key }) {
+    progress(id, `counting the ${key} order`, 0.85);
+    const order = identity(state.matrix.n, key === "reversed");
+    return keep(key, order, order);
+  },
+
+  own(id, { data }) {
+    progress(id, "reading the permutation", 0.5);
+    const p = readPermutation(data, state.matrix.n);
+    return keep("own", p, inverseOf(p));
+  },
+
+  draw(id, { key, box, side }) {
+    const raster = counted(patternOf(), drawnOrder(key), box, side);
+    return { entries: raster.entries, fill: raster.fill, transfer: [raster.entries.buffer, raster.fill.buffer] };
+  },
+
+  at(id, { keys, row, column }) {
+    return keys.map((key) => ({
+      kind: kindAt(patternOf(), drawnOrder(key), row, column),
+      row: state.orders[key].p[row],
+      column: state.orders[key].p[column],
+    }));
+  },
+
+  /** One step of the elimination: what was done before it, and the rows of its front. */
+  step(id, { key, place }) {
+    const { sizes, rows, pointers, p, parent } = drawnOrder(key);
+    let [entries, work] = [0, 0];
+    for (let k = 0; k < place; k++) {
+      entries += sizes[k];
+      work += (sizes[k] * (sizes[k] + 1)) / 2;
+    }
+    const path = [];
+    for (let node = place; node >= 0 && path.length < 100000; node = parent[node]) path.push(node);
+    const front = rows ? rows.slice(pointers[place], pointers[place + 1]) : new Int32Array(0);
+    return { row: p[place], size: sizes[place], parent: parent[place], entries, work, front, path: Int32Array.from(path) };
+  },
+
+  tree(id, { key, width, height }) {
+    const { parent } = state.orders[key];
+    const layout = (state.layouts[key] ??= treeLayout(parent));
+    const told = { depth: layout.depth, leaves: layout.leaves, x: layout.x, y: layout.y };
+    if (parent.length <= 4000) return { ...told, parent };
+    return { ...told, pixels: treeRaster(parent, layout, width, height) };
+  },
+
+  permutation(id, { key }) {
+    return { p: state.orders[key].p };
+  },
+};
+
+function messageOf(fault) {
+  if (fault instanceof FileFault) return { text: fault.message, line: fault.line };
+  if (fault instanceof OutOfMemory || fault instanceof RangeError) return { text: "this browser has not enough memory for that matrix" };
+  if (fault instanceof NotPermutation) return { text: "the numbers do not list each row once" };
+  return { text: String(fault?.message ?? fault) };
+}
+
+onmessage = async ({ data: { id, task, ...given } }) => {
+  try {
+    calls ??= callsOf(await WebAssembly.compile(bytes()));
+    const result = await tasks[task](id, given);
+    tell(id, { kind: "done", result }, result.transfer);
+  } catch (fault) {
+    tell(id, { kind: "fault", ...messageOf(fault) });
+  }
+};
