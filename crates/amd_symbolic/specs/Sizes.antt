@@ -1,8 +1,9 @@
 -- The numbers of entries of the columns of a factor, and its parents.
-use Rattle.std.specs.Prelude.{ℕ, ◌≡◌, ◌+◌, List, Option, map, length}
+use Rattle.std.specs.Prelude.{ℕ, ◌≡◌, ◌+◌, ◌*◌, List, Option, map, length}
 use Rattle.amd_model.specs.Factor.{IsFactor}
-use Rattle.amd_model.specs.Graph.{Graph}
+use Rattle.amd_model.specs.Graph.{Graph, IsGraph}
 use Rattle.amd_symbolic.specs.Columns.{first_of}
+use Rattle.amd_symbolic.specs.Neighbours.{HasEarlier, HasLater}
 use Rattle.amd_symbolic.specs.Orders.{Order}
 
 -- column k of the factor of the graph under the order p of its rows has as many entries as sizes holds at place k, and
@@ -13,13 +14,14 @@ pub record HoldSizes (g : Graph) (p sizes : List ℕ) (parent : List (Option ℕ
   pub sizes_are : sizes ≡ map length columns
   pub parents : parent ≡ map first_of columns
 
--- the lists for the work of a count have a place for each row, and five of them one more
-pub record WorkSizes (o : Order) (order up last size link rank plus minus : List ℕ) : Type 0 where
-  pub orders : length order ≡ length o.rows
-  pub ups : length up ≡ length o.rows
-  pub lasts : length last ≡ length o.rows
-  pub sizes : length size ≡ length o.rows + 1
-  pub links : length link ≡ length o.rows + 1
-  pub ranks : length rank ≡ length o.rows + 1
-  pub more : length plus ≡ length o.rows + 1
-  pub less : length minus ≡ length o.rows + 1
+-- the lists of the earlier and of the later neighbours of each place, for a graph
+pub record AreBothLists (o : Order) (starts earlier later_starts later : List ℕ) : Type 0 where
+  pub laws : IsGraph o.graph
+  pub before : HasEarlier o starts earlier
+  pub behind : HasLater o later_starts later
+
+-- a count has a place for each row in each list that it gives, and its work eight, and five more
+pub record HasCountRoom (o : Order) (parent : List (Option ℕ)) (sizes work : List ℕ) : Type 0 where
+  pub parents : length parent ≡ length o.rows
+  pub sizes_room : length sizes ≡ length o.rows
+  pub work_room : length work ≡ 8 * length o.rows + 5

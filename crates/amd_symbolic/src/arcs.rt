@@ -1,5 +1,6 @@
 // The arcs of a matrix under an order of its rows: each entry off the diagonal gives one, from the later one of its two
-// places to the earlier one. A walk over the entries hands them to a visitor, one at a time. Called by `lists`.
+// places to the earlier one. A walk over the entries hands them to a visitor, one at a time, with the numbers that it
+// writes.
 
 ghost use Rattle.std.specs.Prelude.{◌≡◌, ◌<◌, ◌≤◌, ◌+◌, ◌∷◌, [], ℕ, List, pos, map, length, slice_index};
 ghost use Rattle.amd_model.specs.Input.Columns.{IsColumnForm};
@@ -10,17 +11,18 @@ ghost use Rattle.amd_symbolic.specs.Places.{ArePlaces};
 use amd::internal::count_at;
 use amd_types::index::Index;
 
-/// What takes the arcs of an order of `n` rows, one at a time. What holds of it speaks of `n`, of all arcs that it is
-/// to take, and of those that it took, the last one first.
+/// What takes the arcs of an order of `n` rows, one at a time, and writes two lists of numbers by them. What holds of
+/// it and of the lists speaks of `n`, of all arcs that it is to take, and of those that it took, the last one first.
 pub trait ArcVisitor {
-    ghost holds: { ℕ → List (ℕ × ℕ) → List (ℕ × ℕ) → Self → Type 0 };
+    ghost holds: { ℕ → List (ℕ × ℕ) → List (ℕ × ℕ) → Self → List ℕ → List ℕ → Type 0 };
 
     /// Takes the arc from the place `later` to the place `earlier`.
-    fn arc(&mut self, later: usize, earlier: usize)
-        requires { (n : ℕ) × (all : List (ℕ × ℕ)) × (arcs : List (ℕ × ℕ)) × holds n all arcs self.old ×
-            IsNext n all arcs later earlier }
-        ensures { (n : ℕ) (all : List (ℕ × ℕ)) (arcs : List (ℕ × ℕ)) → holds n all arcs self.old →
-            IsNext n all arcs later earlier → holds n all ((later, earlier) ∷ arcs) self.new };
+    fn arc(&self, starts: &mut [usize], neighbours: &mut [usize], later: usize, earlier: usize)
+        requires { (n : ℕ) × (all : List (ℕ × ℕ)) × (arcs : List (ℕ × ℕ)) ×
+            holds n all arcs self.now starts.old neighbours.old × IsNext n all arcs later earlier }
+        ensures { (n : ℕ) (all : List (ℕ × ℕ)) (arcs : List (ℕ × ℕ)) →
+            holds n all arcs self.now starts.old neighbours.old → IsNext n all arcs later earlier →
+            holds n all ((later, earlier) ∷ arcs) self.now starts.new neighbours.new };
 }
 
 /// The later and the earlier of two places.
@@ -42,17 +44,19 @@ fn column<I: Index, V: ArcVisitor>(
     a_p: &[I],
     a_i: &[I],
     places: &[usize],
-    visitor: &mut V,
+    visitor: &V,
+    starts: &mut [usize],
+    neighbours: &mut [usize],
 )
     requires form { IsColumnForm (pos size) size (map I.value a_p.now) (map I.value a_i.now) }
     requires places { (rows : List ℕ) × ArePlaces size rows places.now }
     requires column_in { column < size }
     requires held { V.holds size (arcs_before places.now (counts (map I.value a_p.now)) (counts (map I.value a_i.now))
         size) (arcs_before places.now (counts (map I.value a_p.now)) (counts (map I.value a_i.now)) column)
-        visitor.old }
+        visitor.now starts.old neighbours.old }
     ensures held { V.holds size (arcs_before places.now (counts (map I.value a_p.now)) (counts (map I.value a_i.now))
         size) (arcs_before places.now (counts (map I.value a_p.now)) (counts (map I.value a_i.now)) (column + 1))
-        visitor.new }
+        visitor.now starts.new neighbours.new }
 {
     let here = places[column];
     let end = count_at(a_p, column + 1);
@@ -60,7 +64,7 @@ fn column<I: Index, V: ArcVisitor>(
         let there = places[count_at(a_i, entry)];
         if there != here {
             let (later, earlier) = in_order(here, there);
-            visitor.arc(later, earlier);
+            visitor.arc(starts, neighbours, later, earlier);
         }
     }
 }
@@ -72,16 +76,19 @@ pub fn walk<I: Index, V: ArcVisitor>(
     a_p: &[I],
     a_i: &[I],
     places: &[usize],
-    visitor: &mut V,
+    visitor: &V,
+    starts: &mut [usize],
+    neighbours: &mut [usize],
 )
     requires form { IsColumnForm (pos size) size (map I.value a_p.now) (map I.value a_i.now) }
     requires places { (rows : List ℕ) × ArePlaces size rows places.now }
     requires held { V.holds size (arcs_before places.now (counts (map I.value a_p.now)) (counts (map I.value a_i.now))
-        size) [] visitor.old }
+        size) [] visitor.now starts.old neighbours.old }
     ensures held { V.holds size (arcs_before places.now (counts (map I.value a_p.now)) (counts (map I.value a_i.now))
-        size) (arcs_before places.now (counts (map I.value a_p.now)) (counts (map I.value a_i.now)) size) visitor.new }
+        size) (arcs_before places.now (counts (map I.value a_p.now)) (counts (map I.value a_i.now)) size)
+        visitor.now starts.new neighbours.new }
 {
     'columns: for j in 0..size {
-        column(size, j, a_p, a_i, places, visitor);
+        column(size, j, a_p, a_i, places, visitor, starts, neighbours);
     }
 }

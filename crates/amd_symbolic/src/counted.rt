@@ -1,13 +1,12 @@
 // What is counted of the columns of a factor: the number of entries of each, the parents, and the figures of the AMD
-// user guide, summed over the columns. Source: Liu 1986 and 1990; AMD user guide (the figures of `Info`). Called by
-// `counting`.
+// user guide, summed over the columns. Source: Liu 1986 and 1990; AMD user guide (the figures of `Info`).
 
-ghost use Rattle.std.specs.Prelude.{◌≡◌, ◌+◌, ◌*◌, ◌/◌, [], length, map, max, List, ℕ, IfOk};
+ghost use Rattle.std.specs.Prelude.{◌≡◌, ◌+◌, ◌*◌, ◌/◌, [], length, map, max, List, ℕ, IfOk, MatchOption};
 ghost use Rattle.amd_model.specs.Graph.{IsGraph};
 ghost use Rattle.amd_symbolic.specs.Neighbours.{HasEarlier};
 ghost use Rattle.amd_symbolic.specs.Orders.{Order};
 ghost use Rattle.amd_symbolic.specs.Counted.{IsCutNeed, TellCounts, wide_cut};
-ghost use Rattle.amd_symbolic.specs.Sizes.{HoldSizes, WorkSizes};
+ghost use Rattle.amd_symbolic.specs.Sizes.{HoldSizes};
 
 use crate::needs::Need;
 use crate::neighbours::turned_lists;
@@ -85,49 +84,11 @@ pub struct Sized<A: Allocator> {
     pub parent: Vec<Option<usize>, A>,
 }
 
-/// The lists for the work of a count, beside what it gives.
-#[derive(Drop)]
-struct WorkLists<A: Allocator> {
-    order: Vec<usize, A>,
-    up: Vec<usize, A>,
-    last: Vec<usize, A>,
-    size: Vec<usize, A>,
-    link: Vec<usize, A>,
-    rank: Vec<usize, A>,
-    plus: Vec<usize, A>,
-    minus: Vec<usize, A>,
-}
-
-/// Takes the memory for these lists, for as many columns as there are `ends`, but one.
-///
-/// # Errors
-///
-/// A refused request for memory.
-fn work_lists<A: Allocator + Copy>(alloc: A, ends: usize) -> Result<WorkLists<A>, AllocError>
-    ghost o: { Order }
-    requires { ends ≡ length o.rows + 1 }
-    ensures { IfOk result (λ w. WorkSizes o w.order.items w.up.items w.last.items w.size.items w.link.items w.rank.items
-        w.plus.items w.minus.items) }
+/// How many numbers the work of a count takes, where that is a number of 64 bits.
+fn work_words(columns: usize) -> Option<usize>
+    ensures { MatchOption result (Unit {0}) (λ words. words ≡ 8 * columns + 5) }
 {
-    let columns = ends - 1;
-    let order = vec![in alloc; 0; columns]?;
-    let up = vec![in alloc; 0; columns]?;
-    let last = vec![in alloc; 0; columns]?;
-    let size = vec![in alloc; 0; ends]?;
-    let link = vec![in alloc; 0; ends]?;
-    let rank = vec![in alloc; 0; ends]?;
-    let plus = vec![in alloc; 0; ends]?;
-    let minus = vec![in alloc; 0; ends]?;
-    Ok(WorkLists {
-        order,
-        up,
-        last,
-        size,
-        link,
-        rank,
-        plus,
-        minus,
-    })
+    columns.checked_mul(8)?.checked_add(5)
 }
 
 /// Takes all memory, and counts by the lists of earlier neighbours.
@@ -149,7 +110,10 @@ pub fn written_sizes<A: Allocator + Copy>(
     let columns = starts.len() - 1;
     let mut sizes = vec![in alloc; 0; columns]?;
     let mut parent = vec![in alloc; None; columns]?;
-    let mut work = work_lists(alloc, starts.len())?;
+    let Some(words) = work_words(columns) else {
+        return Err(AllocError);
+    };
+    let mut work = vec![in alloc; 0; words]?;
     count_by_meetings(
         starts,
         earlier,
@@ -157,14 +121,7 @@ pub fn written_sizes<A: Allocator + Copy>(
         &later.neighbours,
         &mut parent,
         &mut sizes,
-        &mut work.order,
-        &mut work.up,
-        &mut work.last,
-        &mut work.size,
-        &mut work.link,
-        &mut work.rank,
-        &mut work.plus,
-        &mut work.minus,
+        &mut work,
     );
     Ok(Sized { sizes, parent })
 }

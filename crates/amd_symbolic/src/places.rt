@@ -1,7 +1,6 @@
-// The place of each row in an order that a caller hands in, and whether it is one: a permutation of the rows. Called by
-// `columns` of the crate `amd_symbolic`.
+// The place of each row in an order that a caller hands in, and whether it is one: a permutation of the rows.
 
-ghost use Rattle.std.specs.Prelude.{◌≡◌, ℕ, List, map, IfOk, MatchOption};
+ghost use Rattle.std.specs.Prelude.{◌≡◌, ◌<◌, true, false, ℕ, List, length, map, slice_index, IfOk, MatchOption};
 ghost use Rattle.amd_symbolic.specs.Orders.{Permutes};
 ghost use Rattle.amd_types.specs.Counts.{counts};
 ghost use Rattle.amd_symbolic.specs.Places.{ArePlaces};
@@ -9,6 +8,32 @@ ghost use Rattle.amd_symbolic.specs.Places.{ArePlaces};
 use amd::internal::{to_count, value_at};
 use amd_types::index::Index;
 use std::alloc::{AllocError, Allocator};
+
+/// Writes the place of each row in the list `p`, and returns whether that lists each number below the number of places,
+/// once: row `p[k]` has place `k`. Before, each place holds how many places there are, which says that its row was not
+/// met yet; what they hold after a `false` means nothing.
+pub fn place_rows<I: Index>(p: &[I], places: &mut [usize]) -> bool
+    requires unmet { (k : ℕ) → k < length places.old → slice_index places.old k ≡ length places.old }
+    ensures permutation { result ≡ true →
+        Permutes (length places.old) (map I.value p.now) (counts (map I.value p.now)) }
+    ensures places { result ≡ true → ArePlaces (length places.old) (counts (map I.value p.now)) places.new }
+    ensures none { result ≡ false → (rows : List ℕ) → Permutes (length places.old) (map I.value p.now) rows → ⊥ }
+{
+    let size = places.len();
+    if p.len() != size {
+        return false;
+    }
+    'rows: for k in 0..size {
+        let Some(row) = to_count(value_at(p, k)) else {
+            return false;
+        };
+        if row >= size || places[row] != size {
+            return false;
+        }
+        places[row] = k;
+    }
+    true
+}
 
 /// The place of each of `size` rows in the list `p`: row `p[k]` has place `k`. `None` where `p` does not list each
 /// number below `size`, once: it is longer or shorter, or has a number that is negative, too large or repeated. Any
@@ -32,16 +57,9 @@ pub fn places<I: Index, A: Allocator>(
     if p.len() != size {
         return Ok(None);
     }
-    // The number of rows is the place of a row that was not met yet.
     let mut places = vec![in alloc; size; size]?;
-    'rows: for k in 0..size {
-        let Some(row) = to_count(value_at(p, k)) else {
-            return Ok(None);
-        };
-        if row >= size || places[row] != size {
-            return Ok(None);
-        }
-        places[row] = k;
+    if !place_rows(p, &mut places) {
+        return Ok(None);
     }
     Ok(Some(places))
 }

@@ -93,7 +93,8 @@ entries-preserved g c =
             let down : get_or places j 0 ≤ there → (later ≡ there) × (earlier ≡ get_or places j 0) = rw (← row) o.down in
             let differ : there ≢ get_or places j 0 = rw (← row) w.if-there-here.true in
             rw (
-              w.visitor-is,
+              w.starts-is,
+              w.neighbours-is,
               far_arc n _ _ c.requires.form j q c.requires.column_in high order.0 places order.1 from later earlier up down
                   differ,
             )
@@ -103,7 +104,8 @@ entries-preserved g c =
             let same : get_or places (get_or (counts (map g.I.Index.value c.args.a_i.now)) q 0) 0 ≡ get_or places j 0 =
             rw (← row) w.if-there-here.false in
             rw (
-              w.visitor-is,
+              w.starts-is,
+              w.neighbours-is,
               far_same n _ _ c.requires.form j q c.requires.column_in high order.0 places order.1 from
                   (omega (arith, same)) (omega (arith, same)),
             ) c.entries.invariant.held)

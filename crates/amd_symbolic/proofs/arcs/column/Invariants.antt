@@ -9,5 +9,6 @@ invariant-entries g l = record {
   from : get_or (counts (map g.I.Index.value l.a_p)) l.column 0 ≤ l.entry;
   held : g.V.ArcVisitor.holds l.fn.size (arcs_before l.places (counts (map g.I.Index.value l.a_p)) (counts (map g.I.Index.value l.a_i))
       l.fn.size)
-      (so_far l.places (counts (map g.I.Index.value l.a_p)) (counts (map g.I.Index.value l.a_i)) l.column l.entry) l.visitor;
+      (so_far l.places (counts (map g.I.Index.value l.a_p)) (counts (map g.I.Index.value l.a_i)) l.column l.entry) l.visitor
+      l.starts l.neighbours;
 }

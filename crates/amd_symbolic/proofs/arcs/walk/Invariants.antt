@@ -7,4 +7,4 @@ abbrev pub invariant-columns : goal.invariant-columns
 invariant-columns g l =
     g.V.ArcVisitor.holds l.fn.size (arcs_before l.places (counts (map g.I.Index.value l.a_p)) (counts (map g.I.Index.value l.a_i))
     l.fn.size)
-    (arcs_before l.places (counts (map g.I.Index.value l.a_p)) (counts (map g.I.Index.value l.a_i)) l.j) l.visitor
+    (arcs_before l.places (counts (map g.I.Index.value l.a_p)) (counts (map g.I.Index.value l.a_i)) l.j) l.visitor l.starts l.neighbours

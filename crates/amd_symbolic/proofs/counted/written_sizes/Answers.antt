@@ -8,34 +8,26 @@ overflow_sub-columns g c = let room = c.requires.1.1.room in omega (arith, room)
 pub count_by_meetings-requires : goal.count_by_meetings-requires
 count_by_meetings-requires g c =
     let h = c.requires.1.1 in
-    let columns : length c.args.starts.now - 1 ≡ length g.o.rows = (let room = h.room in omega (arith, room)) in
+    let room = h.room in
+    let columns : length c.args.starts.now - 1 ≡ length g.o.rows = omega (arith, room) in
     let parent : length c.deref_mut.result.now ≡ length c.args.starts.now - 1 =
     omega (arith, c.deref_mut.ensures, c.in_ok-parent.ensures) in
     let sizes : length c.deref_mut-2.result.now ≡ length c.args.starts.now - 1 =
     omega (arith, c.deref_mut-2.ensures, c.in_ok-sizes.ensures) in
-    let order : c.deref_mut-3.result.now ≡ c.in_ok-work.work.order.items = search rules in
-    let up : c.deref_mut-4.result.now ≡ c.in_ok-work.work.up.items = search rules in
-    let last : c.deref_mut-5.result.now ≡ c.in_ok-work.work.last.items = search rules in
-    let size : c.deref_mut-6.result.now ≡ c.in_ok-work.work.size.items = search rules in
-    let link : c.deref_mut-7.result.now ≡ c.in_ok-work.work.link.items = search rules in
-    let rank : c.deref_mut-8.result.now ≡ c.in_ok-work.work.rank.items = search rules in
-    let plus : c.deref_mut-9.result.now ≡ c.in_ok-work.work.plus.items = search rules in
-    let minus : c.deref_mut-10.result.now ≡ c.in_ok-work.work.minus.items = search rules in (
-      c.requires.1.0,
-      (
-        h,
-        (
-          rw (c.deref.ensures.value, c.deref-2.ensures.value) c.in_ok-later.ensures,
-          (
-            parent ∙ columns,
-            (sizes ∙ columns, (rw (order, up, last, size, link, rank, plus, minus) c.in_ok-work.ensures)),
-          ),
-        ),
-      ),
+    let words = c.in-Some.ensures in
+    let work : length c.deref_mut-3.result.now ≡ c.in-Some.words =
+    omega (arith, c.deref_mut-3.ensures, c.in_ok-work.ensures) in (
+      record {
+        laws = c.requires.1.0;
+        before = h;
+        behind = rw (c.deref.ensures.value, c.deref-2.ensures.value) c.in_ok-later.ensures;
+      },
+      record {
+        parents = parent ∙ columns;
+        sizes_room = sizes ∙ columns;
+        work_room = omega (arith, work, words, columns);
+      },
     )
-
-pub work_lists-requires : goal.work_lists-requires
-work_lists-requires g c κs inside = (inside, let room = c.requires.1.1.room in omega (arith, room))
 
 pub returns : goal.returns
 returns g c =

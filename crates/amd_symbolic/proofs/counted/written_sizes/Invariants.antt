@@ -5,6 +5,3 @@ ghost-turned_lists g a = g.o
 
 abbrev pub ghost-count_by_meetings : goal.ghost-count_by_meetings
 ghost-count_by_meetings g a = g.o
-
-abbrev pub ghost-work_lists : goal.ghost-work_lists
-ghost-work_lists g a = g.o

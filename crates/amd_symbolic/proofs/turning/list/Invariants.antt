@@ -1,6 +1,8 @@
-use Rattle.std.proofs.Common.{◌++◌}
-use Rattle.amd_symbolic.specs.Arcs.{arcs_to}
+use Rattle.std.proofs.Common.{◌++◌, ℕ, List}
+use Rattle.amd_symbolic.specs.Arcs.{HandsOn, arcs_to}
 use Rattle.amd_symbolic.proofs.turning.list.Given as goal
 
 abbrev pub invariant-earlier : goal.invariant-earlier
-invariant-earlier g l = g.V.ArcVisitor.holds g.at.0 g.at.1 (arcs_to l.j l.earlier l.i-index ++ g.at.2) l.visitor
+invariant-earlier g l = (n : ℕ) (all arcs : List (ℕ × ℕ)) → HandsOn n all arcs l.j l.earlier →
+    g.V.ArcVisitor.holds n all arcs l.visitor l.fn.starts l.fn.neighbours →
+    g.V.ArcVisitor.holds n all (arcs_to l.j l.earlier l.i-index ++ arcs) l.visitor l.starts l.neighbours
