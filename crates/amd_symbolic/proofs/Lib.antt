@@ -15,6 +15,7 @@ pub mod Filling
 pub mod SummedCounts
 pub mod NeighbourLists
 pub mod LaterArcs
+pub mod PlacedOrders
 -- The columns: children, new rows, merging, and columns that stand one behind the other.
 pub mod Descent
 pub mod Tails
@@ -49,6 +50,7 @@ pub mod Vectors
 pub mod TreeLaws
 pub mod Reserved
 pub mod Faults
+pub mod WithinParts
 -- The columns by supernodes: runs of places, what the counts tell of them, and the climbs of the rows.
 pub mod Runs
 pub mod Cutting

@@ -6,6 +6,8 @@ pub mod Factors
 pub mod Counted
 pub mod Needs
 pub mod Laws
+pub mod Unfit
+pub mod Within
 -- Orders of the rows, neighbours, columns in vectors, the elimination tree.
 pub mod Orders
 pub mod Places

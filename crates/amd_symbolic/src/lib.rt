@@ -6,7 +6,8 @@
 //! from [`amd::order`] and the room from its record, and [`analyze_holding`] does the same with rows that a caller
 //! wants last. [`counts`] counts the entries of the columns without writing them; [`analyze_counts`] does so under the
 //! order from [`amd::order`], and [`analyze_counts_holding`] with rows held last. [`needs::need_of`] sums what a factor
-//! needs. [`supernodes`] takes what `columns` takes but a room, and returns the columns by supernodes; [`expand`] makes
+//! needs. A [`FactorWorkspace`] is memory that is taken once: its calls write the same counts and columns, and ask for
+//! none. [`supernodes`] takes what `columns` takes but a room, and returns the columns by supernodes; [`expand`] makes
 //! these columns from them.
 //!
 //! The modules, each over those before it:
@@ -26,6 +27,8 @@
 //!   and the rows climb through these; [`supernode_partition`] and [`write_rows`] do the two apart.
 //! - `room`, `expanding`: [`supernode_sizes`]: how much room they need; [`expand`]: their columns.
 //! - `supernode_laws`: laws of the supernodes.
+//! - `entrance`, `refusal`, `lent`, `inside`, `workspace`: [`FactorWorkspace`]: the input is tested, and counts and
+//!   columns are made with all lists in one block of numbers.
 //! - `laws`: laws of the factor and on the contracts above.
 #![tactic(auto)]
 
@@ -37,13 +40,16 @@ pub mod children;
 pub mod column;
 pub mod counted;
 pub mod counting;
+pub mod entrance;
 pub mod expanding;
 pub mod factor;
 pub mod fill;
 pub mod forms;
 pub mod gathering;
+pub mod inside;
 pub mod into;
 pub mod laws;
+pub mod lent;
 pub mod meeting;
 pub mod merge;
 pub mod needs;
@@ -53,6 +59,7 @@ pub mod ordering;
 pub mod partition;
 pub mod places;
 pub mod ranks;
+pub mod refusal;
 pub mod room;
 pub mod sizes;
 pub mod supernodal;
@@ -60,6 +67,7 @@ pub mod supernode_laws;
 pub mod sweep;
 pub mod tree;
 pub mod turning;
+pub mod workspace;
 
 pub use analysis::{analyze, analyze_holding};
 pub use blocks::{Partitioned, Supernodes, write_rows};
@@ -68,5 +76,7 @@ pub use counting::{analyze_counts, analyze_counts_holding, counts};
 pub use expanding::expand;
 pub use factor::{Factor, Fault, columns};
 pub use into::{Frame, columns_into};
+pub use refusal::Refusal;
 pub use room::{SupernodeSizes, supernode_sizes};
 pub use supernodal::{supernode_partition, supernodes};
+pub use workspace::FactorWorkspace;
