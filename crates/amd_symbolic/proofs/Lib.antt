@@ -51,6 +51,7 @@ pub mod TreeLaws
 pub mod Reserved
 pub mod Faults
 pub mod WithinParts
+pub mod UnfitFaults
 -- The columns by supernodes: runs of places, what the counts tell of them, and the climbs of the rows.
 pub mod Runs
 pub mod Cutting

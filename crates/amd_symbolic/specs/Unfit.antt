@@ -2,6 +2,8 @@
 use Rattle.std.specs.Prelude.{ℕ, ℤ, pos, ◌≡◌, ◌≢◌, List, unsigned_abs}
 use Rattle.amd_model.specs.Input.Columns.{IsInput}
 use Rattle.amd_symbolic.specs.Orders.{Permutes}
+use Rattle.amd_symbolic.specs.declared.factor.Fault.{Fault}
+use Rattle.amd_symbolic.specs.declared.factor.Fault.TheVariants as fault
 use Rattle.amd_symbolic.specs.declared.entrance.Unfit.{Unfit}
 use Rattle.amd_symbolic.specs.declared.entrance.Unfit.TheVariants.{NotColumnForm, NotPermutation}
 
@@ -9,3 +11,8 @@ use Rattle.amd_symbolic.specs.declared.entrance.Unfit.TheVariants.{NotColumnForm
 abbrev pub IsUnfit : ℤ → List ℤ → List ℤ → List ℤ → Unfit → Type 0
 IsUnfit n ap ai p NotColumnForm = (n ≢ pos 0) × (¬ (IsInput n n ap ai))
 IsUnfit n ap ai p NotPermutation = (n ≡ pos 0) × ((order : List ℕ) → ¬ (Permutes (unsigned_abs n) p order))
+
+-- the fault that this is
+abbrev pub fault_of : Unfit → Fault
+fault_of NotColumnForm = fault.NotColumnForm
+fault_of NotPermutation = fault.NotPermutation

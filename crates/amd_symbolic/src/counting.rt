@@ -14,10 +14,9 @@ ghost use Rattle.amd_symbolic.specs.Factors.{IsAnalysisFault, IsFaultHolding};
 
 use crate::analysis::fault_of;
 use crate::counted::{Counts, empty_counts, written_counts};
-use crate::factor::Fault;
-use crate::forms::is_form;
+use crate::entrance::rows_of;
+use crate::factor::{Fault, fault_for};
 use crate::ordering::ordered_lists;
-use amd::internal::to_count;
 use amd::{Control, Info, order, order_holding};
 use amd_types::index::Index;
 use num_traits::PrimInt;
@@ -57,18 +56,12 @@ pub(crate) fn matrix_counts<I: Index, A: Allocator + Copy>(
     ensures fault { IfErr result (λ e. IsCountsFault (I.value n) (map I.value a_p.now) (map I.value a_i.now)
         (map I.value p.now) e) }
 {
-    let Some(size) = to_count(n) else {
-        return Err(Fault::NotColumnForm);
+    let size = match rows_of(n, a_p, a_i, p) {
+        Ok(size) => size,
+        Err(unfit) => return Err(fault_for(unfit)),
     };
     if size == 0 {
-        return if p.is_empty() {
-            Ok(empty_counts(alloc))
-        } else {
-            Err(Fault::NotPermutation)
-        };
-    }
-    if !is_form(n, size, a_p, a_i) {
-        return Err(Fault::NotColumnForm);
+        return Ok(empty_counts(alloc));
     }
     form_counts(alloc, size, a_p, a_i, p)
 }

@@ -12,13 +12,13 @@ ghost use Rattle.amd_symbolic.specs.Orders.{Order};
 ghost use Rattle.amd_symbolic.specs.Neighbours.{HasLater};
 ghost use Rattle.amd_types.specs.Counts.{counts};
 ghost use Rattle.amd_symbolic.specs.Factors.{IsFactorOf, IsFault};
+ghost use Rattle.amd_symbolic.specs.Unfit.{fault_of};
 ghost use Rattle.amd_symbolic.specs.declared.factor.Fault.TheVariants.{OutOfMemory};
 
+use crate::entrance::{Unfit, rows_of};
 use crate::fill::fill;
-use crate::forms::is_form;
 use crate::neighbours::later_lists;
 use crate::places::places;
-use amd::internal::to_count;
 use amd_types::index::Index;
 use num_traits::PrimInt;
 use std::alloc::{AllocError, AllocFailed, Allocator};
@@ -67,6 +67,16 @@ impl<T: Drop> From<AllocFailed<T>> for Fault {
 
     fn from(_: AllocFailed<T>) -> Fault {
         Fault::from(AllocError)
+    }
+}
+
+/// The fault of a matrix and an order that are not fit for a factor.
+pub(crate) fn fault_for(unfit: Unfit) -> Fault
+    ensures { result ≡ fault_of unfit }
+{
+    match unfit {
+        Unfit::NotColumnForm => Fault::NotColumnForm,
+        Unfit::NotPermutation => Fault::NotPermutation,
     }
 }
 
@@ -210,18 +220,12 @@ pub(crate) fn matrix_columns<I: Index, A: Allocator + Copy>(
     ensures fault { IfErr result (λ e. IsFault (I.value n) (map I.value a_p.now) (map I.value a_i.now)
         (map I.value p.now) room e) }
 {
-    let Some(size) = to_count(n) else {
-        return Err(Fault::NotColumnForm);
+    let size = match rows_of(n, a_p, a_i, p) {
+        Ok(size) => size,
+        Err(unfit) => return Err(fault_for(unfit)),
     };
     if size == 0 {
-        return if p.is_empty() {
-            empty_factor(alloc)
-        } else {
-            Err(Fault::NotPermutation)
-        };
-    }
-    if !is_form(n, size, a_p, a_i) {
-        return Err(Fault::NotColumnForm);
+        return empty_factor(alloc);
     }
     form_columns(alloc, size, a_p, a_i, p, room)
 }

@@ -1,6 +1,6 @@
 // Whether an input is a column form, for calls to which it is one whether or not its columns are sorted. The pointers
 // and the rows are each looked through from the first to the last, whatever column a row is in: a call of `valid` would
-// find out more, column by column. Called by `factor`, `into`, `counting` and `supernodal`.
+// find out more, column by column.
 
 ghost use Rattle.std.specs.Prelude.{◌≡◌, ◌<◌, ◌≤◌, ◌+◌, ◌≤ℤ◌, ◌<ℤ◌, ℕ, pos, true, false, length, map};
 ghost use Rattle.amd_model.specs.Input.Columns.{IsColumnForm, IsRow, at};

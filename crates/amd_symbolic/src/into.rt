@@ -13,12 +13,11 @@ ghost use Rattle.amd_types.specs.Counts.{counts};
 ghost use Rattle.amd_symbolic.specs.Factors.{IsFault, WritesFactor};
 ghost use Rattle.amd_symbolic.specs.declared.factor.Fault.TheVariants.{OutOfMemory, RoomTooSmall};
 
-use crate::factor::{Fault, factor_lists};
+use crate::entrance::rows_of;
+use crate::factor::{Fault, factor_lists, fault_for};
 use crate::fill::fill_into;
-use crate::forms::is_form;
 use crate::neighbours::later_lists;
 use crate::places::places;
-use amd::internal::to_count;
 use amd_types::index::Index;
 use num_traits::PrimInt;
 use std::alloc::{AllocError, Allocator};
@@ -143,18 +142,12 @@ pub fn columns_into<I: PrimInt, A: Allocator + Copy>(
         (map I.value p.now) (length rows.old) e) }
     ensures kept { IfErr result (λ e. e ≢ RoomTooSmall → rows.new ≡ rows.old) }
 {
-    let Some(size) = to_count(n) else {
-        return Err(Fault::NotColumnForm);
+    let size = match rows_of(n, a_p, a_i, p) {
+        Ok(size) => size,
+        Err(unfit) => return Err(fault_for(unfit)),
     };
     if size == 0 {
-        return if p.is_empty() {
-            empty_frame(alloc)
-        } else {
-            Err(Fault::NotPermutation)
-        };
-    }
-    if !is_form(n, size, a_p, a_i) {
-        return Err(Fault::NotColumnForm);
+        return empty_frame(alloc);
     }
     form_columns_into(alloc, size, a_p, a_i, p, rows)
 }

@@ -12,12 +12,11 @@ ghost use Rattle.amd_symbolic.specs.Supernodes.{IsSupernodesOf};
 
 use crate::blocks::{Partitioned, Supernodes, write_rows};
 use crate::counted::written_sizes;
-use crate::factor::Fault;
-use crate::forms::is_form;
+use crate::entrance::rows_of;
+use crate::factor::{Fault, fault_for};
 use crate::neighbours::NeighbourLists;
 use crate::ordering::ordered_lists;
 use crate::partition::{Cut, cut_places};
-use amd::internal::to_count;
 use amd_types::index::Index;
 use num_traits::PrimInt;
 use std::alloc::{AllocError, Allocator};
@@ -115,18 +114,12 @@ pub fn supernode_partition<I: Index, A: Allocator + Copy>(
     ensures fault { IfErr result (λ e. IsCountsFault (I.value n) (map I.value a_p.now) (map I.value a_i.now)
         (map I.value p.now) e) }
 {
-    let Some(size) = to_count(n) else {
-        return Err(Fault::NotColumnForm);
+    let size = match rows_of(n, a_p, a_i, p) {
+        Ok(size) => size,
+        Err(unfit) => return Err(fault_for(unfit)),
     };
     if size == 0 {
-        return if p.is_empty() {
-            Ok(no_partition(alloc)?)
-        } else {
-            Err(Fault::NotPermutation)
-        };
-    }
-    if !is_form(n, size, a_p, a_i) {
-        return Err(Fault::NotColumnForm);
+        return Ok(no_partition(alloc)?);
     }
     form_partition(alloc, size, a_p, a_i, p)
 }

@@ -1,23 +1,25 @@
 use Rattle.std.proofs.Common.{ℕ, ◌<◌, ℤ, List, pos, ◌≡◌, [], ◌∷◌, map, length, refl, sym, ap, subst, ◌∙◌, arith}
-use Rattle.std.specs.Prelude.{IfOk, IfErr, ◌==◌, ◌≤ℤ◌}
+use Rattle.std.specs.Prelude.{IfOk, IfErr, ◌≤ℤ◌}
 use Rattle.std.proofs.lemmas.Int.{ints}
-use Rattle.std.proofs.lemmas.List.{length-map}
 use Rattle.amd_symbolic.specs.Factors.{IsFault, WritesFactor}
 use Rattle.amd_symbolic.proofs.Faults.{memory_of, all_of}
-use Rattle.amd_symbolic.proofs.ColumnParts.{no_rows, no_items, no_count, no_form, no_order}
+use Rattle.amd_symbolic.proofs.ColumnParts.{no_rows}
+use Rattle.amd_symbolic.proofs.UnfitFaults.{columns_fault}
 use Rattle.amd_symbolic.proofs.into.columns_into.Goals as goal
 
-pub returns-in_default-clause-fault : goal.returns-in_default-clause-fault
-returns-in_default-clause-fault g c = no_count (g.I.Number.value c.args.n) _ _ c.in_default.ensures (simp length-map (omega arith))
+pub returns-in-Err-clause-fault : goal.returns-in-Err-clause-fault
+returns-in-Err-clause-fault g c =
+    columns_fault (g.I.Number.value c.args.n) _ _ _ (length c.args.rows.now)
+    c.in-Err.unfit c.fault_for.result c.fault_for.ensures c.in-Err.ensures.unfit
 
-pub returns-then-is_empty-clause-factor : goal.returns-then-is_empty-clause-factor
-returns-then-is_empty-clause-factor g c =
+pub returns-then-size-eq0-clause-factor : goal.returns-then-size-eq0-clause-factor
+returns-then-size-eq0-clause-factor g c =
     let a_p : List ℤ = map g.I.Number.value c.args.a_p.now in
     let a_i : List ℤ = map g.I.Number.value c.args.a_i.now in
     let p : List ℤ = map g.I.Number.value c.args.p.now in
     let rows : List ℤ = map g.I.Number.value c.args.rows.now in
-    let zero : pos 0 ≡ g.I.Number.value c.args.n = sym (ap pos c.if-size-eq0.true) ∙ c.in-Some.ensures.1 in
-    let empty : p ≡ [] = no_items p (c.if-is_empty.ensures ∙ ap (λ l. l == 0) (sym (length-map c.args.p.now g.I.Number.value))) in
+    let zero : pos 0 ≡ g.I.Number.value c.args.n = sym (ap pos c.if-size-eq0.true) ∙ c.in-Ok.ensures.size in
+    let empty : p ≡ [] = c.in-Ok.ensures.none c.if-size-eq0.true in
     subst (λ z. IfOk c.empty_frame.result (λ f. WritesFactor z a_p a_i p rows rows f.ptr.items f.parent.items)) zero
     (all_of c.empty_frame.result (λ f. f.ptr.items ≡ 0 ∷ []) (λ f. f.parent.items ≡ []) (λ f. f.parent.items ≡ [])
     (λ f. WritesFactor (pos 0) a_p a_i p rows rows f.ptr.items f.parent.items) c.empty_frame.ensures.pointers
@@ -28,21 +30,12 @@ returns-then-is_empty-clause-factor g c =
       written = refl;
     }))
 
-pub returns-then-is_empty-clause-fault : goal.returns-then-is_empty-clause-fault
-returns-then-is_empty-clause-fault g c =
-    let zero : g.I.Number.value c.args.n ≡ pos 0 = sym c.in-Some.ensures.1 ∙ ap pos c.if-size-eq0.true in
+pub returns-then-size-eq0-clause-fault : goal.returns-then-size-eq0-clause-fault
+returns-then-size-eq0-clause-fault g c =
+    let zero : g.I.Number.value c.args.n ≡ pos 0 = sym c.in-Ok.ensures.size ∙ ap pos c.if-size-eq0.true in
     memory_of c.empty_frame.result (IsFault (g.I.Number.value c.args.n) (map g.I.Number.value c.args.a_p.now)
     (map g.I.Number.value c.args.a_i.now) (map g.I.Number.value c.args.p.now) (length c.args.rows.now))
     c.empty_frame.ensures.fault (λ some. absurd (some zero))
-
-pub returns-else-is_empty-clause-fault : goal.returns-else-is_empty-clause-fault
-returns-else-is_empty-clause-fault g c = no_order g.I.Number.value (g.I.Number.value c.args.n) c.in-Some.size c.args.p.now
-    (map g.I.Number.value c.args.a_p.now)
-    (map g.I.Number.value c.args.a_i.now) c.in-Some.ensures.1 c.if-size-eq0.true c.if-is_empty.ensures
-
-pub returns-then-not-is_form-clause-fault : goal.returns-then-not-is_form-clause-fault
-returns-then-not-is_form-clause-fault g c = no_form (g.I.Number.value c.args.n) c.in-Some.size (map g.I.Number.value c.args.a_p.now)
-    (map g.I.Number.value c.args.a_i.now) c.in-Some.ensures.1 c.if-size-eq0.false (c.is_form.ensures.none c.if-not-is_form.true)
 
 pub form_columns_into-requires : goal.form_columns_into-requires
 form_columns_into-requires g c κs within =
@@ -50,9 +43,9 @@ form_columns_into-requires g c κs within =
     let a_p : List ℤ = map g.I.Number.value c.args.a_p.now in
     let a_i : List ℤ = map g.I.Number.value c.args.a_i.now in
     let exact = g.met.I.Integral.exact_law in
-    let form = c.is_form.ensures.form c.if-not-is_form.false in
-    let fits : (j : ℕ) → j < c.in-Some.size → g.I.Number.fits (pos j) = λ j l. (
-    let size = c.in-Some.ensures.1 in
+    let form = c.in-Ok.ensures.form c.if-size-eq0.false in
+    let fits : (j : ℕ) → j < c.in-Ok.size → g.I.Number.fits (pos j) = λ j l. (
+    let size = c.in-Ok.ensures.size in
     let low : pos 0 ≤ℤ pos j = omega (arith, ints) in
     let most : pos j ≤ℤ z = omega (arith, ints, l, size) in
     g.I.Number.between_law (pos 0) (pos j) z exact (g.met.I.Zero.zero_fits_law exact) c.requires.fits low most) in
@@ -65,7 +58,7 @@ returns-clause-factor g c =
     let p : List ℤ = map g.I.Number.value c.args.p.now in
     let old : List ℤ = map g.I.Number.value c.args.rows.now in
     let new : List ℤ = map g.I.Number.value c.form_columns_into.new.rows in
-    subst (λ z. IfOk c.form_columns_into.result (λ f. WritesFactor z a_p a_i p old new f.ptr.items f.parent.items)) c.in-Some.ensures.1
+    subst (λ z. IfOk c.form_columns_into.result (λ f. WritesFactor z a_p a_i p old new f.ptr.items f.parent.items)) c.in-Ok.ensures.size
     c.form_columns_into.ensures.factor
 
 pub returns-clause-fault : goal.returns-clause-fault
@@ -73,5 +66,5 @@ returns-clause-fault g c =
     let a_p : List ℤ = map g.I.Number.value c.args.a_p.now in
     let a_i : List ℤ = map g.I.Number.value c.args.a_i.now in
     let p : List ℤ = map g.I.Number.value c.args.p.now in
-    subst (λ z. IfErr c.form_columns_into.result (IsFault z a_p a_i p (length c.args.rows.now))) c.in-Some.ensures.1
+    subst (λ z. IfErr c.form_columns_into.result (IsFault z a_p a_i p (length c.args.rows.now))) c.in-Ok.ensures.size
     c.form_columns_into.ensures.fault
