@@ -1,8 +1,7 @@
 -- What the parts of a workspace owe each other, said of the graph of a column form and the rows of an order.
-use Rattle.std.proofs.Common.{ℕ, ℤ, pos, ◌≡◌, ◌≢◌, ◌<◌, ◌≤◌, ◌+◌, ◌⊎◌, inl, inr, List, [], ◌∷◌, Option, length, map, set, subst, arith}
+use Rattle.std.proofs.Common.{ℕ, ℤ, pos, ◌≡◌, ◌≤◌, ◌⊎◌, inl, inr, List, [], ◌∷◌, Option, length, map, set, subst, arith}
 use Rattle.std.proofs.Common.{ap, refl, sym}
 use Rattle.std.specs.Prelude.{Result, Ok, Err, IfErr, slice_index, unsigned_abs}
-use Rattle.amd_model.specs.Factor.{IsFactor, needed}
 use Rattle.amd_model.specs.Figures.{entries}
 use Rattle.amd_model.specs.Graph.{Graph}
 use Rattle.amd_model.specs.Input.Columns.{IsColumnForm, IsInput}

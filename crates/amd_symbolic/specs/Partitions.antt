@@ -1,7 +1,7 @@
 -- The supernodes of a factor under work: where each begins, the supernode of each place, and the rows below the blocks
 -- as far as they are written. Source: Liu, Ng and Peyton 1993; Liu 1990.
 use Rattle.std.specs.Prelude.{ℕ, ℤ, pos, ◌≡◌, ◌<◌, ◌≤◌, ◌+◌, ◌-◌, ◌⊎◌, List, [], Contains, Option, None, Some, length}
-use Rattle.std.specs.Prelude.{◌≢◌, map, slice_index, slice_index_or, unsigned_abs}
+use Rattle.std.specs.Prelude.{◌≢◌, slice_index, slice_index_or, unsigned_abs}
 use Rattle.amd_model.specs.Factor.{IsFactor}
 use Rattle.amd_model.specs.Input.Columns.{IsInput}
 use Rattle.amd_model.specs.Input.Pattern.{graph_of}

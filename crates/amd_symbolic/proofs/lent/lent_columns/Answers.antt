@@ -1,4 +1,4 @@
-use Rattle.std.proofs.Common.{ℕ, ◌≡◌, ◌<◌, ◌≤◌, length, map, arith, ◌∙◌}
+use Rattle.std.proofs.Common.{length, arith}
 use Rattle.std.proofs.lemmas.List.{length-take-le}
 use Rattle.amd_symbolic.proofs.PlacedOrders.{is_graph, later_lists, rows_long}
 use Rattle.amd_symbolic.proofs.lent.lent_columns.Goals as goal

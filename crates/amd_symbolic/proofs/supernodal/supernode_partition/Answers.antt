@@ -1,4 +1,4 @@
-use Rattle.std.proofs.Common.{ℤ, List, pos, ◌≡◌, [], map, refl, sym, ap, subst, ◌∙◌, arith}
+use Rattle.std.proofs.Common.{ℤ, List, pos, ◌≡◌, [], map, refl, sym, ap, subst, ◌∙◌}
 use Rattle.std.specs.Prelude.{IfOk, IfErr}
 use Rattle.amd_symbolic.specs.Counted.{IsCountsFault}
 use Rattle.amd_symbolic.specs.Partitions.{IsPartitionOf, ordered_matrix}

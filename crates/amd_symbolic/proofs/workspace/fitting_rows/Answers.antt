@@ -1,4 +1,4 @@
-use Rattle.std.proofs.Common.{map, length, arith}
+use Rattle.std.proofs.Common.{arith}
 use Rattle.std.proofs.lemmas.List.{length-map}
 use Rattle.amd_edges.proofs.Forms.{pointer_fits}
 use Rattle.amd_symbolic.proofs.WithinParts.{unfit_refused}

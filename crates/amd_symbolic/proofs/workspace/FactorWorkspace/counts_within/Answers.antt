@@ -1,4 +1,4 @@
-use Rattle.std.proofs.Common.{pos, map, sym, ap, ◌∙◌}
+use Rattle.std.proofs.Common.{pos, sym, ap, ◌∙◌}
 use Rattle.amd_symbolic.proofs.WithinParts.{no_rows}
 use Rattle.amd_symbolic.proofs.workspace.FactorWorkspace.counts_within.Goals as goal
 
