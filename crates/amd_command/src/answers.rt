@@ -1,8 +1,14 @@
 // The texts of the answers, made in memory before an output is written. Called by `program`, which says where they go.
-// What each function that writes a part writes is told by its contract; which parts an answer has is tested.
+// What is written first of an answer is told by a contract here; which other parts it has is tested.
+
+ghost use Rattle.std.specs.Prelude.{◌≡◌, IfOk};
+ghost use Rattle.amd_command.specs.Answers.{AreCountsIn, AreNumbers, AreTwoNeeds, IsOrderingOf};
+ghost use Rattle.amd_command.specs.Answers.{TellsAnalysis, TellsColumns, TellsOrder, lines_of};
+ghost use Rattle.amd_command.specs.Needs.{IsNeedUnder};
 
 use crate::analysis::{Analysis, analyze_matrix};
 use crate::faults::cause_of;
+use crate::lists::{places_in, write_numbers};
 use crate::needs::{need_under, standing_order, told};
 use crate::ordering::order_matrix;
 use crate::permuted::permuted;
@@ -21,8 +27,16 @@ use amd_report::tree::{write_supernodes, write_tree};
 use amd_request::causes::Cause;
 use amd_request::inputs::Task;
 use amd_request::request::Options;
-use amd_symbolic::{counts, supernodes};
+use amd_symbolic::needs::Need;
+use amd_symbolic::{columns, counts, supernodes};
 use std::alloc::Global;
+
+/// What stands before the parents.
+const PARENTS: &[u8] = b"% the parent of each column, 0 for a root\n";
+
+/// What stands before the supernodes.
+const SUPERNODES: &[u8] =
+    b"% of each supernode its first and its last column, its parent or 0, and its rows below the block\n";
 
 /// What an ordering, or an analysis, writes beside the pictures.
 #[derive(Drop)]
@@ -31,6 +45,8 @@ pub struct Texts {
     pub lines: Vec<u8>,
     /// The figures.
     pub figures: String,
+    /// The pattern of the factor below the diagonal, where it is asked for.
+    pub factor: Option<Vec<u8>>,
     /// The permuted matrix, where it is asked for.
     pub permuted: Option<Vec<u8>>,
     /// The elimination tree and its supernodes, where they are asked for.
@@ -48,22 +64,65 @@ pub struct Ordered {
     pub compared: Option<Comparison>,
 }
 
+/// What the factor needs under an order of the rows.
+fn need_in(alloc: Global, matrix: &Matrix<Global>, p: &[usize]) -> Result<Need, Cause>
+    ensures { IfOk result (IsNeedUnder matrix.now.n matrix.now.a_p.items matrix.now.a_i.items p.now) }
+{
+    match need_under(alloc, matrix, p) {
+        Ok(need) => Ok(need),
+        Err(fault) => Err(cause_of(fault)),
+    }
+}
+
 /// What the factor needs as the rows stand, and in an order of them.
 pub fn two_needs(
     alloc: Global,
     matrix: &Matrix<Global>,
     p: &[usize],
-) -> Result<(Needs, Needs), Cause> {
+) -> Result<(Needs, Needs), Cause>
+    ensures { IfOk result (λ r. AreTwoNeeds matrix.now.n matrix.now.a_p.items matrix.now.a_i.items p.now r.0 r.1) }
+{
     let standing = standing_order(alloc, matrix.n)?;
-    let stands = need_under(alloc, matrix, &standing).map_err(cause_of)?;
-    let ordered = need_under(alloc, matrix, p).map_err(cause_of)?;
+    let stands = need_in(alloc, matrix, &standing)?;
+    let ordered = need_in(alloc, matrix, p)?;
     Ok((told(&stands), told(&ordered)))
 }
 
 /// Orders what a task has.
-pub fn order_task(alloc: Global, task: &Task) -> Result<(Vec<usize>, Info), Cause> {
-    let marks = task.hold.as_deref();
-    Ok(order_matrix(alloc, &task.matrix, &task.control, marks)?)
+pub fn order_task(alloc: Global, task: &Task) -> Result<(Vec<usize>, Info), Cause>
+    ensures { IfOk result (λ a. IsOrderingOf task.now a.0.items a.1) }
+{
+    let held = task.hold.as_deref();
+    let (p, info) = order_matrix(alloc, &task.matrix, &task.control, held)?;
+    Ok((p, info))
+}
+
+/// The text of the pattern of the factor below the diagonal, where it is asked for: a file of the Matrix Market whose
+/// rows and columns are numbered as they are eliminated.
+fn factor_text(
+    alloc: Global,
+    options: &Options<'_>,
+    matrix: &Matrix<Global>,
+    p: &[usize],
+) -> Result<Option<Vec<u8>>, Cause> {
+    if options.factor.is_none() {
+        return Ok(None);
+    }
+    let need = need_in(alloc, matrix, p)?;
+    let Ok(room) = usize::try_from(need.lnz) else {
+        return Err(Cause::Memory);
+    };
+    let found = columns(alloc, matrix.n, &matrix.a_p, &matrix.a_i, p, room);
+    let factor = found.map_err(cause_of)?;
+    let pattern = Matrix {
+        n: matrix.n,
+        a_p: factor.ptr,
+        a_i: factor.rows,
+        repeats: 0,
+    };
+    let mut text = Vec::new(alloc);
+    write_matrix(&pattern, &mut text)?;
+    Ok(Some(text))
 }
 
 /// The text of the permuted matrix, where it is asked for.
@@ -94,7 +153,9 @@ fn tree_text(
     }
     let counted = counts(alloc, matrix.n, &matrix.a_p, &matrix.a_i, p).map_err(cause_of)?;
     let mut text = Vec::new(alloc);
+    text.extend_from_slice(PARENTS)?;
     write_tree(&counted.parent, &mut text)?;
+    text.extend_from_slice(SUPERNODES)?;
     let made = supernodes(alloc, matrix.n, &matrix.a_p, &matrix.a_i, p).map_err(cause_of)?;
     write_supernodes(&made.first, &made.ptr, &made.parent, &mut text)?;
     Ok(Some(text))
@@ -110,50 +171,145 @@ fn figures_text(alloc: Global, ordered: &Ordered, duplicates: usize) -> Result<S
     Ok(String::from_utf8_lossy(alloc, &figures)?)
 }
 
+/// The numbers that are written of an order: the row at each place, or the place of each row.
+fn numbers_of(alloc: Global, options: &Options<'_>, p: &[usize]) -> Result<Vec<usize>, Cause>
+    ensures { IfOk result (λ numbers. AreNumbers options.now.inverse p.now numbers.items) }
+{
+    if options.inverse {
+        return places_in(alloc, p);
+    }
+    let mut numbers = Vec::with_capacity(alloc, p.len())?;
+    numbers.extend_from_slice(p)?;
+    Ok(numbers)
+}
+
+/// The lines of numbers, from 0 or from 1 on.
+fn lines_of(alloc: Global, zero_based: bool, numbers: &[usize]) -> Result<Vec<u8>, Cause>
+    ensures { IfOk result (λ text. text.items ≡ lines_of zero_based numbers.now) }
+{
+    let mut text = Vec::new(alloc);
+    if zero_based {
+        write_numbers(numbers, &mut text)?;
+    } else {
+        write_rows(numbers, &mut text)?;
+    }
+    Ok(text)
+}
+
+/// What is written first of an ordering: one object, or a line for each row.
+fn first_lines(
+    alloc: Global,
+    options: &Options<'_>,
+    repeats: usize,
+    ordered: &Ordered,
+) -> Result<Vec<u8>, Cause>
+    ensures { IfOk result (λ text. TellsOrder options.now ordered.now.info repeats ordered.now.compared
+        ordered.now.p.items text.items) }
+{
+    if options.json {
+        let (info, p) = (&ordered.info, &ordered.p);
+        let mut text = Vec::new(alloc);
+        write_order_json(info, repeats, ordered.compared, p, &mut text)?;
+        return Ok(text);
+    }
+    let numbers = numbers_of(alloc, options, &ordered.p)?;
+    lines_of(alloc, options.zero_based, &numbers)
+}
+
 /// The texts of an ordering.
 pub fn order_texts(
     alloc: Global,
     options: &Options<'_>,
     matrix: &Matrix<Global>,
     ordered: &Ordered,
-) -> Result<Texts, Cause> {
-    let mut lines = Vec::new(alloc);
-    let mut figures = String::new(alloc);
-    let repeats = matrix.repeats;
-    if options.json {
-        let (info, p) = (&ordered.info, &ordered.p);
-        write_order_json(info, repeats, ordered.compared, p, &mut lines)?;
+) -> Result<Texts, Cause>
+    ensures { IfOk result (λ t. TellsOrder options.now ordered.now.info matrix.now.repeats ordered.now.compared
+        ordered.now.p.items t.lines.items) }
+{
+    let lines = first_lines(alloc, options, matrix.repeats, ordered)?;
+    let figures = if options.json || options.quiet {
+        String::new(alloc)
     } else {
-        write_rows(&ordered.p, &mut lines)?;
-        figures = figures_text(alloc, ordered, repeats)?;
-    }
+        figures_text(alloc, ordered, matrix.repeats)?
+    };
     Ok(Texts {
         lines,
         figures,
+        factor: factor_text(alloc, options, matrix, &ordered.p)?,
         permuted: permuted_text(alloc, options, matrix, &ordered.p)?,
         tree: tree_text(alloc, options, matrix, &ordered.p)?,
     })
 }
 
-/// Orders what a task has, counts the columns of the factor under the ordering, and makes the texts of that.
-pub fn analysis_texts(alloc: Global, task: &Task, json: bool) -> Result<Texts, Cause> {
-    let (matrix, marks) = (&task.matrix, task.hold.as_deref());
-    let analysis = analyze_matrix(alloc, matrix, &task.control, marks).map_err(cause_of)?;
-    let Analysis { p, info, counts } = analysis;
-    let (need, repeats) = (told(&counts.need), matrix.repeats);
-    let (parents, sizes) = (&counts.parent, &counts.sizes);
-    let mut lines = Vec::new(alloc);
-    let mut figures = Vec::new(alloc);
-    if json {
-        write_analysis_json(&info, repeats, &need, &p, parents, sizes, &mut lines)?;
-    } else {
-        write_columns(&p, parents, sizes, &mut lines)?;
-        write_comparison(&need, &info, repeats, &mut figures)?;
+/// Orders what a task has, and counts the columns of the factor under the ordering.
+fn analyze_task(alloc: Global, task: &Task) -> Result<Analysis<Global>, Cause>
+    ensures ordering { IfOk result (λ a. IsOrderingOf task.now a.p.items a.info) }
+    ensures counts { IfOk result (λ a. AreCountsIn task.now a.p.items a.counts.sizes.items a.counts.parent.items
+        a.counts.need) }
+{
+    let marks = task.hold.as_deref();
+    match analyze_matrix(alloc, &task.matrix, &task.control, marks) {
+        Ok(analysis) => Ok(analysis),
+        Err(fault) => Err(cause_of(fault)),
     }
-    let figures = String::from_utf8_lossy(alloc, &figures)?;
+}
+
+/// What is written first of an analysis: one object, or a line for each column of the factor.
+fn column_texts(
+    alloc: Global,
+    json: bool,
+    repeats: usize,
+    analysis: &Analysis<Global>,
+) -> Result<Vec<u8>, Cause>
+    ensures { IfOk result (λ text. TellsColumns json repeats analysis.now.info analysis.now.p.items
+        analysis.now.counts.sizes.items analysis.now.counts.parent.items analysis.now.counts.need text.items) }
+{
+    let Analysis { p, info, counts } = analysis;
+    let need = told(&counts.need);
+    let mut text = Vec::new(alloc);
+    if json {
+        write_analysis_json(
+            info,
+            repeats,
+            &need,
+            p,
+            &counts.parent,
+            &counts.sizes,
+            &mut text,
+        )?;
+    } else {
+        write_columns(p, &counts.parent, &counts.sizes, &mut text)?;
+    }
+    Ok(text)
+}
+
+/// The exact figures beside their bounds.
+fn comparison_figures(
+    alloc: Global,
+    repeats: usize,
+    analysis: &Analysis<Global>,
+) -> Result<String, Cause> {
+    let mut figures = Vec::new(alloc);
+    let need = told(&analysis.counts.need);
+    write_comparison(&need, &analysis.info, repeats, &mut figures)?;
+    Ok(String::from_utf8_lossy(alloc, &figures)?)
+}
+
+/// Orders what a task has, counts the columns of the factor under the ordering, and makes the texts of that.
+pub fn analysis_texts(alloc: Global, task: &Task, json: bool) -> Result<Texts, Cause>
+    ensures { IfOk result (λ t. TellsAnalysis task.now json t.lines.items) }
+{
+    let analysis = analyze_task(alloc, task)?;
+    let lines = column_texts(alloc, json, task.matrix.repeats, &analysis)?;
+    let figures = if json {
+        String::new(alloc)
+    } else {
+        comparison_figures(alloc, task.matrix.repeats, &analysis)?
+    };
     Ok(Texts {
         lines,
         figures,
+        factor: None,
         permuted: None,
         tree: None,
     })

@@ -10,6 +10,7 @@
 pub mod analysis;
 pub mod answers;
 pub mod faults;
+pub mod lists;
 pub mod needs;
 pub mod ordering;
 pub mod permuted;

@@ -14,16 +14,21 @@ use amd::{Control, Info};
 use amd_market::reader::Matrix;
 use amd_report::compare::{Comparison, Needs};
 use amd_report::tree_picture::write_tree_picture;
+use amd_request::advice::{Advice, advice_on, advice_on_words};
 use amd_request::causes::Cause;
-use amd_request::inputs::{Complaint, Task, about, control_of, read_file, read_order, read_task};
+use amd_request::inputs::{
+    Complaint, Task, about, check_inputs, control_of, read_file, read_order, read_task,
+};
 use amd_request::order_faults::order_fault;
-use amd_request::places::put_file;
+use amd_request::places::STANDARD;
 use amd_request::progress::Progress;
+use amd_request::putting::put_file;
 use amd_request::request::{Options, Request, request_of};
+use amd_request::unreadable::word_at_fault;
 use amd_symbolic::{Fault, counts};
 use clap::Error;
 use clap::error::ErrorKind;
-use std::alloc::Global;
+use std::alloc::{AllocError, Global};
 use std::io;
 use std::io::Write;
 use std::rt::{Clock, Files, Runtime};
@@ -32,12 +37,15 @@ use std::rt::{Clock, Files, Runtime};
 const LARGE_FACTOR: usize = 1 << 26;
 
 /// The name for messages of what was written to.
-fn output_name<'a>(path: Option<&'a str>) -> &'a str {
-    path.unwrap_or("standard output")
+fn output_name<'a>(path: &'a str) -> &'a str {
+    if path == STANDARD {
+        return "standard output";
+    }
+    path
 }
 
 /// What the factor needs under the order of a file.
-fn other_need<R: Files + Clock + Eprint + AllocGlobal>(
+fn other_need<R: Files + Input + Clock + Eprint + AllocGlobal>(
     rt: &R,
     progress: &Progress,
     matrix: &Matrix<Global>,
@@ -55,7 +63,7 @@ fn other_need<R: Files + Clock + Eprint + AllocGlobal>(
 }
 
 /// What the factor needs under each order, where that is asked for.
-fn compare_orders<'a, R: Files + Clock + Eprint + AllocGlobal>(
+fn compare_orders<'a, R: Files + Input + Clock + Eprint + AllocGlobal>(
     rt: &R,
     progress: &Progress,
     options: &Options<'a>,
@@ -79,46 +87,50 @@ fn compare_orders<'a, R: Files + Clock + Eprint + AllocGlobal>(
     }))
 }
 
-/// Writes a text to a file, or to standard output where none is named.
-fn put_text<R: Files + Print + AllocGlobal>(
-    rt: &R,
-    path: Option<&str>,
-    text: &[u8],
-) -> Result<(), Cause> {
-    match path {
-        Some(path) => put_file(rt, path, text),
-        None => Ok(io::writer(rt).write_all(text)?),
+/// Writes a text to a file, or to standard output for `-`.
+fn put_text<R: Files + Print + AllocGlobal>(rt: &R, path: &str, text: &[u8]) -> Result<(), Cause> {
+    if path == STANDARD {
+        return Ok(io::writer(rt).write_all(text)?);
     }
+    put_file(rt, path, text)
 }
 
 /// Writes a text to a file where both are there.
-fn put_where_asked<'a, R: Files + AllocGlobal>(
+fn put_where_asked<'a, R: Files + Print + AllocGlobal>(
     rt: &R,
     path: Option<&'a str>,
     text: &Option<Vec<u8>>,
 ) -> Result<(), Complaint<'a>> {
     match (path, text) {
-        (Some(path), Some(text)) => about(path, put_file(rt, path, text)),
+        (Some(path), Some(text)) => about(output_name(path), put_text(rt, path, text)),
         _ => Ok(()),
     }
 }
 
-/// Writes the texts on a file to where they belong. No memory is asked for once a byte is written.
-fn put_texts<'a, R: Files + Print + Eprint + AllocGlobal>(
+/// Writes the texts on a file to where they belong, but for the figures. No memory is asked for once a byte is written,
+/// but for the names of files.
+fn put_texts<'a, R: Files + Print + AllocGlobal>(
     rt: &R,
     options: &Options<'a>,
-    texts: Texts,
+    texts: &Texts,
 ) -> Result<(), Complaint<'a>> {
+    put_where_asked(rt, options.factor, &texts.factor)?;
     put_where_asked(rt, options.permuted, &texts.permuted)?;
     put_where_asked(rt, options.tree, &texts.tree)?;
-    let lines = put_text(rt, options.out, &texts.lines);
-    about(output_name(options.out), lines)?;
-    let told = rt.eprint(texts.figures).map_err(Cause::from);
-    about("standard error", told)
+    let out = options.out.unwrap_or(STANDARD);
+    about(output_name(out), put_text(rt, out, &texts.lines))
+}
+
+/// Tells the figures on standard error, unless nothing is to be told.
+fn tell_figures<'a, R: Eprint>(rt: &R, quiet: bool, figures: String) -> Result<(), Complaint<'a>> {
+    if quiet {
+        return Ok(());
+    }
+    about("standard error", rt.eprint(figures).map_err(Cause::from))
 }
 
 /// Draws what a task has and its ordering, whose factor has at most so many entries, to a file.
-fn draw_file<R: Files + Clock + Eprint + AllocGlobal>(
+fn draw_file<R: Files + Print + Clock + Eprint + AllocGlobal>(
     rt: &R,
     path: &str,
     task: &Task,
@@ -130,11 +142,11 @@ fn draw_file<R: Files + Clock + Eprint + AllocGlobal>(
     task.progress.tell(rt, lnz >= LARGE_FACTOR, stage);
     let mut text = Vec::new(rt.alloc());
     write_picture(rt.alloc(), &task.matrix, &ordered.p, symmetric, &mut text)?;
-    put_file(rt, path, &text)
+    put_text(rt, path, &text)
 }
 
 /// Draws the assembly tree of what a task has and its ordering, to a file.
-fn draw_tree<R: Files + AllocGlobal>(
+fn draw_tree<R: Files + Print + AllocGlobal>(
     rt: &R,
     path: &str,
     matrix: &Matrix<Global>,
@@ -143,11 +155,11 @@ fn draw_tree<R: Files + AllocGlobal>(
     let counted = counts(rt.alloc(), matrix.n, &matrix.a_p, &matrix.a_i, p).map_err(cause_of)?;
     let mut text = Vec::new(rt.alloc());
     write_tree_picture(rt.alloc(), &counted.parent, &counted.sizes, &mut text)?;
-    put_file(rt, path, &text)
+    put_text(rt, path, &text)
 }
 
 /// Draws what a task has and its ordering, where files are named for the pictures.
-fn put_pictures<'a, R: Files + Clock + Eprint + AllocGlobal>(
+fn put_pictures<'a, R: Files + Print + Clock + Eprint + AllocGlobal>(
     rt: &R,
     options: &Options<'a>,
     task: &Task,
@@ -155,11 +167,11 @@ fn put_pictures<'a, R: Files + Clock + Eprint + AllocGlobal>(
 ) -> Result<(), Complaint<'a>> {
     if let Some(path) = options.picture {
         let drawn = draw_file(rt, path, task, ordered, options.symmetric);
-        about(path, drawn.map_err(Cause::at_picture))?;
+        about(output_name(path), drawn.map_err(Cause::at_picture))?;
     }
     if let Some(path) = options.tree_picture {
         let drawn = draw_tree(rt, path, &task.matrix, &ordered.p);
-        about(path, drawn.map_err(Cause::at_picture))?;
+        about(output_name(path), drawn.map_err(Cause::at_picture))?;
     }
     Ok(())
 }
@@ -174,8 +186,11 @@ fn order_file<'a, R: Runtime + AllocGlobal>(
     let compared = compare_orders(rt, &task.progress, options, &task.matrix, &p, &info)?;
     let ordered = Ordered { p, info, compared };
     let texts = order_texts(rt.alloc(), options, &task.matrix, &ordered);
-    put_texts(rt, options, about(options.file, texts)?)?;
-    put_pictures(rt, options, &task, &ordered)
+    let texts = about(options.file, texts)?;
+    put_texts(rt, options, &texts)?;
+    let told = tell_figures(rt, options.quiet, texts.figures);
+    put_pictures(rt, options, &task, &ordered)?;
+    told
 }
 
 /// Orders a file, and counts the columns of its factor. All memory is taken before an output is written.
@@ -185,12 +200,14 @@ fn analyze_file<'a, R: Runtime + AllocGlobal>(
 ) -> Result<(), Complaint<'a>> {
     let task = read_task(rt, options)?;
     let texts = analysis_texts(rt.alloc(), &task, options.json);
-    put_texts(rt, options, about(options.file, texts)?)
+    let texts = about(options.file, texts)?;
+    put_texts(rt, options, &texts)?;
+    tell_figures(rt, options.quiet, texts.figures)
 }
 
 /// What the factor of a matrix needs as its rows stand, as they are ordered and as a file lists them, where that is
 /// asked for.
-fn exact_needs<'a, R: Files + Clock + Eprint + AllocGlobal>(
+fn exact_needs<'a, R: Files + Input + Clock + Eprint + AllocGlobal>(
     rt: &R,
     progress: &Progress,
     options: &Options<'a>,
@@ -211,12 +228,13 @@ fn describe_file<'a, R: Runtime + AllocGlobal>(
     options: &Options<'a>,
 ) -> Result<(), Complaint<'a>> {
     let control = control_of(options)?;
-    let progress = Progress::begin(rt, options.progress);
+    check_inputs(rt, options)?;
+    let progress = Progress::begin(rt, options.progress, options.quiet);
     let matrix = about(options.file, read_file(rt, &progress, options.file))?;
     let compared = exact_needs(rt, &progress, options, &matrix, &control)?;
     let text = facts_text(rt.alloc(), options.json, &matrix, &control, compared);
     let text = about(options.file, text)?;
-    about(output_name(None), put_text(rt, None, &text))
+    about(output_name(STANDARD), put_text(rt, STANDARD, &text))
 }
 
 /// Does what is asked for.
@@ -240,6 +258,36 @@ fn exit_status_of(error: &Error) -> u8 {
     }
 }
 
+/// Tells what leads on, where something does.
+fn advise<R: Eprint>(rt: &R, advice: Option<Advice<'_>>) {
+    if let Some(advice) = advice {
+        let _ = rt.eprintln(advice);
+    }
+}
+
+/// Tells why a run ended early, unless what reads its output has gone.
+fn complain<R: Eprint>(rt: &R, complaint: Complaint<'_>) {
+    if complaint.cause.is_quiet() {
+        return;
+    }
+    let advice = advice_on(&complaint);
+    let _ = rt.eprintln(complaint);
+    advise(rt, advice);
+}
+
+/// Tells of the first word of the command line that is not UTF-8, and says whether there is one.
+pub fn complain_of_word<R: Runtime + AllocGlobal>(rt: &R) -> Result<bool, AllocError> {
+    match word_at_fault(rt)? {
+        Some(word) => {
+            let _ = rt.eprintln(format_args!(
+                "rimopaku: {word}: is not UTF-8: give it a name that is"
+            ));
+            Ok(true)
+        }
+        None => Ok(false),
+    }
+}
+
 /// Runs a command line, the first word of which is the name of the program, and returns the exit status: 0 where all
 /// was done, 1 where memory was refused or an output failed, 2 where an argument or an input is wrong, and 3 where the
 /// picture could not be drawn or written, but all else is. A message on standard error tells why it is not 0, but for
@@ -251,15 +299,20 @@ pub fn run<R: Runtime + AllocGlobal>(rt: &R, words: &[String]) -> u8 {
             Ok(()) => 0,
             Err(complaint) => {
                 let status = complaint.cause.exit_status();
-                if !complaint.cause.is_quiet() {
-                    let _ = rt.eprintln(complaint);
-                }
+                complain(rt, complaint);
                 status
             }
         },
-        Err(error) => match error.print(rt) {
-            Ok(()) => exit_status_of(&error),
-            Err(_) => 1,
-        },
+        Err(error) => {
+            let status = exit_status_of(&error);
+            match error.print(rt) {
+                Ok(()) if status == 2 => {
+                    advise(rt, advice_on_words(words));
+                    status
+                }
+                Ok(()) => status,
+                Err(_) => 1,
+            }
+        }
     }
 }

@@ -1,5 +1,7 @@
--- What the command promises to read, and the exit statuses.
+-- What the command promises to read, what it is asked for, and the exit statuses.
 pub mod Causes
 pub mod Held
+pub mod Numbers
 pub mod Orders
+pub mod Requests
 pub mod Watched

@@ -15,7 +15,7 @@ use thiserror::Error;
 #[derive(Debug, Drop, Error)]
 pub enum Cause {
     /// The dense row parameter is wrong.
-    #[error("the dense row parameter is no decimal number with up to three places, such as 10 or 2.5")]
+    #[error("must be a decimal number with up to three places, such as 10 or 2.5, from -2147483.648 to 2147483.647")]
     Dense,
     /// A file could not be opened.
     #[error("cannot be opened: {0}")]
@@ -26,6 +26,9 @@ pub enum Cause {
     /// An output is a file that the run reads, or writes besides.
     #[error("is named twice: an output must be a file of its own")]
     Twice,
+    /// Standard input is to be read more than once.
+    #[error("standard input is named twice: only one of the files to read can be -")]
+    StandardInput,
     /// A text is wrong, or could not be read.
     #[error("{0}")]
     Text(ReadError),
@@ -35,6 +38,14 @@ pub enum Cause {
     /// A list of rows is no order of them.
     #[error("no order of the rows: {0}")]
     Order(OrderFault),
+    /// A file asks for much more memory than its entries justify.
+    #[error("tells of {rows} rows, which take {gibibytes} GiB or more, in fewer bytes: give --yes to go on")]
+    Large {
+        /// The rows that it tells of.
+        rows: u64,
+        /// The memory.
+        gibibytes: u64,
+    },
     /// Memory was refused.
     #[error("out of memory")]
     Memory,
@@ -54,7 +65,7 @@ impl Cause {
     {
         match self {
             Cause::Dense | Cause::Open(_) | Cause::Folder | Cause::Twice => 2,
-            Cause::Form | Cause::Order(_) => 2,
+            Cause::StandardInput | Cause::Form | Cause::Order(_) | Cause::Large { .. } => 2,
             Cause::Text(ReadError::Line { fault, .. }) => {
                 if matches!(fault, ReadFault::OutOfMemory) {
                     1
@@ -86,7 +97,10 @@ impl Cause {
             }
             Cause::Memory => Cause::Picture(io::Error::from(io::ErrorKind::OutOfMemory)),
             Cause::Folder => Cause::Picture(io::Error::from(io::ErrorKind::IsADirectory)),
-            Cause::Dense | Cause::Twice | Cause::Text(_) | Cause::Form | Cause::Order(_) => {
+            Cause::Dense | Cause::Twice | Cause::StandardInput | Cause::Text(_) => {
+                Cause::Picture(io::Error::from(io::ErrorKind::InvalidInput))
+            }
+            Cause::Form | Cause::Order(_) | Cause::Large { .. } => {
                 Cause::Picture(io::Error::from(io::ErrorKind::InvalidInput))
             }
         }

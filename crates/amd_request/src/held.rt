@@ -27,7 +27,10 @@ pub fn row_of(line: &[u8], n: usize) -> Option<usize>
 /// What is wrong with a line that is no row of `n`.
 pub fn held_fault(line: &[u8], n: usize) -> ReadFault {
     match first_word(line) {
-        Some((word, rest)) if first_word(rest).is_none() => row_fault(word, n),
+        Some((word, rest)) if first_word(rest).is_none() => match row_fault(word, n) {
+            ReadFault::Entry => ReadFault::Held,
+            fault => fault,
+        },
         _ => ReadFault::Held,
     }
 }

@@ -1,13 +1,17 @@
 // What a run reads: the matrix, the rows to hold last and another order; and the outputs that may not be one file with
-// them. Called by `program` of the crate `amd_command`. Files and messages are tested alone: no contract can speak of
-// them.
+// them. Called by `program` of the crate `amd_command`. That a task has the control of the words is told by a contract;
+// files and messages are tested alone: no contract can speak of them.
+
+ghost use Rattle.std.specs.Prelude.{◌≡◌, Ok, IfOk, is_some};
+ghost use Rattle.amd_request.specs.Requests.{IsControlOf};
 
 use crate::causes::Cause;
 use crate::held::read_held;
 use crate::listed::read_rows;
-use crate::places::{name_one_file, names_folder};
+use crate::places::{STANDARD, are_one_output, check_place, input_path, is_input};
 use crate::progress::Progress;
 use crate::request::Options;
+use crate::sizes::{gibibytes_for, rows_without_bytes};
 use crate::watched::Watched;
 use amd_market::reader::{Matrix, read_matrix};
 use amd_types::amd::Control;
@@ -47,7 +51,9 @@ pub struct Complaint<'a> {
 }
 
 /// Says which file or word a result is about.
-pub fn about<'a, T: Drop>(subject: &'a str, outcome: Result<T, Cause>) -> Result<T, Complaint<'a>> {
+pub fn about<'a, T: Drop>(subject: &'a str, outcome: Result<T, Cause>) -> Result<T, Complaint<'a>>
+    ensures { IfOk result (λ v. outcome ≡ Ok v) }
+{
     match outcome {
         Ok(value) => Ok(value),
         Err(cause) => Err(Complaint { subject, cause }),
@@ -72,13 +78,31 @@ fn open_file<R: Files + Clock + Eprint>(
     Ok(file)
 }
 
+/// Refuses a regular file that asks for much more memory than its entries justify. A pipe is not looked at: what it has
+/// could not be read again.
+fn check_size<R: Files + AllocGlobal>(rt: &R, path: &str) -> Result<(), Cause> {
+    let path = input_path(path);
+    if !fs::metadata(rt, path).is_ok_and(|found| found.is_file()) {
+        return Ok(());
+    }
+    let input = fs::open(rt, path).map_err(Cause::Open)?;
+    let size = input.metadata().map_err(Cause::Open)?.len();
+    match rows_without_bytes(rt.alloc(), input, size) {
+        Some(rows) => Err(Cause::Large {
+            rows,
+            gibibytes: gibibytes_for(rows),
+        }),
+        None => Ok(()),
+    }
+}
+
 /// Reads the matrix of a file, or of standard input for `-`.
 pub fn read_file<R: Files + Input + Clock + Eprint + AllocGlobal>(
     rt: &R,
     progress: &Progress,
     path: &str,
 ) -> Result<Matrix<Global>, Cause> {
-    if path == "-" {
+    if path == STANDARD {
         return read_matrix(rt.alloc(), rt.reader()).map_err(Cause::Text);
     }
     let input = open_file(rt, progress, path)?;
@@ -89,24 +113,30 @@ pub fn read_file<R: Files + Input + Clock + Eprint + AllocGlobal>(
     read_matrix(rt.alloc(), Watched::new(rt, input, size)).map_err(Cause::Text)
 }
 
-/// Reads the rows to hold last.
-fn read_marks<R: Files + Clock + Eprint + AllocGlobal>(
+/// Reads the rows to hold last, from a file or, for `-`, from standard input.
+fn read_marks<R: Files + Input + Clock + Eprint + AllocGlobal>(
     rt: &R,
     progress: &Progress,
     n: usize,
     path: &str,
 ) -> Result<Vec<bool>, Cause> {
+    if path == STANDARD {
+        return read_held(rt.alloc(), n, rt.reader()).map_err(Cause::Text);
+    }
     let input = open_file(rt, progress, path)?;
     read_held(rt.alloc(), n, input).map_err(Cause::Text)
 }
 
-/// Reads the rows that a file lists.
-pub fn read_order<R: Files + Clock + Eprint + AllocGlobal>(
+/// Reads the rows that a file lists, or standard input for `-`.
+pub fn read_order<R: Files + Input + Clock + Eprint + AllocGlobal>(
     rt: &R,
     progress: &Progress,
     n: usize,
     path: &str,
 ) -> Result<Vec<usize>, Cause> {
+    if path == STANDARD {
+        return read_rows(rt.alloc(), n, rt.reader()).map_err(Cause::Text);
+    }
     let input = open_file(rt, progress, path)?;
     read_rows(rt.alloc(), n, input).map_err(Cause::Text)
 }
@@ -120,58 +150,125 @@ fn tell_ordering<R: Clock + Eprint>(rt: &R, progress: &Progress, matrix: &Matrix
 }
 
 /// What the words of a subcommand choose.
-pub fn control_of<'a>(options: &Options<'a>) -> Result<Control, Complaint<'a>> {
+pub fn control_of<'a>(options: &Options<'a>) -> Result<Control, Complaint<'a>>
+    ensures { IfOk result (IsControlOf options.now) }
+{
     about("--dense", options.control().ok_or(Cause::Dense))
 }
 
 /// Reads the rows to hold last, where a file of them is named.
-fn read_hold<'a, R: Files + Clock + Eprint + AllocGlobal>(
+fn read_hold<'a, R: Files + Input + Clock + Eprint + AllocGlobal>(
     rt: &R,
     progress: &Progress,
     options: &Options<'a>,
     n: usize,
-) -> Result<Option<Vec<bool>>, Complaint<'a>> {
+) -> Result<Option<Vec<bool>>, Complaint<'a>>
+    ensures { IfOk result (λ marks. is_some marks ≡ is_some options.now.hold) }
+{
     match options.hold {
         Some(path) => Ok(Some(about(path, read_marks(rt, progress, n, path))?)),
         None => Ok(None),
     }
 }
 
-/// Refuses an output that is a folder, or a file that the run reads or writes besides.
-fn check_output<'a, R: Files>(
-    rt: &R,
-    output: Option<&'a str>,
-    others: &[Option<&str>],
-) -> Result<(), Complaint<'a>> {
-    let Some(path) = output else {
-        return Ok(());
-    };
-    if names_folder(rt, path) {
-        return about(path, Err(Cause::Folder));
+/// The files that a run reads.
+fn inputs_of<'a>(options: &Options<'a>) -> [Option<&'a str>; 3] {
+    [Some(options.file), options.hold, options.with]
+}
+
+/// The files that a run writes. What has no file of its own goes to standard output.
+fn outputs_of<'a>(options: &Options<'a>) -> [Option<&'a str>; 6] {
+    [
+        Some(options.out.unwrap_or(STANDARD)),
+        options.factor,
+        options.permuted,
+        options.tree,
+        options.picture,
+        options.tree_picture,
+    ]
+}
+
+/// Refuses standard input for more than one of the files to read.
+fn check_standard<'a>(options: &Options<'a>) -> Result<(), Complaint<'a>> {
+    let inputs = inputs_of(options);
+    let standard = inputs.iter().filter(|path| **path == Some(STANDARD));
+    if standard.count() > 1 {
+        return about(STANDARD, Err(Cause::StandardInput));
     }
-    'others: for other in others {
-        if let Some(other) = *other {
-            if name_one_file(rt, path, other) {
-                return about(path, Err(Cause::Twice));
+    Ok(())
+}
+
+/// Refuses standard input for more than one of the files to read, and, unless that is allowed, a matrix that asks for
+/// much more memory than its entries justify.
+pub fn check_inputs<'a, R: Files + AllocGlobal>(
+    rt: &R,
+    options: &Options<'a>,
+) -> Result<(), Complaint<'a>> {
+    check_standard(options)?;
+    if options.yes {
+        return Ok(());
+    }
+    about(options.file, check_size(rt, options.file))
+}
+
+/// Refuses an output that is one of some files to read.
+fn check_reading<'a, R: Files + AllocGlobal>(
+    rt: &R,
+    output: &'a str,
+    inputs: &[Option<&str>],
+) -> Result<(), Complaint<'a>> {
+    'inputs: for input in inputs {
+        if let Some(input) = *input {
+            if about(output, is_input(rt, output, input))? {
+                return about(output, Err(Cause::Twice));
             }
         }
     }
     Ok(())
 }
 
-/// Refuses outputs that are folders, or one file with another output or an input.
-fn check_outputs<'a, R: Files>(rt: &R, options: &Options<'a>) -> Result<(), Complaint<'a>> {
-    let inputs = [Some(options.file), options.hold, options.with];
-    let outputs = [
-        options.out,
-        options.permuted,
-        options.tree,
-        options.picture,
-        options.tree_picture,
-    ];
+/// Refuses an output that is one of some others.
+fn check_writing<'a, R: Files + AllocGlobal>(
+    rt: &R,
+    output: &'a str,
+    others: &[Option<&str>],
+) -> Result<(), Complaint<'a>> {
+    'others: for other in others {
+        if let Some(other) = *other {
+            if about(output, are_one_output(rt, output, other))? {
+                return about(output, Err(Cause::Twice));
+            }
+        }
+    }
+    Ok(())
+}
+
+/// Refuses outputs that are one file with another output or an input.
+fn check_names<'a, R: Files + AllocGlobal>(
+    rt: &R,
+    options: &Options<'a>,
+) -> Result<(), Complaint<'a>> {
+    let inputs = inputs_of(options);
+    let outputs = outputs_of(options);
     'outputs: for k in 0..outputs.len() {
-        check_output(rt, outputs[k], &inputs)?;
-        check_output(rt, outputs[k], &outputs[..k])?;
+        if let Some(output) = outputs[k] {
+            check_reading(rt, output, &inputs)?;
+            check_writing(rt, output, &outputs[..k])?;
+        }
+    }
+    Ok(())
+}
+
+/// Refuses outputs that are one file with another output or an input, or that nothing can be written to.
+fn check_outputs<'a, R: Files + AllocGlobal>(
+    rt: &R,
+    options: &Options<'a>,
+) -> Result<(), Complaint<'a>> {
+    check_names(rt, options)?;
+    'outputs: for output in outputs_of(options) {
+        if let Some(output) = output {
+            about(output, check_place(rt, output))?;
+        }
     }
     Ok(())
 }
@@ -180,10 +277,14 @@ fn check_outputs<'a, R: Files>(rt: &R, options: &Options<'a>) -> Result<(), Comp
 pub fn read_task<'a, R: Files + Input + Clock + Eprint + AllocGlobal>(
     rt: &R,
     options: &Options<'a>,
-) -> Result<Task, Complaint<'a>> {
+) -> Result<Task, Complaint<'a>>
+    ensures control { IfOk result (λ task. IsControlOf options.now task.control) }
+    ensures hold { IfOk result (λ task. is_some task.hold ≡ is_some options.now.hold) }
+{
     let control = control_of(options)?;
+    check_inputs(rt, options)?;
     check_outputs(rt, options)?;
-    let progress = Progress::begin(rt, options.progress);
+    let progress = Progress::begin(rt, options.progress, options.quiet);
     let matrix = about(options.file, read_file(rt, &progress, options.file))?;
     let hold = read_hold(rt, &progress, options, matrix.n)?;
     tell_ordering(rt, &progress, &matrix);

@@ -1,16 +1,22 @@
 //! What the command `rimopaku` is asked for, and the files that it reads and writes: the words of the command line, the
 //! rows that a text lists, the files of a run, and why a run ends early.
 //!
-//! What is read from a text is told by contracts. What is tested alone: the words (`request`), the files (`inputs`,
-//! `places`) and what is told meanwhile (`progress`). The matrix of a file is read by `amd_market`.
+//! What is read from a text, and what the options that were found choose, is told by contracts. What is tested alone:
+//! which options there are (`request`), the files (`inputs`, `places`, `putting`), what is told meanwhile (`progress`)
+//! and what leads on after a message (`advice`). The matrix of a file is read by `amd_market`.
 #![tactic(auto)]
 
+pub mod advice;
 pub mod causes;
 pub mod held;
 pub mod inputs;
 pub mod listed;
+pub mod numbers;
 pub mod order_faults;
 pub mod places;
 pub mod progress;
+pub mod putting;
 pub mod request;
+pub mod sizes;
+pub mod unreadable;
 pub mod watched;

@@ -1,20 +1,37 @@
-// The files that outputs go to. An output is written beside its place first and takes the place once it is whole, so
-// that nothing half written stands there; and it is no file that the run reads or writes besides. Called by `program`.
-// Files are tested alone: no contract can speak of them.
+// The places that outputs go to: which file a path names, whether two paths name one, and whether an output can go
+// there. Called by `inputs`, before the work, and by `putting`. Files are tested alone: no contract can speak of them.
 
 use crate::causes::Cause;
-use std::fs::OpenOptions;
-use std::io::{ErrorKind, Write};
+use std::fs::{Metadata, OpenOptions};
+use std::io::ErrorKind;
 use std::os::unix::fs::MetadataExt;
 use std::rt::Files;
 use std::{fs, io};
 
-/// How many names are tried for a file beside an output; a run that was killed may have left some of them.
-const NAMES: u32 = 1000;
+/// The name of standard input and of standard output on a command line.
+pub const STANDARD: &str = "-";
 
-/// The device and the number of the regular file that a path names, if it names one.
-fn number_of<R: Files>(rt: &R, path: &str) -> Option<(u64, u64)> {
-    let found = fs::metadata(rt, path).ok()?;
+/// So many links are followed from one path, as in Linux.
+const LINKS: u32 = 40;
+
+/// The path of an input: for `-`, that of standard input.
+pub fn input_path(path: &str) -> &str {
+    if path == STANDARD {
+        return "/dev/stdin";
+    }
+    path
+}
+
+/// The path of an output: for `-`, that of standard output.
+fn output_path(path: &str) -> &str {
+    if path == STANDARD {
+        return "/dev/stdout";
+    }
+    path
+}
+
+/// The device and the number of a regular file.
+fn number_of(found: &Metadata) -> Option<(u64, u64)> {
     if found.is_file() {
         Some((found.dev(), found.ino()))
     } else {
@@ -22,26 +39,42 @@ fn number_of<R: Files>(rt: &R, path: &str) -> Option<(u64, u64)> {
     }
 }
 
-/// Whether a path names a regular file, or nothing yet. A device or a pipe may be written to more than once.
-fn is_plain<R: Files>(rt: &R, path: &str) -> bool {
-    match fs::symlink_metadata(rt, path) {
-        Ok(found) => found.is_file(),
-        Err(error) => error.kind() == ErrorKind::NotFound,
+/// What a path names; none where nothing is there yet.
+pub fn found_at<R: Files>(rt: &R, path: &str) -> Result<Option<Metadata>, Cause> {
+    match fs::metadata(rt, path) {
+        Ok(found) => Ok(Some(found)),
+        Err(error) if error.kind() == ErrorKind::NotFound => Ok(None),
+        Err(error) => Err(Cause::Write(error)),
     }
 }
 
-/// Whether a path names a folder.
-pub fn names_folder<R: Files>(rt: &R, path: &str) -> bool {
-    fs::metadata(rt, path).is_ok_and(|found| found.is_dir())
-}
-
 /// The folder that a path is in, and the name that it has there.
-fn folder_and_name(path: &str) -> (&str, &str) {
+pub fn folder_and_name(path: &str) -> (&str, &str) {
     match path.rsplit_once('/') {
         Some(("", name)) => ("/", name),
         Some(parts) => parts,
         None => (".", path),
     }
+}
+
+/// Where a path leads over links, the last of which may lead to nothing yet.
+pub fn end_of<R: Files + AllocGlobal>(rt: &R, path: &str) -> Result<String, Cause> {
+    let mut place = String::from_str(rt.alloc(), path)?;
+    'links: for _ in 0..LINKS {
+        match fs::symlink_metadata(rt, place.as_str()) {
+            Ok(found) if found.is_symlink() => {}
+            _ => return Ok(place),
+        }
+        let target = fs::read_link(rt, place.as_str())?;
+        let (folder, _) = folder_and_name(place.as_str());
+        let target = target.as_str();
+        place = if target.starts_with('/') {
+            String::from_str(rt.alloc(), target)?
+        } else {
+            format!(in rt.alloc(); "{folder}/{target}")?
+        };
+    }
+    Err(Cause::Write(io::Error::from(ErrorKind::Other)))
 }
 
 /// Whether two folders are one.
@@ -52,85 +85,86 @@ fn are_one_folder<R: Files>(rt: &R, first: &str, second: &str) -> bool {
     }
 }
 
-/// Whether two paths name one place in one folder.
+/// Whether two paths, neither of which is a link, name one place in one folder.
 fn name_one_place<R: Files>(rt: &R, first: &str, second: &str) -> bool {
     let (one, name) = folder_and_name(first);
     let (other, other_name) = folder_and_name(second);
     name == other_name && are_one_folder(rt, one, other)
 }
 
-/// Whether two paths name one file that is no device, or one place where nothing is yet.
-pub fn name_one_file<R: Files>(rt: &R, first: &str, second: &str) -> bool {
-    match (number_of(rt, first), number_of(rt, second)) {
-        (Some(one), Some(other)) => one == other,
-        (None, None) => is_plain(rt, first) && name_one_place(rt, first, second),
-        _ => false,
+/// Whether two paths name one regular file, or one place where nothing is yet. A device or a pipe may be written to
+/// more than once.
+fn lead_to_one<R: Files + AllocGlobal>(rt: &R, first: &str, second: &str) -> Result<bool, Cause> {
+    match (found_at(rt, first)?, found_at(rt, second)?) {
+        (Some(one), Some(other)) => match number_of(&one) {
+            Some(number) => Ok(number_of(&other) == Some(number)),
+            None => Ok(false),
+        },
+        (None, None) => {
+            let (one, other) = (end_of(rt, first)?, end_of(rt, second)?);
+            Ok(name_one_place(rt, one.as_str(), other.as_str()))
+        }
+        _ => Ok(false),
     }
 }
 
-/// Writes a text to the file that a path names.
-fn write_through<R: Files>(rt: &R, path: &str, text: &[u8]) -> Result<(), Cause> {
-    let mut out = fs::create(rt, path)?;
-    out.write_all(text)?;
-    out.flush()?;
-    Ok(())
+/// Whether an output is an input too. A file that cannot be looked at is no output, or is refused where it is opened.
+pub fn is_input<R: Files + AllocGlobal>(rt: &R, output: &str, input: &str) -> Result<bool, Cause> {
+    let input = input_path(input);
+    if fs::metadata(rt, input).is_err() {
+        return Ok(false);
+    }
+    lead_to_one(rt, output_path(output), input)
+}
+
+/// Whether two outputs are one.
+pub fn are_one_output<R: Files + AllocGlobal>(
+    rt: &R,
+    first: &str,
+    second: &str,
+) -> Result<bool, Cause> {
+    if first == STANDARD && second == STANDARD {
+        return Ok(true);
+    }
+    lead_to_one(rt, output_path(first), output_path(second))
+}
+
+/// Opens a file to write that is there. What it has stays.
+pub fn open_old<R: Files>(rt: &R, path: &str) -> io::Result<R::File> {
+    let mut options = OpenOptions::new();
+    options.write(true);
+    options.open(rt, path)
 }
 
 /// Opens a file to write that was not there.
-fn open_new<R: Files>(rt: &R, path: &str) -> io::Result<R::File> {
+pub fn open_new<R: Files>(rt: &R, path: &str) -> io::Result<R::File> {
     let mut options = OpenOptions::new();
     options.write(true);
     options.create_new(true);
     options.open(rt, path)
 }
 
-/// Makes a file beside a place, with the first of some names that is free: a run beside this one takes another.
-fn make_beside<R: Files + AllocGlobal>(rt: &R, path: &str) -> Result<(String, R::File), Cause> {
-    'names: for count in 0..NAMES {
-        let beside = format!(in rt.alloc(); "{path}.rimopaku-part-{count}")?;
-        match open_new(rt, beside.as_str()) {
-            Ok(file) => return Ok((beside, file)),
-            Err(error) if error.kind() == ErrorKind::AlreadyExists => {}
-            Err(error) => return Err(Cause::from(error)),
-        }
-    }
-    Err(Cause::Write(io::Error::from(ErrorKind::AlreadyExists)))
-}
-
-/// Writes a text to a file, and moves it from beside a place to there.
-fn move_whole<R: Files>(
-    rt: &R,
-    mut file: R::File,
-    beside: &str,
-    path: &str,
-    text: &[u8],
-) -> Result<(), Cause> {
-    file.write_all(text)?;
-    file.flush()?;
-    drop(file);
-    fs::rename(rt, beside, path)?;
+/// Refuses a place that no file can be made at: makes one, and removes it.
+fn check_new<R: Files + AllocGlobal>(rt: &R, path: &str) -> Result<(), Cause> {
+    let place = end_of(rt, path)?;
+    drop(open_new(rt, place.as_str())?);
+    fs::remove_file(rt, place.as_str())?;
     Ok(())
 }
 
-/// Writes a text to a regular file or to a place with no file, which has it whole or stays as it was.
-fn put_whole<R: Files + AllocGlobal>(rt: &R, path: &str, text: &[u8]) -> Result<(), Cause> {
-    let (beside, file) = make_beside(rt, path)?;
-    let outcome = move_whole(rt, file, beside.as_str(), path, text);
-    if outcome.is_err() {
-        let _ = fs::remove_file(rt, beside.as_str());
+/// Refuses a folder, a file that may not be written, and a place that no file can be made at. A device or a pipe is
+/// opened once it is written to.
+pub fn check_place<R: Files + AllocGlobal>(rt: &R, path: &str) -> Result<(), Cause> {
+    if path == STANDARD {
+        return Ok(());
     }
-    outcome
-}
-
-/// Writes a text to a file, which has it whole or stays as it was. A link to a file is followed. A device or a pipe,
-/// and a link to nothing, is written to as it is.
-pub fn put_file<R: Files + AllocGlobal>(rt: &R, path: &str, text: &[u8]) -> Result<(), Cause> {
-    if is_plain(rt, path) {
-        return put_whole(rt, path, text);
+    match found_at(rt, path)? {
+        Some(found) if found.is_dir() => Err(Cause::Folder),
+        Some(found) if found.is_file() => {
+            drop(open_old(rt, path)?);
+            Ok(())
+        }
+        Some(_) => Ok(()),
+        None => check_new(rt, path),
     }
-    if number_of(rt, path).is_none() {
-        return write_through(rt, path, text);
-    }
-    let place = fs::canonicalize(rt, path)?;
-    put_whole(rt, place.as_str(), text)
 }

@@ -15,14 +15,17 @@ pub struct Progress {
     start: Option<Instant>,
     /// Whether the reading of a file is told in percent.
     pub percent: bool,
+    /// Whether nothing is told.
+    quiet: bool,
 }
 
 impl Progress {
-    /// The progress of a run that begins now, with percent or without.
-    pub fn begin<R: Clock>(rt: &R, percent: bool) -> Progress {
+    /// The progress of a run that begins now, with percent or without, unless nothing is to be told.
+    pub fn begin<R: Clock>(rt: &R, percent: bool, quiet: bool) -> Progress {
         Progress {
             start: Instant::now(rt).ok(),
-            percent,
+            percent: percent && !quiet,
+            quiet,
         }
     }
 
@@ -37,10 +40,10 @@ impl Progress {
         }
     }
 
-    /// Tells the stage that begins, where it is `large` or the run has taken some time. Where standard error takes no
-    /// text, the run goes on.
+    /// Tells the stage that begins, where it is `large` or the run has taken some time, unless nothing is to be told.
+    /// Where standard error takes no text, the run goes on.
     pub fn tell<R: Clock + Eprint, T: Display + Drop>(&self, rt: &R, large: bool, stage: T) {
-        if large || self.is_slow(rt) {
+        if !self.quiet && (large || self.is_slow(rt)) {
             let _ = rt.eprintln(stage);
         }
     }

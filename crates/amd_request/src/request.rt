@@ -1,12 +1,19 @@
-// The words of the command line, and what they ask for. Called by `program`. No contract says what they ask for; tests
-// do.
+// The words of the command line, and what they ask for. Which options there are is tested; what those that were found
+// ask for is told by contracts.
 
+ghost use Rattle.std.specs.Prelude.{◌≡◌, ◌||◌, map, option_map, unwrap_or, IfOk, IfSome};
+ghost use Rattle.std.specs.String.{string_bytes};
+ghost use Rattle.amd_request.specs.Requests.{AreOptionsOf, AsksComparison, AsksFor, AsksInWords};
+ghost use Rattle.amd_request.specs.Requests.{IsControlOf, IsFlag};
+
+use crate::numbers::thousandths_of;
 use amd_types::amd::Control;
 use clap::{Arg, ArgAction, ArgMatches, Command, Error};
 use std::alloc::{AllocError, Global};
 
-/// The version of the project, and of the kit that it is proved with.
-const VERSION: &str = "1.0.0 (rattle-kit-13f logic dac8208d650f15bf)";
+/// The version of the project, whether it has changes since, and the version of the kit that it is proved with.
+const VERSION: &str =
+    "1.0.0 (with changes of the coming version; rattle-kit-13f logic dac8208d650f15bf)";
 
 /// The words of a subcommand. Those that it does not know are as where they are not given.
 #[derive(Clone, Copy)]
@@ -29,6 +36,16 @@ pub struct Options<'a> {
     pub compare: bool,
     /// The file with another order.
     pub with: Option<&'a str>,
+    /// Whether the place of each row is written, and not the row at each place.
+    pub inverse: bool,
+    /// Whether the rows that are written count from 0.
+    pub zero_based: bool,
+    /// Whether nothing but faults is told on standard error.
+    pub quiet: bool,
+    /// Whether a file may ask for much more memory than its entries justify.
+    pub yes: bool,
+    /// The file for the pattern of the factor.
+    pub factor: Option<&'a str>,
     /// The file for the permuted matrix.
     pub permuted: Option<&'a str>,
     /// The file for the elimination tree and its supernodes.
@@ -66,7 +83,8 @@ fn dense_argument<'a>(alloc: Global) -> Arg<'a> {
         .value_name("T")
         .allow_hyphen_values(true)
         .help(
-            "Hold rows with more than max(16, T * sqrt(rows)) edges last; 10 where it is not given",
+            "Hold rows with more than max(16, T * sqrt(rows)) edges last; 10 where it is not given; \
+            below 0 almost none is",
         )
 }
 
@@ -81,7 +99,12 @@ struct Choice {
 }
 
 /// The options of each subcommand.
-static COMMON: [Choice; 2] = [
+static COMMON: [Choice; 4] = [
+    Choice {
+        name: "yes",
+        has_path: false,
+        help: "Go on where FILE tells of many more rows than it has bytes",
+    },
     Choice {
         name: "json",
         has_path: false,
@@ -91,6 +114,11 @@ static COMMON: [Choice; 2] = [
         name: "progress",
         has_path: false,
         help: "Tell in percent how much of FILE was read",
+    },
+    Choice {
+        name: "quiet",
+        has_path: false,
+        help: "Tell nothing but faults on standard error",
     },
 ];
 
@@ -104,12 +132,27 @@ static ORDERING: [Choice; 2] = [
     Choice {
         name: "hold",
         has_path: true,
-        help: "Hold the rows last whose numbers PATH lists, one a line",
+        help: "Hold the rows last whose numbers PATH lists, one a line; - is standard input",
     },
 ];
 
 /// The options of what `order` writes beside the permutation.
-static WRITING: [Choice; 2] = [
+static WRITING: [Choice; 5] = [
+    Choice {
+        name: "inverse",
+        has_path: false,
+        help: "Write the place of each row, and not the row at each place",
+    },
+    Choice {
+        name: "zero-based",
+        has_path: false,
+        help: "Write rows or places that count from 0",
+    },
+    Choice {
+        name: "factor",
+        has_path: true,
+        help: "Write the pattern of the factor below the diagonal, in the new order, to PATH",
+    },
     Choice {
         name: "permuted",
         has_path: true,
@@ -123,16 +166,11 @@ static WRITING: [Choice; 2] = [
 ];
 
 /// The options of what is drawn.
-static DRAWING: [Choice; 3] = [
+static DRAWING: [Choice; 2] = [
     Choice {
         name: "picture",
         has_path: true,
         help: "Draw the pattern before and after to PATH, as SVG",
-    },
-    Choice {
-        name: "symmetric",
-        has_path: false,
-        help: "Draw the pattern of A + A' before, and not that of A",
     },
     Choice {
         name: "tree-picture",
@@ -162,7 +200,17 @@ fn with_argument<'a>(alloc: Global, beside: &'a str) -> Result<Arg<'a>, AllocErr
     path_argument(
         alloc,
         "with",
-        "Tell them under the order of PATH too, one row a line, from 1",
+        "Count it in the order that PATH lists too, one row a line, from 1; - is standard input",
+    )
+    .requires_all(&[beside])
+}
+
+/// The option of the panel before, beside the picture that has it.
+fn symmetric_argument<'a>(alloc: Global, beside: &'a str) -> Result<Arg<'a>, AllocError> {
+    flag_argument(
+        alloc,
+        "symmetric",
+        "Draw the pattern of A + A' before, and not that of A",
     )
     .requires_all(&[beside])
 }
@@ -226,11 +274,11 @@ fn order_command<'a>(alloc: Global) -> Result<Command<'a>, AllocError> {
         alloc,
         "order",
         "Order the rows and write the permutation, one row a line, counted from 1",
-        "Write the permutation to PATH and not to standard output",
+        "Write the permutation to PATH and not to standard output, which is -",
     )?;
     let command = with_choices(alloc, command, &WRITING)?;
     let command = comparing_command(alloc, command, "compare")?;
-    with_choices(alloc, command, &DRAWING)
+    with_choices(alloc, command, &DRAWING)?.arg(symmetric_argument(alloc, "picture")?)
 }
 
 /// The subcommand `analyze`.
@@ -239,7 +287,7 @@ fn analyze_command<'a>(alloc: Global) -> Result<Command<'a>, AllocError> {
         alloc,
         "analyze",
         "Order the rows and write the factor's columns: row, parent's row (0: none), entries below the diagonal",
-        "Write the columns to PATH and not to standard output",
+        "Write the columns to PATH and not to standard output, which is -",
     )
 }
 
@@ -269,28 +317,70 @@ fn whole_command<'a>(alloc: Global) -> Result<Command<'a>, AllocError> {
     with_subcommand(command, info_command(alloc))
 }
 
+/// A text, or another where there is none.
+fn text_or<'a>(text: Option<&'a str>, other: &'a str) -> &'a str
+    ensures { result.now ≡ unwrap_or (option_map (λ s. s.now) text.entry) other.now }
+{
+    match text {
+        Some(text) => text,
+        None => other,
+    }
+}
+
+/// Whether a flag was given.
+fn flag_of(matches: &ArgMatches<'_>, name: &str) -> bool
+    ensures { IsFlag matches.now name.now result }
+{
+    matches.get_flag(name)
+}
+
+/// Whether one of two flags is set.
+fn is_either(first: bool, second: bool) -> bool
+    ensures { result ≡ (first || second) }
+{
+    first || second
+}
+
+/// Whether a comparison is asked for, by either of its names.
+fn asks_comparison(matches: &ArgMatches<'_>) -> bool
+    ensures { AsksComparison matches.now result }
+{
+    let compared = flag_of(matches, "compare");
+    let counted = flag_of(matches, "exact");
+    is_either(compared, counted)
+}
+
 /// The words of a subcommand.
-fn options_of<'a>(matches: &ArgMatches<'a>) -> Options<'a> {
+fn options_of<'a>(matches: &ArgMatches<'a>) -> Options<'a>
+    ensures { AreOptionsOf matches.now result }
+{
     Options {
-        file: matches.get_str("FILE").unwrap_or("-"),
+        file: text_or(matches.get_str("FILE"), "-"),
         dense: matches.get_str("dense"),
-        aggressive: !matches.get_flag("no-aggressive"),
+        aggressive: !flag_of(matches, "no-aggressive"),
         hold: matches.get_str("hold"),
         out: matches.get_str("out"),
-        json: matches.get_flag("json"),
-        progress: matches.get_flag("progress"),
-        compare: matches.get_flag("compare") || matches.get_flag("exact"),
+        json: flag_of(matches, "json"),
+        progress: flag_of(matches, "progress"),
+        compare: asks_comparison(matches),
         with: matches.get_str("with"),
+        inverse: flag_of(matches, "inverse"),
+        zero_based: flag_of(matches, "zero-based"),
+        quiet: flag_of(matches, "quiet"),
+        yes: flag_of(matches, "yes"),
+        factor: matches.get_str("factor"),
         permuted: matches.get_str("permuted"),
         tree: matches.get_str("tree"),
         picture: matches.get_str("picture"),
-        symmetric: matches.get_flag("symmetric"),
+        symmetric: flag_of(matches, "symmetric"),
         tree_picture: matches.get_str("tree-picture"),
     }
 }
 
 /// What the subcommand that was found asks for.
-fn request_in<'a>(matches: &ArgMatches<'a>) -> Request<'a> {
+fn request_in<'a>(matches: &ArgMatches<'a>) -> Request<'a>
+    ensures { AsksFor matches.now result }
+{
     match matches.subcommand() {
         Some(("order", found)) => Request::Order(options_of(found)),
         Some(("analyze", found)) => Request::Analyze(options_of(found)),
@@ -304,41 +394,18 @@ fn request_in<'a>(matches: &ArgMatches<'a>) -> Request<'a> {
 /// # Errors
 ///
 /// An error with the text to show: for words that are wrong, and for those that ask for help or the version.
-pub fn request_of<'a>(alloc: Global, words: &'a [String]) -> Result<Request<'a>, Error> {
+pub fn request_of<'a>(alloc: Global, words: &'a [String]) -> Result<Request<'a>, Error>
+    ensures { IfOk result (AsksInWords (map string_bytes words.now)) }
+{
     let matches = whole_command(alloc)?.try_get_matches_from(words)?;
     Ok(request_in(&matches))
 }
 
-/// The thousandths that the places behind the point spell: none, or up to three digits.
-fn fraction_of(places: &str) -> Option<i32> {
-    if !places.bytes().all(|byte| byte.is_ascii_digit()) {
-        return None;
-    }
-    let unit = match places.len() {
-        0 => return Some(0),
-        1 => 100,
-        2 => 10,
-        3 => 1,
-        _ => return None,
-    };
-    places.parse::<i32>().ok()?.checked_mul(unit)
-}
-
-/// The thousandths that a decimal number with up to three places spells, where 32 bits hold them.
-pub fn thousandths_of(text: &str) -> Option<i32> {
-    let (whole, places) = text.split_once('.').unwrap_or((text, ""));
-    let size = whole.parse::<i32>().ok()?.checked_mul(1000)?;
-    let rest = fraction_of(places)?;
-    if text.starts_with('-') {
-        size.checked_sub(rest)
-    } else {
-        size.checked_add(rest)
-    }
-}
-
 impl<'a> Options<'a> {
     /// What the words choose, where the dense row parameter is a decimal number with up to three places.
-    pub fn control(&self) -> Option<Control> {
+    pub fn control(&self) -> Option<Control>
+        ensures { IfSome result (IsControlOf self.now) }
+    {
         let mut control = Control::default();
         control.aggressive = self.aggressive;
         if let Some(text) = self.dense {

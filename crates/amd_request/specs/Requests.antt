@@ -1,0 +1,75 @@
+-- What the words of a command line ask for.
+use Rattle.std.specs.Prelude.{◌≡◌, ◌||◌, ℕ, ℤ, Bool, true, false, not, Option, None, Some, List, codes, pos}
+use Rattle.std.specs.Prelude.{option_map, unwrap_or}
+use Rattle.std.specs.Borrow.{Bor}
+use Rattle.clap.specs.Simple.{HasMatchesOf, app_of}
+use Rattle.clap.specs.declared.builder.command.Command.{Command}
+use Rattle.clap.specs.Matches.{first_value, found_of, one_text, subcommand_name_of}
+use Rattle.clap.specs.declared.parser.matches.ArgMatches.{ArgMatches}
+use Rattle.amd_types.specs.declared.amd.Control.{Control}
+use Rattle.amd_request.specs.Numbers.{SpellsThousandths}
+use Rattle.amd_request.specs.declared.request.Options.{Options}
+use Rattle.amd_request.specs.declared.request.Request.{Request}
+use Rattle.amd_request.specs.declared.request.Request.TheVariants.{Order, Analyze, Info}
+
+-- a flag is set exactly where it was given
+pub record IsFlag (m : ArgMatches) (id : List ℕ) (set : Bool) : Type 0 where
+  pub absent : one_text (found_of m) id ≡ None → set ≡ false
+  pub given : one_text (found_of m) id ≡ Some (codes "true") → set ≡ true
+  pub refused : one_text (found_of m) id ≡ Some (codes "false") → set ≡ false
+
+-- a comparison is asked for by either of its names
+pub record AsksComparison (m : ArgMatches) (set : Bool) : Type 0 where
+  pub compared : Bool
+  pub by_compare : IsFlag m (codes "compare") compared
+  pub counted : Bool
+  pub by_exact : IsFlag m (codes "exact") counted
+  pub either : set ≡ (compared || counted)
+
+-- the text behind an option, where it was given
+abbrev pub IsText : ArgMatches → List ℕ → Option (Bor (List ℕ)) → Type 0
+IsText m id text = option_map (λ s. s.now) text ≡ first_value (found_of m) id
+
+-- each option is what was given under its name
+pub record AreOptionsOf (m : ArgMatches) (o : Options) : Type 0 where
+  pub file : o.file.now ≡ unwrap_or (first_value (found_of m) (codes "FILE")) (codes "-")
+  pub dense : IsText m (codes "dense") o.dense
+  pub refused : Bool
+  pub by_no_aggressive : IsFlag m (codes "no-aggressive") refused
+  pub aggressive : o.aggressive ≡ not refused
+  pub hold : IsText m (codes "hold") o.hold
+  pub out : IsText m (codes "out") o.out
+  pub json : IsFlag m (codes "json") o.json
+  pub progress : IsFlag m (codes "progress") o.progress
+  pub compare : AsksComparison m o.compare
+  pub with_order : IsText m (codes "with") o.with
+  pub inverse : IsFlag m (codes "inverse") o.inverse
+  pub zero_based : IsFlag m (codes "zero-based") o.zero_based
+  pub quiet : IsFlag m (codes "quiet") o.quiet
+  pub yes : IsFlag m (codes "yes") o.yes
+  pub factor : IsText m (codes "factor") o.factor
+  pub permuted : IsText m (codes "permuted") o.permuted
+  pub tree : IsText m (codes "tree") o.tree
+  pub picture : IsText m (codes "picture") o.picture
+  pub symmetric : IsFlag m (codes "symmetric") o.symmetric
+  pub tree_picture : IsText m (codes "tree-picture") o.tree_picture
+
+-- the request is that of the subcommand that was found, with the options of some matches
+abbrev pub AsksFor : ArgMatches → Request → Type 0
+AsksFor m (Order o) = (subcommand_name_of m ≡ Some (codes "order")) × ((found : ArgMatches) × AreOptionsOf found o)
+AsksFor m (Analyze o) = (subcommand_name_of m ≡ Some (codes "analyze")) × ((found : ArgMatches) × AreOptionsOf found o)
+AsksFor m (Info o) = (found : ArgMatches) × AreOptionsOf found o
+
+-- the request is that of the matches that a command has on the words
+abbrev pub AsksInWords : List (List ℕ) → Request → Type 0
+AsksInWords words r = (c : Command) × (m : ArgMatches) × HasMatchesOf (app_of c) words m × AsksFor m r
+
+-- the dense row parameter is the number that was given, or 10
+abbrev pub IsDense : Option (Bor (List ℕ)) → ℤ → Type 0
+IsDense None d = d ≡ pos 10000
+IsDense (Some text) d = SpellsThousandths text.now d
+
+-- what an ordering is controlled by is what was given
+pub record IsControlOf (o : Options) (c : Control) : Type 0 where
+  pub aggressive : c.aggressive ≡ o.aggressive
+  pub dense : IsDense o.dense c.dense
