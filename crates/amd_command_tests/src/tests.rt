@@ -3,6 +3,8 @@
 mod answers;
 mod choices;
 mod desk;
+mod files;
+mod heard;
 mod outputs;
 mod pictures;
 mod runs;

@@ -47,6 +47,8 @@ pub struct Desk<'a> {
     pub step: u64,
     /// Whether standard output takes nothing.
     pub broken: bool,
+    /// Whether standard error takes nothing.
+    pub mute: bool,
 }
 
 /// Appends bytes to a page.
@@ -68,6 +70,9 @@ impl Desk<'_> {
 
     /// Tells a text on standard error.
     fn tell<D: Display + Drop>(&self, value: D, end: &str) -> io::Result<()> {
+        if self.mute {
+            return Err(io::Error::from(ErrorKind::WriteZero));
+        }
         let text = format!(in self.host.alloc(); "{value}{end}")?;
         keep(&self.pages.told, text.as_bytes())
     }
@@ -183,6 +188,18 @@ impl Files for Desk<'_> {
 
     fn canonicalize<B: Allocator>(&self, alloc: B, path: &str) -> io::Result<PathBuf<B>> {
         self.host.canonicalize(alloc, path)
+    }
+
+    fn read_link<B: Allocator>(&self, alloc: B, path: &str) -> io::Result<PathBuf<B>> {
+        self.host.read_link(alloc, path)
+    }
+
+    fn chown(&self, path: &str, uid: Option<u32>, gid: Option<u32>) -> io::Result<()> {
+        self.host.chown(path, uid, gid)
+    }
+
+    fn hard_link(&self, original: &str, link: &str) -> io::Result<()> {
+        self.host.hard_link(original, link)
     }
 
     fn symlink(&self, original: &str, link: &str) -> io::Result<()> {

@@ -63,20 +63,34 @@ fn text_of(alloc: Global, page: &RefCell<Vec<u8>>) -> Result<String, Fail> {
 
 /// How a run ended.
 #[derive(Drop)]
-struct Ended {
-    status: u8,
-    shown: String,
-    told: String,
+pub struct Ended {
+    /// The exit status.
+    pub status: u8,
+    /// What stands on standard output.
+    pub shown: String,
+    /// What stands on standard error.
+    pub told: String,
 }
 
-/// Runs the command with a text as its input, with a clock that goes on by so many seconds, and with an output that
-/// fails where it is `broken`.
-fn run_at_desk(
+/// Which of the streams of a run takes nothing.
+#[derive(Clone, Copy, PartialEq)]
+pub enum Broken {
+    /// None.
+    Neither,
+    /// Standard output.
+    Output,
+    /// Standard error.
+    Error,
+}
+
+/// Runs the command with a text as its input, with a clock that goes on by so many seconds, and with a stream that
+/// fails.
+pub fn run_at_desk(
     host: &HostRuntime,
     words: &[&str],
     input: &str,
     step: u64,
-    broken: bool,
+    broken: Broken,
 ) -> Result<Ended, Fail> {
     let alloc = host.alloc();
     let pages = Pages::new(alloc);
@@ -86,7 +100,8 @@ fn run_at_desk(
         input: input.as_bytes(),
         pages: &pages,
         step,
-        broken,
+        broken: broken == Broken::Output,
+        mute: broken == Broken::Error,
     };
     let status = run(&desk, &owned);
     Ok(Ended {
@@ -100,7 +115,7 @@ fn run_at_desk(
 type Refused = (&'static [&'static str], &'static str, u8, &'static str);
 
 /// Words and files at fault: status 2. Outputs that cannot be opened: status 1.
-static REFUSED: [Refused; 24] = [
+static REFUSED: [Refused; 34] = [
     (&[], "", 2, "Usage: rimopaku"),
     (&["sort", "-"], PATH, 2, "sort"),
     (&["order"], PATH, 2, "FILE"),
@@ -109,7 +124,7 @@ static REFUSED: [Refused; 24] = [
         &["order", "-", "--dense", "ten"],
         PATH,
         2,
-        "rimopaku: --dense: the dense row parameter is no",
+        "rimopaku: --dense: must be a decimal number with up to three places",
     ),
     (&["info", "-"], "", 2, "rimopaku: -: the file is empty\n"),
     (
@@ -125,10 +140,40 @@ static REFUSED: [Refused; 24] = [
         "rimopaku: -: line 3: the row is out of range: 3, of rows 1 to 2",
     ),
     (
-        &["order", "-", "--picture", NOWHERE],
+        &["order", "-", "--picture", "/dev/null"],
         BAD,
         2,
         "rimopaku: -: line 3: the row is out of range: 3, of rows 1 to 2",
+    ),
+    (
+        &["order", "-", "--picture", NOWHERE],
+        BAD,
+        1,
+        "rimopaku: /no/such/folder/file: cannot be written: ",
+    ),
+    (
+        &["order", "-", "--tree-picture", NOWHERE],
+        PATH,
+        1,
+        "rimopaku: /no/such/folder/file: cannot be written: ",
+    ),
+    (
+        &["order", "-", "--tree", "-"],
+        PATH,
+        2,
+        "rimopaku: -: is named twice: an output must be a file of its own\n",
+    ),
+    (
+        &["order", "-", "--hold", "-"],
+        PATH,
+        2,
+        "rimopaku: -: standard input is named twice: only one of the files to read can be -\n",
+    ),
+    (
+        &["info", "-", "--exact", "--with", "-"],
+        PATH,
+        2,
+        "rimopaku: -: standard input is named twice: only one of the files to read can be -\n",
     ),
     (
         &["analyze", "-"],
@@ -213,6 +258,31 @@ static REFUSED: [Refused; 24] = [
         "rimopaku: /dev/null: no order of the rows: row 1 does not stand there\n",
     ),
     (
+        &["order", "-", "--dense", ".2147484"],
+        PATH,
+        2,
+        "such as 10 or 2.5, from -2147483.648 to 2147483.647\n",
+    ),
+    (
+        &["info", "-"],
+        "%%MatrixMarket matrix coordinate pattern general\n2 3 0\n",
+        2,
+        "\nrimopaku: only a square matrix is ordered: for least squares",
+    ),
+    (
+        &["info", "-", "--compare"],
+        PATH,
+        2,
+        "\nrimopaku: info counts what the factor needs with --exact\n",
+    ),
+    (
+        &["order", "-", "--exact"],
+        PATH,
+        2,
+        "\nrimopaku: order counts what the factor needs with --compare\n",
+    ),
+    (&["order", "-", "--symmetric"], PATH, 2, "--picture"),
+    (
         &["order", "-", "--permuted", NOWHERE],
         PATH,
         1,
@@ -242,7 +312,7 @@ static REFUSED: [Refused; 24] = [
 #[test]
 fn runs_that_are_refused(rt: HostRuntime) -> Result<(), Fail> {
     for (words, input, status, told) in &REFUSED {
-        let end = run_at_desk(&rt, words, input, 0, false)?;
+        let end = run_at_desk(&rt, words, input, 0, Broken::Neither)?;
         let is_refused = end.status == *status && end.shown.is_empty() && end.told.contains(*told);
         check!(&rt; is_refused, told);
     }
@@ -250,7 +320,7 @@ fn runs_that_are_refused(rt: HostRuntime) -> Result<(), Fail> {
 }
 
 /// Words of runs that do what is asked for, and what they show.
-static ANSWERED: [(&[&str], &str); 6] = [
+static ANSWERED: [(&[&str], &str); 10] = [
     (&["info", "-"], PATH_FACTS),
     (&["order", "-", "--out", "/dev/null"], ""),
     (
@@ -276,15 +346,39 @@ static ANSWERED: [(&[&str], &str); 6] = [
         PATH_JSON,
     ),
     (&["analyze", "-", "--json"], PATH_FACTOR_JSON),
+    (&["order", "-", "--inverse"], "2\n1\n3\n"),
+    (&["order", "-", "--zero-based"], "1\n0\n2\n"),
+    (
+        &["order", "-", "--out", "/dev/null", "--factor", "-"],
+        "%%MatrixMarket matrix coordinate pattern general\n3 3 2\n3 1\n3 2\n",
+    ),
+    (
+        &["order", "-", "--out", "/dev/null", "--tree", "-"],
+        "% the parent of each column, 0 for a root\n3\n3\n0\n\
+        % of each supernode its first and its last column, its parent or 0, and its rows below the block\n\
+        1 1 2 1\n2 3 0 0\n",
+    ),
 ];
 
 #[test]
 fn runs_that_end_well(rt: HostRuntime) -> Result<(), Fail> {
     for (words, shown) in &ANSWERED {
-        let end = run_at_desk(&rt, words, PATH, 0, false)?;
+        let end = run_at_desk(&rt, words, PATH, 0, Broken::Neither)?;
         let is_told = end.told.is_empty() || end.told.starts_with(PATH_FIGURES);
         let name = words.first().copied().unwrap_or("");
         check!(&rt; end.status == 0 && end.shown.as_str() == *shown && is_told, name);
+    }
+    Ok(())
+}
+
+/// Nothing is told of a run that is to be quiet, but what is at fault.
+#[test]
+fn quiet_runs(rt: HostRuntime) -> Result<(), Fail> {
+    for name in ["order", "analyze", "info"] {
+        let end = run_at_desk(&rt, &[name, "-", "--quiet"], PATH, 2, Broken::Neither)?;
+        check!(&rt; end.status == 0 && end.told.is_empty() && !end.shown.is_empty(), name);
+        let bad = run_at_desk(&rt, &[name, "-", "--quiet"], BAD, 2, Broken::Neither)?;
+        check!(&rt; bad.status == 2 && bad.told.contains("line 3: the row is out of range"), name);
     }
     Ok(())
 }
@@ -293,7 +387,7 @@ fn runs_that_end_well(rt: HostRuntime) -> Result<(), Fail> {
 #[test]
 fn runs_without_a_file(rt: HostRuntime) -> Result<(), Fail> {
     for word in ["--help", "--version"] {
-        let end = run_at_desk(&rt, &[word], "", 0, false)?;
+        let end = run_at_desk(&rt, &[word], "", 0, Broken::Neither)?;
         let is_shown = end.shown.contains("rimopaku") && end.told.is_empty();
         check!(&rt; end.status == 0 && is_shown, word);
     }
@@ -303,7 +397,7 @@ fn runs_without_a_file(rt: HostRuntime) -> Result<(), Fail> {
 #[test]
 fn an_output_that_takes_nothing(rt: HostRuntime) -> Result<(), Fail> {
     for name in ["order", "analyze", "info"] {
-        let end = run_at_desk(&rt, &[name, "-"], PATH, 0, true)?;
+        let end = run_at_desk(&rt, &[name, "-"], PATH, 0, Broken::Output)?;
         let wanted = "rimopaku: standard output: cannot be written: ";
         check!(&rt; end.status == 1 && end.told.starts_with(wanted), name);
     }
@@ -313,15 +407,19 @@ fn an_output_that_takes_nothing(rt: HostRuntime) -> Result<(), Fail> {
 /// Where the picture fails, the permutation and the figures are written, and a message behind them names the picture.
 #[test]
 fn a_picture_that_fails(rt: HostRuntime) -> Result<(), Fail> {
-    let end = run_at_desk(&rt, &["order", "-", "--picture", NOWHERE], PATH, 0, false)?;
-    check!(&rt; end.status == 3 && end.shown.as_str() == PATH_ORDER);
-    let message = "\nrimopaku: /no/such/folder/file: the picture cannot be written: ";
-    check!(&rt; end.told.starts_with(PATH_FIGURES) && end.told.contains(message));
     let words = ["order", "-", "--out", "/dev/null", "--picture", "/dev/full"];
-    let full = run_at_desk(&rt, &words, PATH, 0, false)?;
+    let full = run_at_desk(&rt, &words, PATH, 0, Broken::Neither)?;
     check!(&rt; full.status == 3 && full.told.starts_with(PATH_FIGURES));
     check!(&rt; full.told
             .contains("rimopaku: /dev/full: the picture cannot be written: "));
+    let end = run_at_desk(
+        &rt,
+        &["order", "-", "--picture", "/dev/full"],
+        PATH,
+        0,
+        Broken::Neither,
+    )?;
+    check!(&rt; end.status == 3 && end.shown.as_str() == PATH_ORDER);
     Ok(())
 }
 
@@ -346,14 +444,14 @@ fn stages_of_long_runs(rt: HostRuntime) -> Result<(), Fail> {
         "--picture",
         "/dev/null",
     ];
-    let slow = run_at_desk(&rt, &words, PATH, 2, false)?;
+    let slow = run_at_desk(&rt, &words, PATH, 2, Broken::Neither)?;
     let stages = "rimopaku: reading /dev/null, 0 MiB
 rimopaku: ordering 3 rows, 5 entries
 ";
     check!(&rt; slow.status == 0 && slow.told.starts_with(stages));
     let last = "\nrimopaku: drawing up to 2 entries of L\n";
     check!(&rt; slow.told.contains(PATH_FIGURES) && slow.told.ends_with(last));
-    let fast = run_at_desk(&rt, &words, PATH, 0, false)?;
+    let fast = run_at_desk(&rt, &words, PATH, 0, Broken::Neither)?;
     check!(&rt; fast.status == 0 && fast.told.starts_with(PATH_FIGURES));
     check!(&rt; slow.shown.as_str() == fast.shown.as_str());
     Ok(())

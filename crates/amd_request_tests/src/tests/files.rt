@@ -514,7 +514,7 @@ fn long_lines(rt: HostRuntime) -> Result<(), Fail> {
 }
 
 /// Texts that name rows to hold last, and what is told of each: the marks, or why there are none.
-static HELD: [(&str, &str); 5] = [
+static HELD: [(&str, &str); 6] = [
     ("", "[false, false, false]"),
     ("% last\n3\n\n 1 \n3", "[true, false, true]"),
     (
@@ -528,6 +528,10 @@ static HELD: [(&str, &str); 5] = [
     (
         "1 2\n",
         "line 1: here must stand the number of a row, alone, found: 1 2",
+    ),
+    (
+        "1,2\n",
+        "line 1: here must stand the number of a row, alone, found: 1,2",
     ),
 ];
 

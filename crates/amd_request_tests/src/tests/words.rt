@@ -1,12 +1,13 @@
 // The words of a command line: what they ask for, and the dense row parameter.
 
-use amd_request::request::{Request, request_of, thousandths_of};
+use amd_request::numbers::thousandths_of;
+use amd_request::request::{Request, request_of};
 use amd_testing::check;
 use std::alloc::Global;
 use std::test::Fail;
 
 /// Texts of dense row parameters, and thousandths.
-static PARAMETERS: [(&str, Option<i32>); 13] = [
+static PARAMETERS: [(&str, Option<i32>); 24] = [
     ("10", Some(10000)),
     ("0", Some(0)),
     ("2.5", Some(2500)),
@@ -17,7 +18,18 @@ static PARAMETERS: [(&str, Option<i32>); 13] = [
     ("1.2345", None),
     ("1.-5", None),
     ("", None),
-    (".5", None),
+    (".5", Some(500)),
+    ("-.5", Some(-500)),
+    ("-0.5", Some(-500)),
+    ("0.5", Some(500)),
+    ("0.25", Some(250)),
+    ("3.07", Some(3070)),
+    ("+1.5", Some(1500)),
+    (".", None),
+    ("-", None),
+    ("-.", None),
+    ("1.+5", None),
+    (".2147484", None),
     ("ten", None),
     ("2147484", None),
 ];

@@ -1,0 +1,189 @@
+// Runs over files: what an output that was there keeps, names of one file, long names, the standard streams by their
+// name, and a standard error that takes nothing. Each test has a folder of its own under /tmp, which is removed.
+
+use crate::tests::outputs::PATH;
+use crate::tests::runs::{Broken, run_at_desk};
+use amd_testing::check;
+use std::fs::Permissions;
+use std::io::ErrorKind;
+use std::os::unix::fs::{MetadataExt, PermissionsExt, symlink};
+use std::test::Fail;
+use std::{fs, io};
+
+/// What `order` writes of the path.
+const ORDER: &str = "2\n1\n3\n";
+
+/// Makes a folder under /tmp with the first of some names that is free.
+pub fn make_folder(rt: &HostRuntime) -> Result<String, Fail> {
+    'names: for count in 0..10000u32 {
+        let path = format!(in rt.alloc(); "/tmp/rimopaku-test-{count}")?;
+        match fs::create_dir(rt, path.as_str()) {
+            Ok(()) => return Ok(path),
+            Err(error) if error.kind() == ErrorKind::AlreadyExists => {}
+            Err(error) => return Err(Fail::from(error)),
+        }
+    }
+    Err(Fail::from(io::Error::from(ErrorKind::AlreadyExists)))
+}
+
+/// The path of a name in a folder.
+pub fn within(rt: &HostRuntime, folder: &str, name: &str) -> Result<String, Fail> {
+    Ok(format!(in rt.alloc(); "{folder}/{name}")?)
+}
+
+/// Whether a file has a text.
+fn has_text(rt: &HostRuntime, path: &str, text: &str) -> bool {
+    match fs::read(rt, path) {
+        Ok(bytes) => bytes.as_slice() == text.as_bytes(),
+        Err(_) => false,
+    }
+}
+
+/// How many names a folder has.
+fn names_in(rt: &HostRuntime, folder: &str) -> Result<usize, Fail> {
+    Ok(fs::read_dir(rt, folder)?.count())
+}
+
+/// Writes an order to a file that had a text, a mode and another name or none, and says whether it has both still.
+fn keeps_file(rt: &HostRuntime, folder: &str, text: &str, is_linked: bool) -> Result<bool, Fail> {
+    let path = within(rt, folder, "old")?;
+    let path = path.as_str();
+    let link = within(rt, folder, "link")?;
+    fs::write(rt, path, text)?;
+    if is_linked {
+        fs::hard_link(rt, path, link.as_str())?;
+    }
+    fs::set_permissions(rt, path, Permissions::from_mode(0o640))?;
+    let end = run_at_desk(rt, &["order", "-", "--out", path], PATH, 0, Broken::Neither)?;
+    let found = fs::metadata(rt, path)?;
+    let names = if is_linked { 2 } else { 1 };
+    let is_kept = found.mode() & 0o777 == 0o640 && found.nlink() == names;
+    let is_linked_still = !is_linked || has_text(rt, link.as_str(), ORDER);
+    let is_alone = names_in(rt, folder)? as u64 == names;
+    fs::remove_file(rt, path)?;
+    if is_linked {
+        fs::remove_file(rt, link.as_str())?;
+    }
+    Ok(end.status == 0 && is_kept && is_linked_still && is_alone)
+}
+
+/// A file keeps its mode and its other names, be it shorter or longer than what it gets.
+#[test]
+fn files_that_are_replaced(rt: HostRuntime) -> Result<(), Fail> {
+    let folder = make_folder(&rt)?;
+    let folder = folder.as_str();
+    for text in ["", "old\n", "a file that is longer than the order\n"] {
+        for is_linked in [false, true] {
+            let is_kept = keeps_file(&rt, folder, text, is_linked)?;
+            check!(&rt; is_kept, text);
+        }
+    }
+    fs::remove_dir_all(&rt, folder)?;
+    Ok(())
+}
+
+/// Two names of one file that is not there yet, by links.
+#[test]
+fn names_of_one_missing_file(rt: HostRuntime) -> Result<(), Fail> {
+    let folder = make_folder(&rt)?;
+    let folder = folder.as_str();
+    let near = within(&rt, folder, "near")?;
+    let far = within(&rt, folder, "far")?;
+    let (near, far) = (near.as_str(), far.as_str());
+    symlink(&rt, "near", far)?;
+    let words = ["order", "-", "--out", near, "--tree", far];
+    let end = run_at_desk(&rt, &words, PATH, 0, Broken::Neither)?;
+    check!(&rt; end.status == 2 && end.told.contains("is named twice"));
+    check!(&rt; names_in(&rt, folder)? == 1);
+    let words = ["order", "-", "--out", far];
+    let end = run_at_desk(&rt, &words, PATH, 0, Broken::Neither)?;
+    check!(&rt; end.status == 0 && has_text(&rt, near, ORDER));
+    check!(&rt; fs::symlink_metadata(&rt, far)?.is_symlink());
+    fs::remove_dir_all(&rt, folder)?;
+    Ok(())
+}
+
+/// A name of as many letters as a file may have; one letter more is refused before the work, as is no name at all.
+#[test]
+fn long_names(rt: HostRuntime) -> Result<(), Fail> {
+    let folder = make_folder(&rt)?;
+    let folder = folder.as_str();
+    let mut name = String::new(rt.alloc());
+    'letters: for _ in 0..255 {
+        name.push_str("n")?;
+    }
+    let long = within(&rt, folder, name.as_str())?;
+    let longer = format!(in rt.alloc(); "{long}n")?;
+    let long = long.as_str();
+    let end = run_at_desk(
+        &rt,
+        &["order", "-", "--out", long],
+        PATH,
+        0,
+        Broken::Neither,
+    )?;
+    check!(&rt; end.status == 0 && has_text(&rt, long, ORDER));
+    for path in [longer.as_str(), ""] {
+        let end = run_at_desk(&rt, &["order", "-", "--out", path], "", 0, Broken::Neither)?;
+        check!(&rt; end.status == 1 && end.told.contains("cannot be written: "), path);
+    }
+    fs::remove_dir_all(&rt, folder)?;
+    Ok(())
+}
+
+/// `-` names standard output for an output, and standard input for the rows to hold last.
+#[test]
+fn standard_streams_by_name(rt: HostRuntime) -> Result<(), Fail> {
+    let words = ["order", "-", "--out", "-"];
+    let end = run_at_desk(&rt, &words, PATH, 0, Broken::Neither)?;
+    check!(&rt; end.status == 0 && end.shown.as_str() == ORDER);
+    let words = ["order", "-", "--out", "/dev/null", "--permuted", "-"];
+    let end = run_at_desk(&rt, &words, PATH, 0, Broken::Neither)?;
+    check!(&rt; end.status == 0 && end.shown.starts_with("%%MatrixMarket "));
+    let folder = make_folder(&rt)?;
+    let folder = folder.as_str();
+    let file = within(&rt, folder, "path.mtx")?;
+    let file = file.as_str();
+    fs::write(&rt, file, PATH)?;
+    let words = ["order", file, "--hold", "-"];
+    let end = run_at_desk(&rt, &words, "2\n", 0, Broken::Neither)?;
+    check!(&rt; end.status == 0 && end.shown.as_str() == "3\n1\n2\n");
+    fs::remove_dir_all(&rt, folder)?;
+    Ok(())
+}
+
+/// A file with many more rows than bytes is refused before memory is taken for them; its rows are told.
+#[test]
+fn many_rows_in_few_bytes(rt: HostRuntime) -> Result<(), Fail> {
+    let folder = make_folder(&rt)?;
+    let folder = folder.as_str();
+    let file = within(&rt, folder, "sparse.mtx")?;
+    let file = file.as_str();
+    let text = "%%MatrixMarket matrix coordinate pattern general\n99000000 99000000 1\n2 1\n";
+    fs::write(&rt, file, text)?;
+    for name in ["info", "order", "analyze"] {
+        let end = run_at_desk(&rt, &[name, file], "", 0, Broken::Neither)?;
+        let is_told = end
+            .told
+            .contains("tells of 99000000 rows, which take 2 GiB or more");
+        check!(&rt; end.status == 2 && end.shown.is_empty() && is_told, name);
+    }
+    fs::remove_dir_all(&rt, folder)?;
+    Ok(())
+}
+
+/// Where standard error takes nothing, all outputs are written, and the status tells.
+#[test]
+fn a_standard_error_that_takes_nothing(rt: HostRuntime) -> Result<(), Fail> {
+    let folder = make_folder(&rt)?;
+    let folder = folder.as_str();
+    let tree = within(&rt, folder, "tree")?;
+    let picture = within(&rt, folder, "picture")?;
+    let (tree, picture) = (tree.as_str(), picture.as_str());
+    let words = ["order", "-", "--tree", tree, "--picture", picture];
+    let end = run_at_desk(&rt, &words, PATH, 0, Broken::Error)?;
+    check!(&rt; end.status == 1 && end.shown.as_str() == ORDER);
+    check!(&rt; fs::metadata(&rt, tree)?.len() > 0 && fs::metadata(&rt, picture)?.len() > 0);
+    fs::remove_dir_all(&rt, folder)?;
+    Ok(())
+}
