@@ -15,3 +15,4 @@ mod refusals;
 mod supernodes;
 mod texts;
 mod worked;
+mod workspace;
