@@ -64,6 +64,17 @@ module _ (n : ℕ) (ap' ai : List ℤ) (form : IsColumnForm (pos n) n ap' ai) wh
       let below = (pointer_in (pos n) n ap' ai form j h).2 in
       omega (arith, ints)
 
+  -- no pointer passes the last one, and so no place of a column does
+  pub pointer_up : (j : ℕ) → j ≤ n → get_or (counts ap') j 0 ≤ get_or (counts ap') n 0
+  pointer_up j h =
+      let is = pointer_is j h in
+      let last = pointer_is n (omega arith) in
+      let up = (pointer_in (pos n) n ap' ai form j h).1 in
+      omega (arith, ints)
+
+  pub place_up : {j q end most : ℕ} → j < n → end ≡ get_or (counts ap') (j + 1) 0 → q ≤ end → get_or (counts ap') n 0 ≤ most → q ≤ most
+  place_up {j} h is low small = let up = pointer_up (j + 1) (omega (arith, h)) in omega (arith, is, low, small, up)
+
   -- the numbers that are read are counts of 64 bits
   pub pointer_fits : (j : ℕ) → j ≤ n → length ai < 2 ^ 64 → FitsUnsignedBits 64 (at ap' j)
   pointer_fits j h short = let p = pointer_in (pos n) n ap' ai form j h in small_fits _ (length ai) p.0 p.2 short

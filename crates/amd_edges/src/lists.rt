@@ -11,6 +11,7 @@ ghost use Rattle.amd_edges.specs.Visits.{AreCounts, AreRows};
 
 use crate::walk::{Visitor, walk};
 use amd_types::index::Index;
+use amd_words::Cell;
 use std::alloc::{AllocError, Allocator};
 
 /// The lists of the rows, each in a vector with room for all neighbours of its row.
@@ -26,7 +27,7 @@ impl<A: Allocator> Visitor for RowLists<A> {
     ghost runs = { λ g seen arcs j mark l. AreRows g seen arcs (map (λ v. v.items) l.rows.items)
         (map vec_capacity l.rows.items) };
 
-    ghost room = { λ l. 0 };
+    ghost room = { λ l. [] };
 
     fn arc(&mut self, i: usize, j: usize) {
         self.rows[i].push_reserved(j);
@@ -87,7 +88,7 @@ pub fn starting_lists<I: Index, A: Allocator + Copy>(
         slice_index_or (map (λ v. v.items) rows.items) i [] ≡ starting_list size
         (is_pair size (map I.value a_p.now) (map I.value a_i.now)) i) }
 {
-    let mut pointers = Vec::with_capacity(alloc, size)?;
+    let mut pointers: Vec<Cell<usize>, A> = Vec::with_capacity(alloc, size)?;
     let mut lists = RowLists {
         rows: empty_lists(alloc, degrees)?,
     };

@@ -11,11 +11,13 @@ ghost use Rattle.amd_model.specs.Graph.{Graph};
 ghost use Rattle.amd_model.specs.Input.Columns.{IsColumnForm, IsSorted};
 ghost use Rattle.amd_model.specs.Input.Pattern.{graph_of, diagonal_count, is_pair};
 ghost use Rattle.amd_model.specs.Quotient.{met_below, met_edges};
+ghost use Rattle.amd_types.specs.Counts.{counts};
 ghost use Rattle.amd_edges.specs.Visits.{IsNew, IsNewEdge, arcs_of, with_arc, with_edge};
 ghost use Rattle.amd_edges.specs.Walk.{IsScanOf, edges_before, entry_read, graph_read, met_read};
 
 use amd_types::index::Index;
 use amd_types::internal::count_at;
+use amd_words::{Cell, Unsigned, cell_of, number_of};
 use std::alloc::Allocator;
 
 /// What takes the arcs of a graph: one at a time, or in a run of edges of one row, whose next place the walk holds
@@ -26,8 +28,8 @@ pub trait Visitor {
     // What holds in a run of a row, with the mark of that row.
     ghost runs: { Graph → (ℕ → ℕ → Bool) → List (ℕ × ℕ) → ℕ → ℕ → Self → Type 0 };
 
-    // How much room it has: no arc changes it.
-    ghost room: { Self → ℕ };
+    // How much room its lists have: no arc changes it.
+    ghost room: { Self → List ℕ };
 
     /// Takes the arc from `i` to `j`.
     fn arc(&mut self, i: usize, j: usize)
@@ -64,17 +66,18 @@ pub trait Visitor {
 }
 
 /// Reads the lower entries of column `j`, one of `size`, that were not read yet, up to row `k`.
-fn lower<I: Index, V: Visitor, A: Allocator>(
+fn lower<I: Index, V: Visitor, U: Unsigned, A: Allocator>(
     size: usize,
     j: usize,
     k: usize,
     a_p: &[I],
     a_i: &[I],
-    next: &mut Vec<usize, A>,
+    next: &mut Vec<Cell<U>, A>,
     visitor: &mut V,
 )
     requires form { IsColumnForm (pos size) size (map I.value a_p.now) (map I.value a_i.now) }
     requires sorted { IsSorted size (map I.value a_p.now) (map I.value a_i.now) }
+    requires fits { slice_index (counts (map I.value a_p.now)) size ≤ U.MOST }
     requires before { j < k }
     requires k_in { k ≤ size }
     requires mirror { k < size → entry_read size (map I.value a_p.now) (map I.value a_i.now) j k ≡ true }
@@ -91,7 +94,7 @@ fn lower<I: Index, V: Visitor, A: Allocator>(
     ensures kept { V.room visitor.new ≡ V.room visitor.old }
 {
     let end = count_at(a_p, j + 1);
-    let mut place = next[j];
+    let mut place = number_of(&next[j]);
     let mut mark = visitor.begin(j);
     'rows: while place < end && count_at(a_i, place) < k {
         mark = visitor.edge(count_at(a_i, place), j, mark);
@@ -101,20 +104,21 @@ fn lower<I: Index, V: Visitor, A: Allocator>(
     if place < end && count_at(a_i, place) == k {
         place += 1;
     }
-    next[j] = place;
+    next[j] = cell_of(place);
 }
 
 /// Reads the upper entries of column `k`, one of `size`, adds its pointer, and says whether it has a diagonal entry.
-fn column<I: Index, V: Visitor, A: Allocator>(
+fn column<I: Index, V: Visitor, U: Unsigned, A: Allocator>(
     size: usize,
     k: usize,
     a_p: &[I],
     a_i: &[I],
-    next: &mut Vec<usize, A>,
+    next: &mut Vec<Cell<U>, A>,
     visitor: &mut V,
 ) -> bool
     requires form { IsColumnForm (pos size) size (map I.value a_p.now) (map I.value a_i.now) }
     requires sorted { IsSorted size (map I.value a_p.now) (map I.value a_i.now) }
+    requires fits { slice_index (counts (map I.value a_p.now)) size ≤ U.MOST }
     requires k_in { k < size }
     requires room { size ≤ vec_capacity next.old }
     requires scan { IsScanOf size (map I.value a_p.now) (map I.value a_i.now) next.old.items k 0 }
@@ -142,22 +146,23 @@ fn column<I: Index, V: Visitor, A: Allocator>(
     if diagonal {
         place += 1;
     }
-    next.push_reserved(place);
+    next.push_reserved(cell_of(place));
     diagonal
 }
 
 /// Reads the lower entries of column `j`, one of `size`, that were not read yet. They are all that is left of it, so no
 /// row is compared.
-fn column_rest<I: Index, V: Visitor, A: Allocator>(
+fn column_rest<I: Index, V: Visitor, U: Unsigned, A: Allocator>(
     size: usize,
     j: usize,
     a_p: &[I],
     a_i: &[I],
-    next: &mut Vec<usize, A>,
+    next: &mut Vec<Cell<U>, A>,
     visitor: &mut V,
 )
     requires form { IsColumnForm (pos size) size (map I.value a_p.now) (map I.value a_i.now) }
     requires sorted { IsSorted size (map I.value a_p.now) (map I.value a_i.now) }
+    requires fits { slice_index (counts (map I.value a_p.now)) size ≤ U.MOST }
     requires row { j < size }
     requires scan { IsScanOf size (map I.value a_p.now) (map I.value a_i.now) next.old.items size j }
     requires held { (arcs : List (ℕ × ℕ)) × V.holds (graph_read size (map I.value a_p.now) (map I.value a_i.now))
@@ -168,28 +173,30 @@ fn column_rest<I: Index, V: Visitor, A: Allocator>(
         V.holds (graph_read size (map I.value a_p.now) (map I.value a_i.now))
         (met_read size (map I.value a_p.now) (map I.value a_i.now) next.new.items size (j + 1))
         (arcs ++ arcs_of (met_below (entry_read size (map I.value a_p.now) (map I.value a_i.now)) size j)) visitor.new }
+    ensures room { vec_capacity next.new ≡ vec_capacity next.old }
     ensures kept { V.room visitor.new ≡ V.room visitor.old }
 {
     let end = count_at(a_p, j + 1);
-    let first = next[j];
+    let first = number_of(&next[j]);
     let mut mark = visitor.begin(j);
     'rows: for place in first..end {
         mark = visitor.edge(count_at(a_i, place), j, mark);
     }
     visitor.end(j, mark);
-    next[j] = end;
+    next[j] = cell_of(end);
 }
 
 /// Reads the lower entries of each of the `size` columns that were not read yet.
-fn rest<I: Index, V: Visitor, A: Allocator>(
+fn rest<I: Index, V: Visitor, U: Unsigned, A: Allocator>(
     size: usize,
     a_p: &[I],
     a_i: &[I],
-    next: &mut Vec<usize, A>,
+    next: &mut Vec<Cell<U>, A>,
     visitor: &mut V,
 )
     requires form { IsColumnForm (pos size) size (map I.value a_p.now) (map I.value a_i.now) }
     requires sorted { IsSorted size (map I.value a_p.now) (map I.value a_i.now) }
+    requires fits { slice_index (counts (map I.value a_p.now)) size ≤ U.MOST }
     requires scan { IsScanOf size (map I.value a_p.now) (map I.value a_i.now) next.old.items size 0 }
     requires held { V.holds (graph_read size (map I.value a_p.now) (map I.value a_i.now))
         (met_read size (map I.value a_p.now) (map I.value a_i.now) next.old.items size 0)
@@ -197,6 +204,7 @@ fn rest<I: Index, V: Visitor, A: Allocator>(
     ensures held { V.holds (graph_of size (map I.value a_p.now) (map I.value a_i.now))
         ((graph_of size (map I.value a_p.now) (map I.value a_i.now)).edge)
         (arcs_of (met_edges size (is_pair size (map I.value a_p.now) (map I.value a_i.now)))) visitor.new }
+    ensures room { vec_capacity next.new ≡ vec_capacity next.old }
     ensures kept { V.room visitor.new ≡ V.room visitor.old }
 {
     'columns: for j in 0..size {
@@ -205,22 +213,23 @@ fn rest<I: Index, V: Visitor, A: Allocator>(
 }
 
 /// Meets each edge of a sorted column form once, and returns the number of diagonal entries. The matrix has `size` rows
-/// and columns, and `next` is empty and has room for a pointer of each column. What `next` holds afterwards is not
-/// said.
+/// and columns, and `next` is empty and has room for a pointer of each column; a cell has room for the last pointer.
+/// `next` keeps its memory; what it holds afterwards is not said.
 ///
 /// For each column `k` in turn: each upper entry `j < k` of it, rising, gives the edge of `j` and `k`, and after it the
 /// lower entries of column `j` that were not read yet and are below `k` give theirs; an entry `k` itself is passed
 /// over. At the end the lower entries that were never read give theirs. The visitor is handed both arcs of each edge,
 /// the one from its first row to its second one before the other.
-pub fn walk<I: Index, V: Visitor, A: Allocator>(
+pub fn walk<I: Index, V: Visitor, U: Unsigned, A: Allocator>(
     size: usize,
     a_p: &[I],
     a_i: &[I],
-    next: &mut Vec<usize, A>,
+    next: &mut Vec<Cell<U>, A>,
     visitor: &mut V,
 ) -> usize
     requires form { IsColumnForm (pos size) size (map I.value a_p.now) (map I.value a_i.now) }
     requires sorted { IsSorted size (map I.value a_p.now) (map I.value a_i.now) }
+    requires fits { slice_index (counts (map I.value a_p.now)) size ≤ U.MOST }
     requires empty { length next.old.items ≡ 0 }
     requires room { size ≤ vec_capacity next.old }
     requires held { V.holds (graph_of size (map I.value a_p.now) (map I.value a_i.now)) (λ a b. false) [] visitor.old }
@@ -228,6 +237,7 @@ pub fn walk<I: Index, V: Visitor, A: Allocator>(
         ((graph_of size (map I.value a_p.now) (map I.value a_i.now)).edge)
         (arcs_of (met_edges size (is_pair size (map I.value a_p.now) (map I.value a_i.now)))) visitor.new }
     ensures diagonals { result ≡ diagonal_count size (map I.value a_p.now) (map I.value a_i.now) }
+    ensures room { vec_capacity next.new ≡ vec_capacity next.old }
     ensures kept { V.room visitor.new ≡ V.room visitor.old }
 {
     let mut diagonals = 0;

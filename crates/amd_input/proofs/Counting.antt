@@ -1,13 +1,13 @@
 -- The counts of the arcs of each row, one arc more.
 use Rattle.std.proofs.Common.{◌≡◌, ◌+◌, inl, inr, ℕ, Bool, false, List, length, get_or, set, get_or-set_same, get_or-set_other, arith, ap}
-use Rattle.std.proofs.Common.{sym, ◌∙◌, ◌<◌, subst}
+use Rattle.std.proofs.Common.{sym, ◌∙◌, ◌<◌, ◌≤◌, subst}
 use Rattle.std.proofs.Common.{replicate}
 use Rattle.std.proofs.lemmas.Bool.{cases_eq, cases_lt}
 use Rattle.std.proofs.lemmas.List.{length-set, length-replicate, get_or-replicate, get_or_past}
 use Rattle.std.proofs.lemmas.Grind.{get_or_default_zero}
 use Rattle.amd_model.specs.Below.{count_below}
 use Rattle.amd_model.specs.Graph.{Graph}
-use Rattle.amd_model.proofs.Counting.Below.{count_none}
+use Rattle.amd_model.proofs.Counting.Below.{count_none, count_most}
 use Rattle.amd_edges.specs.Visits.{IsNew, IsNewEdge, with_arc, with_edge, AreCounts}
 use Rattle.amd_edges.proofs.Arcs.{arc_same, arc_counts, count_room, ends_apart, written_again}
 
@@ -38,6 +38,28 @@ pub counts_none : (g : Graph) (numbers : List ℕ) → length numbers ≡ g.size
     AreCounts g (λ a b. false) numbers
 counts_none g numbers size zeros = record { size = size; each = λ i h. zeros i ∙ sym (count_none g.size) }
 
+-- a row that has a new arc has fewer arcs than there are rows
+pub arc_room : (g : Graph) (seen : ℕ → ℕ → Bool) (i j : ℕ) → IsNew g seen i j → (numbers : List ℕ) (v : ℕ) → v ≡ get_or numbers i v →
+    AreCounts g seen numbers → v < g.size
+arc_room g seen i j new numbers v is h =
+    let room = count_room g seen i j new in let count = h.each i new.i_row in
+    let size = h.size in let row = new.i_row in
+    let here = get_or_default_zero numbers i v (omega (arith, size, row)) in
+    omega (arith, room, count, here, is)
+
+-- the count of a row in its run
+pub mark_most : (g : Graph) (seen : ℕ → ℕ → Bool) (j mark : ℕ) (numbers : List ℕ) → AreCounts g seen (set numbers j mark) → j < g.size →
+    mark ≤ g.size
+mark_most g seen j mark numbers h row =
+    let size = h.size in let long = length-set numbers j mark in
+    let here = get_or-set_same numbers j mark 0 (omega (arith, size, long, row)) in
+    let count = h.each j row in let most = count_most g.size (seen j) in
+    omega (arith, here, count, most)
+
+-- what a cell of a list says
+pub read_again : {x y : ℕ} (i : ℕ) (xs : List ℕ) → y ≡ x → x ≡ get_or xs i x → y ≡ get_or xs i y
+read_again i xs e h = subst (λ z. z ≡ get_or xs i z) (sym e) h
+
 -- the counts in a run of row j, whose own count is the mark: both arcs of one edge more
 module _ (g : Graph) (seen : ℕ → ℕ → Bool) (i j mark : ℕ) (new : IsNewEdge g seen i j) (numbers : List ℕ)
     (h : AreCounts g seen (set numbers j mark)) where
@@ -50,6 +72,10 @@ module _ (g : Graph) (seen : ℕ → ℕ → Bool) (i j mark : ℕ) (new : IsNew
   module _ (v : ℕ) (is : v ≡ get_or numbers i v) where
     there : AreCounts g (with_arc seen i j) (set (set numbers j mark) i (v + 1))
     there = counts_more g seen i j new.there (set numbers j mark) v
+        (is ∙ sym (get_or-set_other numbers j i mark v (ends_apart g seen i j new))) h
+
+    pub other_room : v < g.size
+    other_room = arc_room g seen i j new.there (set numbers j mark) v
         (is ∙ sym (get_or-set_other numbers j i mark v (ends_apart g seen i j new))) h
 
     own_count : mark ≡ get_or (set (set numbers j mark) i (v + 1)) j mark

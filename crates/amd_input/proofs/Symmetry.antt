@@ -180,6 +180,14 @@ module _ (n : ℕ) (ap' ai : List ℤ) (form : IsColumnForm (pos n) n ap' ai) (s
       in
       omega (arith, all, zero_first, same)
 
+-- each entry gives two arcs at most
+pub arcs_twice : (n : ℕ) (ap' ai : List ℤ) → IsColumnForm (pos n) n ap' ai → IsSorted n ap' ai →
+    degree_sum (graph_of n ap' ai) ≤ 2 * get_or (counts ap') n 0
+unfolding graph_of degree_sum degree arc pair_count
+arcs_twice n ap' ai form sorted =
+    let pairs = pairs_counted n ap' ai form sorted in let bound = arc_bound n (is_pair n ap' ai) in
+    omega (arith, pairs, bound)
+
 -- the diagonal is a part of the pattern
 pub diagonal_part : (n : ℕ) (ap' ai : List ℤ) → diagonal_count n ap' ai ≤ pair_count n ap' ai
 unfolding diagonal_count pair_count

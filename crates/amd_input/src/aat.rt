@@ -1,69 +1,165 @@
 // The degrees of the rows of a matrix, and the figures of its pattern: those of the pattern of A + A' (Amestoy, Davis
-// and Duff 2004). Called by `order`, and by `facts` of the crate `amd_report`.
+// and Duff 2004). `aat_within` writes them into lists that are handed in, and `aat` takes the memory for them.
 
-ghost use Rattle.std.specs.Prelude.{◌≡◌, ◌<◌, ◌^◌, map, length, slice_index, slice_set, unsigned_abs, IfOk, IfErr};
-ghost use Rattle.std.specs.Prelude.{◌≤◌, OnOk, OnErr, SomeIff, pos, replicate};
+ghost use Rattle.std.specs.Prelude.{◌≡◌, ◌<◌, ◌^◌, ◌-◌, ◌*◌, ◌==◌, map, length, slice_index, slice_set, unsigned_abs};
+ghost use Rattle.std.specs.Prelude.{◌≤◌, ◌∷◌, [], IfOk, IfErr, OnOk, OnErr, pos};
 ghost use Rattle.std.specs.Vec.{vec_capacity};
-ghost use Rattle.amd_model.specs.Below.{sum_below};
 ghost use Rattle.amd_model.specs.Input.Columns.{IsColumnForm, IsInput, IsSorted, IsSortedInput};
 ghost use Rattle.amd_model.specs.Input.Pattern.{graph_of, diagonal_count};
+ghost use Rattle.amd_types.specs.Counts.{counts};
 ghost use Rattle.amd_edges.specs.Visits.{AreCounts};
 ghost use Rattle.amd_input.specs.Degrees.{AreDegrees};
 ghost use Rattle.amd_input.specs.PatternFigures.{HasPatternFigures};
 ghost use Rattle.amd_types.specs.declared.amd.Status.TheVariants.{OutOfMemory};
 
+use crate::cells::{numbers_of, total, zeros};
 use crate::mirrors::mirrored_degrees;
 use amd_edges::walk::{Visitor, walk};
 use amd_types::amd::{Info, Status};
 use amd_types::index::Index;
 use amd_types::internal::{count_at, known_count};
+use amd_words::{Cell, Unsigned, cell_of, number_of};
 use num_traits::PrimInt;
 use std::alloc::{AllocError, Allocator};
+use std::mem::replace;
 
-/// The number of arcs of each row.
+/// A counter of the arcs of each row, in cells. A count is below the number of rows, which a cell must have room for.
 #[derive(Drop)]
-struct DegreeCounter<A: Allocator> {
-    degrees: Vec<usize, A>,
+pub struct DegreeCounter<U: Unsigned, A: Allocator> {
+    /// The number of arcs of each row.
+    pub degrees: Vec<Cell<U>, A>,
 }
 
-impl<A: Allocator> Visitor for DegreeCounter<A> {
-    ghost holds = { λ g seen arcs v. AreCounts g seen v.degrees.items };
+impl<U: Unsigned, A: Allocator> Visitor for DegreeCounter<U, A> {
+    ghost holds = { λ g seen arcs v. AreCounts g seen v.degrees.items × (g.size ≤ U.MOST) };
 
-    ghost runs = { λ g seen arcs j mark v. AreCounts g seen (slice_set v.degrees.items j mark) };
+    ghost runs = { λ g seen arcs j mark v. AreCounts g seen (slice_set v.degrees.items j mark) × (g.size ≤ U.MOST) };
 
-    ghost room = { λ v. 0 };
+    ghost room = { λ v. vec_capacity v.degrees ∷ [] };
 
     fn arc(&mut self, i: usize, j: usize) {
-        self.degrees[i] += 1;
+        self.degrees[i] = cell_of(number_of(&self.degrees[i]) + 1);
     }
 
     fn begin(&self, j: usize) -> usize {
-        self.degrees[j]
+        number_of(&self.degrees[j])
     }
 
     fn edge(&mut self, i: usize, j: usize, mark: usize) -> usize {
-        self.degrees[i] += 1;
+        self.degrees[i] = cell_of(number_of(&self.degrees[i]) + 1);
         mark + 1
     }
 
     fn end(&mut self, j: usize, mark: usize) {
-        self.degrees[j] = mark;
+        self.degrees[j] = cell_of(mark);
     }
 }
 
-/// Puts `size` zeros in the place of the numbers.
-fn zeros<A: Allocator>(numbers: &mut Vec<usize, A>, size: usize)
-    requires { size ≤ vec_capacity numbers.old }
-    ensures { numbers.new.items ≡ replicate size 0 }
+/// Writes the degree of each of `size` rows, and returns the number of diagonal entries: from the columns alone where
+/// the pattern is found to be symmetric, and else by a walk over the edges. Both lists are taken out of their places
+/// while they are written, since behind a reference each step loads where they stand.
+fn count_degrees<I: Index, U: Unsigned, A: Allocator + Copy>(
+    size: usize,
+    a_p: &[I],
+    a_i: &[I],
+    next: &mut Vec<Cell<U>, A>,
+    counter: &mut DegreeCounter<U, A>,
+) -> usize
+    requires form { IsColumnForm (pos size) size (map I.value a_p.now) (map I.value a_i.now) }
+    requires sorted { IsSorted size (map I.value a_p.now) (map I.value a_i.now) }
+    requires room { (size ≤ vec_capacity next.old) × (size ≤ vec_capacity counter.old.degrees) }
+    requires fits { (size ≤ U.MOST) × (slice_index (counts (map I.value a_p.now)) size ≤ U.MOST) }
+    ensures diagonals { result ≡ diagonal_count size (map I.value a_p.now) (map I.value a_i.now) }
+    ensures degrees { AreCounts (graph_of size (map I.value a_p.now) (map I.value a_i.now))
+        ((graph_of size (map I.value a_p.now) (map I.value a_i.now)).edge) counter.new.degrees.items }
+    ensures room { (vec_capacity next.new ≡ vec_capacity next.old) ×
+        (vec_capacity counter.new.degrees ≡ vec_capacity counter.old.degrees) }
 {
-    numbers.clear();
-    'numbers: for _ in 0..size {
-        numbers.push_reserved(0);
-    }
+    let alloc = *next.allocator();
+    let mut ends = replace(next, Vec::new(alloc));
+    let mut own = DegreeCounter {
+        degrees: replace(&mut counter.degrees, Vec::new(alloc)),
+    };
+    ends.clear();
+    own.degrees.clear();
+    let diagonals = match mirrored_degrees(size, a_p, a_i, &mut ends, &mut own.degrees) {
+        Some(diagonals) => diagonals,
+        None => {
+            ends.clear();
+            zeros(&mut own.degrees, size);
+            walk(size, a_p, a_i, &mut ends, &mut own)
+        }
+    };
+    *next = ends;
+    counter.degrees = own.degrees;
+    diagonals
 }
 
-/// The number of diagonal entries, and the degree of each of `size` rows: from the columns alone where the pattern is
-/// found to be symmetric, and else by a walk over the edges.
+/// The figures of a pattern by its numbers of rows, of entries, of diagonal entries and of arcs.
+fn write_figures(size: usize, entries: usize, diagonals: usize, sum: usize, info: &mut Info)
+    requires { diagonals ≤ entries }
+    ensures { info.new ≡ record info.old {
+      n = size;
+      nz = entries;
+      symmetry = sum == entries - diagonals;
+      nz_diag = diagonals;
+      nz_a_plus_at = sum;
+    } }
+{
+    info.n = size;
+    info.nz = entries;
+    info.nz_diag = diagonals;
+    info.nz_a_plus_at = sum;
+    info.symmetry = sum == entries - diagonals;
+}
+
+/// The sum of the degrees and the degree of each row, by the pattern of `A + A'`, in lists that are handed in; writes
+/// the figures of the pattern. Nothing is allocated, so nothing can refuse.
+///
+/// The input is a column form with `size` rows and columns, each of which is strictly ascending. `next` and the list of
+/// `counter` have room for `size` numbers; what stands in them before does not matter, and they keep their memory. A
+/// cell has room for `size` and for the number of entries, and twice the entries are below 2^64. The list of `counter`
+/// then has the degrees; what `next` holds is not said. The sum is at most twice the entries.
+///
+/// The figures are those that [`aat`] writes.
+///
+/// Source: AMD user guide; Amestoy, Davis and Duff 2004.
+pub fn aat_within<I: Index, U: Unsigned, A: Allocator + Copy>(
+    size: usize,
+    a_p: &[I],
+    a_i: &[I],
+    next: &mut Vec<Cell<U>, A>,
+    counter: &mut DegreeCounter<U, A>,
+    info: &mut Info,
+) -> usize
+    requires form { IsColumnForm (pos size) size (map I.value a_p.now) (map I.value a_i.now) }
+    requires sorted { IsSorted size (map I.value a_p.now) (map I.value a_i.now) }
+    requires room { (size ≤ vec_capacity next.old) × (size ≤ vec_capacity counter.old.degrees) }
+    requires fits { (size ≤ U.MOST) × (slice_index (counts (map I.value a_p.now)) size ≤ U.MOST) }
+    requires small { 2 * slice_index (counts (map I.value a_p.now)) size < 2 ^ 64 }
+    ensures degrees { AreDegrees size (map I.value a_p.now) (map I.value a_i.now) result counter.new.degrees.items }
+    ensures few { result ≤ 2 * slice_index (counts (map I.value a_p.now)) size }
+    ensures figures { HasPatternFigures size (map I.value a_p.now) (map I.value a_i.now) info.new }
+    ensures others { info.new ≡ record info.old {
+      n = info.new.n;
+      nz = info.new.nz;
+      symmetry = info.new.symmetry;
+      nz_diag = info.new.nz_diag;
+      nz_a_plus_at = info.new.nz_a_plus_at;
+    } }
+    ensures room { (vec_capacity next.new ≡ vec_capacity next.old) ×
+        (vec_capacity counter.new.degrees ≡ vec_capacity counter.old.degrees) }
+{
+    let entries = count_at(a_p, size);
+    let diagonals = count_degrees(size, a_p, a_i, next, counter);
+    let Some(sum) = total(&counter.degrees) else {
+        unreachable!()
+    };
+    write_figures(size, entries, diagonals, sum, info);
+    sum
+}
+
+/// The number of diagonal entries, and a counter with the degree of each of `size` rows.
 ///
 /// # Errors
 ///
@@ -73,35 +169,18 @@ fn degrees_of<I: Index, A: Allocator + Copy>(
     size: usize,
     a_p: &[I],
     a_i: &[I],
-) -> Result<(usize, Vec<usize, A>), AllocError>
+) -> Result<(usize, DegreeCounter<usize, A>), AllocError>
     requires form { IsColumnForm (pos size) size (map I.value a_p.now) (map I.value a_i.now) }
     requires sorted { IsSorted size (map I.value a_p.now) (map I.value a_i.now) }
     ensures diagonals { IfOk result (λ r. r.0 ≡ diagonal_count size (map I.value a_p.now) (map I.value a_i.now)) }
     ensures degrees { IfOk result (λ r. AreCounts (graph_of size (map I.value a_p.now) (map I.value a_i.now))
-        ((graph_of size (map I.value a_p.now) (map I.value a_i.now)).edge) r.1.items) }
+        ((graph_of size (map I.value a_p.now) (map I.value a_i.now)).edge) r.1.degrees.items) }
 {
     let mut next = Vec::with_capacity(alloc, size)?;
-    let mut degrees = Vec::with_capacity(alloc, size)?;
-    if let Some(diagonals) = mirrored_degrees(size, a_p, a_i, &mut next, &mut degrees) {
-        return Ok((diagonals, degrees));
-    }
-    next.clear();
-    zeros(&mut degrees, size);
-    let mut counts = DegreeCounter { degrees };
-    let diagonals = walk(size, a_p, a_i, &mut next, &mut counts);
-    Ok((diagonals, counts.degrees))
-}
-
-/// The sum of the numbers, where it is at most the greatest `usize`.
-fn total(numbers: &[usize]) -> Option<usize>
-    ensures { SomeIff result (sum_below (length numbers.now) (λ k. slice_index numbers.now k) < 2 ^ 64)
-        (sum_below (length numbers.now) (λ k. slice_index numbers.now k)) }
-{
-    let mut sum: usize = 0;
-    'numbers: for &number in numbers {
-        sum = sum.checked_add(number)?;
-    }
-    Some(sum)
+    let degrees = Vec::with_capacity(alloc, size)?;
+    let mut counter = DegreeCounter { degrees };
+    let diagonals = count_degrees(size, a_p, a_i, &mut next, &mut counter);
+    Ok((diagonals, counter))
 }
 
 /// The sum of the degrees and the degree of each row, by the pattern of `A + A'`; writes the figures of the pattern.
@@ -145,14 +224,12 @@ pub fn aat<I: PrimInt, A: Allocator + Copy>(
 {
     let size = known_count(n);
     let entries = count_at(a_p, size);
-    let (diagonals, degrees) = degrees_of(alloc, size, a_p, a_i)?;
-    let Some(sum) = total(&degrees) else {
+    let (diagonals, counter) = degrees_of(alloc, size, a_p, a_i)?;
+    let Some(sum) = total(&counter.degrees) else {
         return Err(Status::OutOfMemory);
     };
-    info.n = size;
-    info.nz = entries;
-    info.nz_diag = diagonals;
-    info.nz_a_plus_at = sum;
-    info.symmetry = sum == entries - diagonals;
+    // The list is copied once, from cells to the numbers that a caller reads.
+    let degrees = numbers_of(alloc, &counter.degrees)?;
+    write_figures(size, entries, diagonals, sum, info);
     Ok((sum, degrees))
 }

@@ -3,6 +3,7 @@
 #![tactic(auto)]
 
 pub mod aat;
+mod cells;
 mod mirrors;
 pub mod preprocess;
 pub mod valid;

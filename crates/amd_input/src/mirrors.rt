@@ -3,7 +3,7 @@
 // entries come in the order in which the lower ones stand, and a pointer of each column says which one is next. Source:
 // Amestoy, Davis and Duff 2004 (the forming of A + A'). Called by `aat`.
 
-ghost use Rattle.std.specs.Prelude.{◌≡◌, ◌<◌, ◌≤◌, ◌+◌, ℕ, true, map, length, pos, slice_index, IfSome};
+ghost use Rattle.std.specs.Prelude.{◌≡◌, ◌<◌, ◌≤◌, ◌+◌, ℕ, true, map, length, pos, slice_index, slice_index_or, IfSome};
 ghost use Rattle.std.specs.Vec.{vec_capacity};
 ghost use Rattle.amd_model.specs.Input.Columns.{IsColumnForm, IsSorted};
 ghost use Rattle.amd_model.specs.Input.Pattern.{graph_of, diagonal_count};
@@ -14,19 +14,21 @@ ghost use Rattle.amd_input.specs.Mirrors.{HaveMirrorsIn, CountOthers, EndsUpper}
 
 use amd_types::index::Index;
 use amd_types::internal::count_at;
+use amd_words::{Cell, Unsigned, cell_at, cell_of, number_of};
 use std::alloc::Allocator;
 
 /// Reads the rows of column `k`, one of `size`, above the diagonal. Each must have its mirror, which is the next row of
 /// its own column. Returns the place where they end, or `None` where a mirror is missing.
-fn uppers<I: Index, A: Allocator>(
+fn uppers<I: Index, U: Unsigned, A: Allocator>(
     size: usize,
     k: usize,
     a_p: &[I],
     a_i: &[I],
-    next: &mut Vec<usize, A>,
+    next: &mut Vec<Cell<U>, A>,
 ) -> Option<usize>
     requires form { IsColumnForm (pos size) size (map I.value a_p.now) (map I.value a_i.now) }
     requires sorted { IsSorted size (map I.value a_p.now) (map I.value a_i.now) }
+    requires fits { slice_index (counts (map I.value a_p.now)) size ≤ U.MOST }
     requires k_in { k < size }
     requires read { HaveMirrorsIn size (map I.value a_p.now) (map I.value a_i.now) next.old.items k 0 }
     ensures read { IfSome result (λ place. HaveMirrorsIn size (map I.value a_p.now) (map I.value a_i.now)
@@ -38,11 +40,11 @@ fn uppers<I: Index, A: Allocator>(
     let mut place = count_at(a_p, k);
     'uppers: while place < end && count_at(a_i, place) < k {
         let j = count_at(a_i, place);
-        let mirror = next[j];
+        let mirror = number_of(&next[j]);
         if mirror >= count_at(a_p, j + 1) || count_at(a_i, mirror) != k {
             return None;
         }
-        next[j] = mirror + 1;
+        next[j] = cell_of(mirror + 1);
         place += 1;
     }
     Some(place)
@@ -50,16 +52,17 @@ fn uppers<I: Index, A: Allocator>(
 
 /// Reads column `k`, one of `size`: its upper rows, its diagonal entry, and how many other rows it has. Says whether it
 /// has a diagonal entry, or `None` where a mirror is missing.
-fn column<I: Index, A: Allocator>(
+fn column<I: Index, U: Unsigned, A: Allocator>(
     size: usize,
     k: usize,
     a_p: &[I],
     a_i: &[I],
-    next: &mut Vec<usize, A>,
-    degrees: &mut Vec<usize, A>,
+    next: &mut Vec<Cell<U>, A>,
+    degrees: &mut Vec<Cell<U>, A>,
 ) -> Option<bool>
     requires form { IsColumnForm (pos size) size (map I.value a_p.now) (map I.value a_i.now) }
     requires sorted { IsSorted size (map I.value a_p.now) (map I.value a_i.now) }
+    requires fits { slice_index (counts (map I.value a_p.now)) size ≤ U.MOST }
     requires k_in { k < size }
     requires room { (size ≤ vec_capacity next.old) × (size ≤ vec_capacity degrees.old) }
     requires read { HaveMirrorsIn size (map I.value a_p.now) (map I.value a_i.now) next.old.items k 0 }
@@ -85,20 +88,20 @@ fn column<I: Index, A: Allocator>(
         place += 1;
         others -= 1;
     }
-    next.push_reserved(place);
-    degrees.push_reserved(others);
+    next.push_reserved(cell_of(place));
+    degrees.push_reserved(cell_of(others));
     Some(diagonal)
 }
 
 /// Whether each of `size` columns was read to its end.
-fn all_read<I: Index>(size: usize, a_p: &[I], a_i: &[I], next: &[usize]) -> bool
+fn all_read<I: Index, U: Unsigned>(size: usize, a_p: &[I], a_i: &[I], next: &[Cell<U>]) -> bool
     requires form { IsColumnForm (pos size) size (map I.value a_p.now) (map I.value a_i.now) }
     requires long { length next.now ≡ size }
     ensures { result ≡ true → (j : ℕ) → j < size →
-        slice_index next.now j ≡ slice_index (counts (map I.value a_p.now)) (j + 1) }
+        slice_index_or next.now j 0 ≡ slice_index (counts (map I.value a_p.now)) (j + 1) }
 {
     'columns: for j in 0..size {
-        if next[j] != count_at(a_p, j + 1) {
+        if cell_at(next, j) != count_at(a_p, j + 1) {
             return false;
         }
     }
@@ -120,15 +123,16 @@ fn ends_upper<I: Index>(size: usize, a_p: &[I], a_i: &[I]) -> bool
 /// Appends the degree of each of `size` rows of a symmetric pattern to an empty list, and returns the number of
 /// diagonal entries; or `None`, for a pattern that is not symmetric, or whose last column has no row above the
 /// diagonal.
-pub fn mirrored_degrees<I: Index, A: Allocator>(
+pub fn mirrored_degrees<I: Index, U: Unsigned, A: Allocator>(
     size: usize,
     a_p: &[I],
     a_i: &[I],
-    next: &mut Vec<usize, A>,
-    degrees: &mut Vec<usize, A>,
+    next: &mut Vec<Cell<U>, A>,
+    degrees: &mut Vec<Cell<U>, A>,
 ) -> Option<usize>
     requires form { IsColumnForm (pos size) size (map I.value a_p.now) (map I.value a_i.now) }
     requires sorted { IsSorted size (map I.value a_p.now) (map I.value a_i.now) }
+    requires fits { slice_index (counts (map I.value a_p.now)) size ≤ U.MOST }
     requires empty { (length next.old.items ≡ 0) × (length degrees.old.items ≡ 0) }
     requires room { (size ≤ vec_capacity next.old) × (size ≤ vec_capacity degrees.old) }
     ensures degrees { IfSome result (λ diagonals. AreCounts (graph_of size (map I.value a_p.now) (map I.value a_i.now))

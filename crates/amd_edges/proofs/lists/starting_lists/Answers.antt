@@ -1,10 +1,18 @@
-use Rattle.std.proofs.Common.{map, ◌∙◌, sym}
+use Rattle.std.proofs.Common.{map, ◌∙◌, sym, arith}
 use Rattle.std.specs.Vec.{vec_capacity}
 use Rattle.std.proofs.lemmas.List.{length-map}
 use Rattle.amd_model.specs.Input.Pattern.{graph_of, is_pair}
+use Rattle.amd_edges.proofs.Forms.{pointer_within}
 use Rattle.amd_edges.proofs.Orders.{ends_starting}
 use Rattle.amd_edges.proofs.RowLists.{rows_none}
 use Rattle.amd_edges.proofs.lists.starting_lists.Goals as goal
+
+pub walk-requires-clause-fits : goal.walk-requires-clause-fits
+walk-requires-clause-fits g c =
+    let within = pointer_within c.args.size (map g.I.Index.value c.args.a_p.now) (map g.I.Index.value c.args.a_i.now) c.requires.form
+    c.args.size (omega arith) in
+    let long = length-map c.args.a_i.now g.I.Index.value in let short = c.well_formed in
+    omega (arith, within, long, short)
 
 pub walk-requires-clause-held : goal.walk-requires-clause-held
 walk-requires-clause-held g c =

@@ -7,7 +7,7 @@ use Rattle.amd_model.specs.Input.Columns.{IsColumnForm, IsSorted}
 use Rattle.amd_types.specs.Counts.{counts, count_graph, is_entry}
 use Rattle.amd_edges.specs.Visits.{arcs_of, with_arc, IsNew}
 use Rattle.amd_edges.specs.Walk.{IsScan, met}
-use Rattle.amd_edges.proofs.Forms.{pointer_fits, row_fits, place_in, sorted_form}
+use Rattle.amd_edges.proofs.Forms.{pointer_fits, row_fits, place_in, place_up, sorted_form}
 use Rattle.amd_edges.proofs.Orders.{edges_until, until_start, until_next, until_end}
 use Rattle.amd_edges.proofs.Reading.{IsReading, row_below, row_from, before_end, past_end, reading_start, reading_next}
 use Rattle.amd_edges.proofs.Uppers.{IsUpper, IsOver, upper_next, upper_new, upper_after, upper_scan, exit_gap, over_entry, over_none}
@@ -99,6 +99,9 @@ lower-requires-clause-form g c = c.requires.form
 pub lower-requires-clause-sorted : goal.lower-requires-clause-sorted
 lower-requires-clause-sorted g c = c.requires.sorted
 
+pub lower-requires-clause-fits : goal.lower-requires-clause-fits
+lower-requires-clause-fits g c = c.requires.fits
+
 pub lower-requires-clause-before : goal.lower-requires-clause-before
 lower-requires-clause-before g c = row_below c.count_at.ensures.count c.count_at-j.ensures.count c.if-count_at-k.true
 
@@ -173,6 +176,21 @@ upper-init g c =
       },
     )
 
+pub cell_of-requires : goal.cell_of-requires
+cell_of-requires g c =
+    let r = c.requires in let to = c.upper.invariant.1.place.to in
+    place_up c.args.size (map g.I.Index.value c.args.a_p.now) (map g.I.Index.value c.args.a_i.now) r.form r.k_in
+    c.count_at-end.ensures.count (elim c.if-diagonal.branch [
+      | then-diagonal w ↦ (let is = w.place-is in let inside = diagonal_inside w.if-diagonal.true in omega (arith, is, inside))
+      | else-diagonal w ↦ (let is = w.place-is in omega (arith, is, to))
+    ]) r.fits
+  where
+    diagonal_inside : c.if-place-end.diagonal ≡ true → c.upper.place < c.count_at-end.result
+    diagonal_inside e = elim c.if-place-end.branch [
+      | then-place-end w ↦ w.if-place-end.true
+      | else-place-end w ↦ absurd (true≢false (sym e ∙ w.diagonal-is ∙ le-ltb c.upper.place c.count_at-end.result w.if-place-end.false))
+    ]
+
 pub returns : goal.returns
 returns g c =
     let v = c.upper.invariant.1 in let i = v.place in let r = c.requires in
@@ -206,7 +224,7 @@ returns g c =
           w.place-is
           (missed w.if-diagonal.false)
     ] in
-    let items = sym c.push_reserved.ensures.items in
+    let items = ap (λ x. t ++ x ∷ []) (sym c.cell_of.ensures) ∙ sym c.push_reserved.ensures.items in
     record {
       scan = subst (λ l. IsScan n ap' ai l (k + 1) 0) items over.scan;
       held = subst₂ (λ s l. g.V.Visitor.holds (count_graph n ap' ai) s (arcs_of l) c.upper.visitor)

@@ -7,7 +7,7 @@ use Rattle.amd_types.specs.Counts.{counts, count_graph, is_entry}
 use Rattle.amd_edges.specs.Visits.{arcs_of}
 use Rattle.amd_edges.specs.Walk.{IsScan, met}
 use Rattle.amd_edges.proofs.Orders.{met_above, above_start, above_push, above_end}
-use Rattle.amd_edges.proofs.Forms.{pointer_fits, row_fits, place_in, sorted_form}
+use Rattle.amd_edges.proofs.Forms.{pointer_fits, row_fits, place_in, place_up, sorted_form}
 use Rattle.amd_edges.proofs.Reading.{row_from, before_end, past_end, reading_start, reading_next, reading_behind, row_in, IsReading}
 use Rattle.amd_edges.proofs.Scans.{met_still, lower_end, lower_behind}
 use Rattle.amd_edges.proofs.NextRows.{next_row}
@@ -33,8 +33,9 @@ rows-init g c =
     let n = c.args.size in let j = c.args.j in let t = c.args.next.now.items in
     let ap' = counts (map g.I.Index.value c.args.a_p.now) in let ai = counts (map g.I.Index.value c.args.a_i.now) in
     let form = sorted_form n (map g.I.Index.value c.args.a_p.now) (map g.I.Index.value c.args.a_i.now) r.form r.sorted in
-    let place = c.index-first.result.now in
-    let is : place ≡ get_or t j 0 = c.index-first.ensures ∙ get_or_default_zero t j place (before_end (sym r.scan.size) r.row) in
+    let place = c.number_of-first.result in
+    let is : place ≡ get_or t j 0 = c.number_of-first.ensures.is ∙ c.index.ensures
+    ∙ get_or_default_zero t j c.index.result.now (before_end (sym r.scan.size) r.row) in
     let stop = r.scan.stop j r.row r.row in (
       0,
       record {
@@ -54,6 +55,11 @@ edge-mark-requires g c =
     let next = next_row r.form r.sorted r.row (le_refl c.args.size) r.scan c.count_at-end.ensures.count v.place same same
     c.rows-test.true below in
     (_, _, _, v.held _ r.held.1, next.new)
+
+pub cell_of-requires : goal.cell_of-requires
+cell_of-requires g c =
+    place_up c.args.size (map g.I.Index.value c.args.a_p.now) (map g.I.Index.value c.args.a_i.now) c.requires.form c.requires.row
+    c.count_at-end.ensures.count (le_refl c.count_at-end.result) c.requires.fits
 
 pub rows-preserved : goal.rows-preserved
 rows-preserved g c =
@@ -86,7 +92,7 @@ returns-clause-scan g c =
     let n = c.args.size in let j = c.args.j in let q = c.rows.place in let t = c.args.next.now.items in
     let ap' = counts (map g.I.Index.value c.args.a_p.now) in let ai = counts (map g.I.Index.value c.args.a_i.now) in
     let form = sorted_form n (map g.I.Index.value c.args.a_p.now) (map g.I.Index.value c.args.a_i.now) r.form r.sorted in
-    let ends = c.count_at-end.ensures.count in let past = c.rows-test.false in let end = reading_end i past in
+    let ends = c.count_at-end.ensures.count in let past = c.rows-test.false in let end = reading_end i past ∙ sym c.cell_of.ensures in
     subst (λ x. IsScan n ap' ai (set t j x) n (j + 1)) end
     (lower_end n ap' ai form t n j q r.scan r.row (le_refl n) i.from (le_trans i.to (le_of_eq ends)) (λ x. absurd (lt_irrefl n x))
     (reading_behind i)
@@ -98,7 +104,7 @@ returns-clause-held g c =
     let n = c.args.size in let j = c.args.j in let q = c.rows.place in let t = c.args.next.now.items in
     let ap' = counts (map g.I.Index.value c.args.a_p.now) in let ai = counts (map g.I.Index.value c.args.a_i.now) in
     let form = sorted_form n (map g.I.Index.value c.args.a_p.now) (map g.I.Index.value c.args.a_i.now) r.form r.sorted in
-    let ends = c.count_at-end.ensures.count in let past = c.rows-test.false in let end = reading_end i past in
+    let ends = c.count_at-end.ensures.count in let past = c.rows-test.false in let end = reading_end i past ∙ sym c.cell_of.ensures in
     let left = lower_behind n ap' ai form t n j q r.scan r.row (le_refl n) i.from n (λ inside. absurd (past_end ends past inside)) in
     let all = above_end n ap' ai form t n j q r.scan r.row (le_refl n) i.from b i.read i.low left in
     λ arcs h. subst₂ (λ x l. g.V.Visitor.holds (count_graph n ap' ai) (met n ap' ai (set t j x) n (j + 1)) l c.end.new.self)

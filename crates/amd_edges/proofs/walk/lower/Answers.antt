@@ -7,7 +7,7 @@ use Rattle.amd_types.specs.Counts.{counts, count_graph, is_entry}
 use Rattle.amd_edges.specs.Visits.{arcs_of}
 use Rattle.amd_edges.specs.Walk.{IsScan, met}
 use Rattle.amd_edges.proofs.Orders.{met_above, above_start, above_push, above_end}
-use Rattle.amd_edges.proofs.Forms.{pointer_fits, row_fits, place_in, sorted_form}
+use Rattle.amd_edges.proofs.Forms.{pointer_fits, row_fits, place_in, place_up, sorted_form}
 use Rattle.amd_edges.proofs.Reading.{row_from, before_end, past_end}
 use Rattle.amd_edges.proofs.Reading.{reading_start, reading_next, reading_behind, reading_behind_next}
 use Rattle.amd_edges.proofs.Scans.{met_still, lower_mirror, lower_end, lower_behind, lower_next}
@@ -62,8 +62,9 @@ rows-init g c =
     let n = c.args.size in let j = c.args.j in let k = c.args.k in let t = c.args.next.now.items in
     let ap' = counts (map g.I.Index.value c.args.a_p.now) in let ai = counts (map g.I.Index.value c.args.a_i.now) in
     let form = sorted_form n (map g.I.Index.value c.args.a_p.now) (map g.I.Index.value c.args.a_i.now) r.form r.sorted in
-    let place = c.index-place.result.now in
-    let is : place ≡ get_or t j 0 = c.index-place.ensures ∙ get_or_default_zero t j place (before_end (sym r.scan.size) r.before) in
+    let place = c.number_of-place.result in
+    let is : place ≡ get_or t j 0 = c.number_of-place.ensures.is ∙ c.index.ensures
+    ∙ get_or_default_zero t j c.index.result.now (before_end (sym r.scan.size) r.before) in
     let stop = r.scan.stop j r.before (lt_of_lt_of_le r.before r.k_in) in (
       0,
       record {
@@ -87,6 +88,15 @@ edge-mark-requires g c =
 
 pub end-requires : goal.end-requires
 end-requires g c = let r = c.requires in (_, _, _, c.rows.invariant.1.held _ r.held.1, lt_of_lt_of_le r.before r.k_in)
+
+pub cell_of-requires : goal.cell_of-requires
+cell_of-requires g c =
+    let r = c.requires in let ends = c.count_at-end.ensures.count in let to = c.rows.invariant.1.place.to in
+    place_up c.args.size (map g.I.Index.value c.args.a_p.now) (map g.I.Index.value c.args.a_i.now) r.form
+    (lt_of_lt_of_le r.before r.k_in) ends (elim c.if-place-end.branch [
+      | then-place-end+then-count_at-k-2 w ↦ (let is = w.place-is in let inside = w.if-place-end.true in omega (arith, is, inside))
+      | else-place-end w ↦ (let is = w.place-is in omega (arith, is, to))
+    ]) r.fits
 
 pub rows-preserved : goal.rows-preserved
 rows-preserved g c =
@@ -133,14 +143,14 @@ returns g c =
           let here = w.if-count_at-k-2.true in
           let from : get_or t j 0 ≤ q + 1 = (let x = i.from in omega (arith, x)) in
           record {
-            scan = subst (λ x. IsScan n ap' ai (set t j x) k (j + 1)) (sym w.place-is)
+            scan = subst (λ x. IsScan n ap' ai (set t j x) k (j + 1)) (sym (c.cell_of.ensures ∙ w.place-is))
                 (lower_end n ap' ai form t k j (q + 1) r.scan r.before r.k_in from (omega (arith, inside)) r.mirror
                 (reading_behind_next i (sym same ∙ here))
                 (lower_next n ap' ai form t k j q r.scan r.before r.k_in i.from w.count_at-then-place-end.result same inside here));
             held = λ arcs h. subst₂ (λ s l. g.V.Visitor.holds (count_graph n ap' ai) s l c.end.new.self)
                 (sym (lower_mirror n ap' ai form t k j q r.scan r.before r.k_in i.from w.count_at-then-place-end.result same inside here
                 r.mirror)
-                ∙ moved c.if-place-end.place (q + 1) w.place-is)
+                ∙ moved c.cell_of.result (q + 1) (c.cell_of.ensures ∙ w.place-is))
                 (ap (λ l. arcs ++ arcs_of l) (sym all)) (c.end.ensures.held (count_graph n ap' ai) (met n ap' ai (set t j q) k (j + 1))
                 (arcs ++ arcs_of (met_above (is_entry n ap' ai) k j b)) (v.held arcs h) row);
             room = refl;
@@ -153,11 +163,11 @@ returns g c =
             | else-place-end-via-else-place-end u ↦ absurd (past_end ends u.if-place-end.false inside)
           ] in
           record {
-            scan = subst (λ x. IsScan n ap' ai (set t j x) k (j + 1)) (sym w.place-is)
+            scan = subst (λ x. IsScan n ap' ai (set t j x) k (j + 1)) (sym (c.cell_of.ensures ∙ w.place-is))
                 (lower_end n ap' ai form t k j q r.scan r.before r.k_in i.from (le_trans i.to (le_of_eq ends)) r.mirror
                 (reading_behind i) (lower_behind n ap' ai form t k j q r.scan r.before r.k_in i.from (suc k) other));
             held = λ arcs h. subst₂ (λ s l. g.V.Visitor.holds (count_graph n ap' ai) s l c.end.new.self)
-                (moved c.if-place-end.place q w.place-is) (ap (λ l. arcs ++ arcs_of l) (sym all))
+                (moved c.cell_of.result q (c.cell_of.ensures ∙ w.place-is)) (ap (λ l. arcs ++ arcs_of l) (sym all))
                 (c.end.ensures.held (count_graph n ap' ai) (met n ap' ai (set t j q) k (j + 1))
                 (arcs ++ arcs_of (met_above (is_entry n ap' ai) k j b)) (v.held arcs h) row);
             room = refl;

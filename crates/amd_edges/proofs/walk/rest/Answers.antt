@@ -16,6 +16,9 @@ column_rest-requires-clause-form g c = c.requires.form
 pub column_rest-requires-clause-sorted : goal.column_rest-requires-clause-sorted
 column_rest-requires-clause-sorted g c = c.requires.sorted
 
+pub column_rest-requires-clause-fits : goal.column_rest-requires-clause-fits
+column_rest-requires-clause-fits g c = c.requires.fits
+
 pub column_rest-requires-clause-row : goal.column_rest-requires-clause-row
 column_rest-requires-clause-row g c = c.columns-test.true
 
@@ -39,6 +42,7 @@ columns-init g c =
     let n = c.args.size in
     let ap' = counts (map g.I.Index.value c.args.a_p.now) in let ai = counts (map g.I.Index.value c.args.a_i.now) in
     record {
+      room = refl;
       kept = refl;
       scan = c.requires.scan;
       held = subst (λ l. g.V.Visitor.holds (count_graph n ap' ai) (met n ap' ai c.args.next.now.items n 0) (arcs_of l) c.args.visitor.now)
@@ -53,6 +57,7 @@ columns-preserved g c =
     c.requires.sorted in
     let arcs = arcs_of (edges_after (is_entry n ap' ai) n j) in
     record {
+      room = c.column_rest.ensures.room ∙ c.columns.invariant.room;
       kept = c.column_rest.ensures.kept ∙ c.columns.invariant.kept;
       scan = c.column_rest.ensures.scan;
       held = subst (λ l. g.V.Visitor.holds (count_graph n ap' ai) (met n ap' ai c.column_rest.new.next.items n (j + 1)) l
@@ -79,5 +84,6 @@ returns g c =
           (sym (same_graph n (map g.I.Index.value c.args.a_p.now) (map g.I.Index.value c.args.a_i.now) c.requires.form))
           (subst₂ (λ s l. g.V.Visitor.holds (count_graph n ap' ai) s (arcs_of l) c.columns.visitor) (ap (met n ap' ai t n) end ∙ all)
           edges i.held);
+      room = i.room;
       kept = i.kept;
     }

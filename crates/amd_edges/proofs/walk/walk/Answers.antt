@@ -17,11 +17,14 @@ column-requires-clause-form g c = c.requires.form
 pub column-requires-clause-sorted : goal.column-requires-clause-sorted
 column-requires-clause-sorted g c = c.requires.sorted
 
+pub column-requires-clause-fits : goal.column-requires-clause-fits
+column-requires-clause-fits g c = c.requires.fits
+
 pub column-requires-clause-k_in : goal.column-requires-clause-k_in
 column-requires-clause-k_in g c = c.columns-test.true
 
 pub column-requires-clause-room : goal.column-requires-clause-room
-column-requires-clause-room g c = c.columns.invariant.room
+column-requires-clause-room g c = let r = c.requires.room in let i = c.columns.invariant.room in omega (arith, r, i)
 
 pub column-requires-clause-scan : goal.column-requires-clause-scan
 column-requires-clause-scan g c = c.columns.invariant.scan
@@ -41,7 +44,7 @@ columns-init g c =
       count = refl;
       small = omega arith;
       kept = refl;
-      room = r.room;
+      room = refl;
       scan = start_scan n ap' ai form c.args.next.now.items r.empty;
       held = rw (
         start_edges (is_entry n ap' ai),
@@ -72,7 +75,7 @@ columns-preserved g c =
         | else-column w ↦ (let y = w.diagonals-is in let x = i.small in omega arith)
       ];
       kept = e.kept ∙ i.kept;
-      room = (let x = i.room in let y = e.room in omega (arith, x, y));
+      room = e.room ∙ i.room;
       scan = e.scan;
       held = e.held;
     }
@@ -82,6 +85,9 @@ rest-requires-clause-form g c = c.requires.form
 
 pub rest-requires-clause-sorted : goal.rest-requires-clause-sorted
 rest-requires-clause-sorted g c = c.requires.sorted
+
+pub rest-requires-clause-fits : goal.rest-requires-clause-fits
+rest-requires-clause-fits g c = c.requires.fits
 
 pub rest-requires-clause-scan : goal.rest-requires-clause-scan
 rest-requires-clause-scan g c =
@@ -99,6 +105,7 @@ returns g c =
     let e : c.columns.k ≡ n = (let x = c.columns-test.false in let y = c.columns.auto.k-end in omega arith) in
     record {
       held = c.rest.ensures.held;
+      room = c.rest.ensures.room ∙ c.columns.invariant.room;
       kept = c.rest.ensures.kept ∙ c.columns.invariant.kept;
       diagonals = rw e at c.columns.invariant.count ∙ sym (same_diagonals n _ _ c.requires.form);
     }

@@ -12,7 +12,7 @@ invariant-columns g l = record {
       j j);
   small : l.diagonals ≤ l.k;
   kept : g.V.Visitor.room l.visitor ≡ g.V.Visitor.room l.fn.visitor;
-  room : l.fn.size ≤ vec_capacity l.next;
+  room : vec_capacity l.next ≡ vec_capacity l.fn.next;
   scan : IsScan l.fn.size (counts (map g.I.Index.value l.a_p)) (counts (map g.I.Index.value l.a_i)) l.next.items l.k 0;
   held : g.V.Visitor.holds (count_graph l.fn.size (counts (map g.I.Index.value l.a_p)) (counts (map g.I.Index.value l.a_i)))
       (met l.fn.size (counts (map g.I.Index.value l.a_p)) (counts (map g.I.Index.value l.a_i)) l.next.items l.k 0)

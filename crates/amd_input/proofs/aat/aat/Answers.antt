@@ -1,4 +1,4 @@
-use Rattle.std.proofs.Common.{◌≡◌, ◌<◌, ℕ, ℤ, List, map, length, get_or, arith, refl, sym, subst, pos, unsigned_abs}
+use Rattle.std.proofs.Common.{◌≡◌, ◌<◌, ℕ, ℤ, List, map, length, get_or, arith, refl, sym, subst, pos, unsigned_abs, ◌∙◌}
 use Rattle.std.specs.Int.{FitsUnsignedBits}
 use Rattle.std.proofs.lemmas.List.{length-map}
 use Rattle.amd_model.specs.Below.{sum_below}
@@ -7,6 +7,7 @@ use Rattle.amd_model.specs.Input.Pattern.{graph_of, diagonal_count}
 use Rattle.amd_types.specs.Counts.{counts}
 use Rattle.amd_edges.proofs.Forms.{pointer_fits}
 use Rattle.amd_edges.specs.Visits.{AreCounts}
+use Rattle.amd_input.specs.Degrees.{AreDegrees}
 use Rattle.amd_input.proofs.PatternLemmas.{input_form, input_sorted, input_fits, degrees_are, figures_are, diagonal_within}
 use Rattle.amd_input.proofs.aat.aat.Goals as goal
 
@@ -38,8 +39,8 @@ count_at-entries-requires g c =
           (pointer_fits n ap' ai form n (omega arith) (simp length-map (omega arith)));
     }
 
-pub overflow_sub-info : goal.overflow_sub-info
-overflow_sub-info g c =
+pub write_figures-requires : goal.write_figures-requires
+write_figures-requires g c =
     let n : ℕ = unsigned_abs (g.I.Number.value c.args.n) in
     let ap' : List ℤ = map g.I.Number.value c.args.a_p.now in let ai : List ℤ = map g.I.Number.value c.args.a_i.now in
     let size = c.known_count-size.ensures in
@@ -53,17 +54,18 @@ returns g c =
     let n : ℕ = unsigned_abs (g.I.Number.value c.args.n) in
     let ap' : List ℤ = map g.I.Number.value c.args.a_p.now in let ai : List ℤ = map g.I.Number.value c.args.a_i.now in
     let size = c.known_count-size.ensures in
-    let numbers : List ℕ = c.in_ok-diagonals.degrees.items in
+    let numbers : List ℕ = c.in_ok-diagonals.counter.degrees.items in
     let held = subst (λ k. AreCounts (graph_of k ap' ai) ((graph_of k ap' ai).edge) numbers) size c.in_ok-diagonals.ensures.degrees in
-    let degrees = degrees_are n ap' ai numbers c.in-Some.sum held
+    let counted = degrees_are n ap' ai numbers c.in-Some.sum held
     (subst (λ l. c.in-Some.sum ≡ sum_below (length l) (λ k. get_or l k 0)) c.deref.ensures.value c.in-Some.ensures.1) in
+    let copied : c.in_ok-degrees.degrees.items ≡ numbers = c.in_ok-degrees.ensures ∙ c.deref-2.ensures.value in
     record {
-      degrees = degrees;
-      figures = figures_are n ap' ai (input_form (g.I.Number.value c.args.n) ap' ai c.requires.form)
+      degrees = subst (AreDegrees n ap' ai c.in-Some.sum) (sym copied) counted;
+      figures = rw c.write_figures.ensures (figures_are n ap' ai (input_form (g.I.Number.value c.args.n) ap' ai c.requires.form)
           (input_sorted (g.I.Number.value c.args.n) ap' ai c.requires.sorted) _ size
           (subst (λ k. c.count_at-entries.result ≡ get_or (counts ap') k 0) size c.count_at-entries.ensures.count)
-          (subst (λ k. c.in_ok-diagonals.diagonals ≡ diagonal_count k ap' ai) size c.in_ok-diagonals.ensures.diagonals) degrees.sum refl;
-      others = refl;
+          (subst (λ k. c.in_ok-diagonals.diagonals ≡ diagonal_count k ap' ai) size c.in_ok-diagonals.ensures.diagonals) counted.sum refl);
+      others = rw c.write_figures.ensures refl;
       refused = tt;
       unchanged = tt;
     }

@@ -1,12 +1,11 @@
--- the goals of aat::degrees_of.
-use Rattle.std.proofs.Common.{map}
-use Rattle.amd_model.specs.Input.Pattern.{graph_of}
-use Rattle.amd_input.proofs.Counting.{zeros_of, counts_none}
+use Rattle.std.proofs.Common.{map, arith}
+use Rattle.std.proofs.lemmas.List.{length-map}
+use Rattle.amd_edges.proofs.Forms.{pointer_within}
 use Rattle.amd_input.proofs.aat.degrees_of.Goals as goal
 
-pub walk-diagonals-requires-clause-held : goal.walk-diagonals-requires-clause-held
-unfolding graph_of
-walk-diagonals-requires-clause-held g c =
-    let none = zeros_of c.args.size c.zeros.new.numbers.items c.zeros.ensures in
-    counts_none (graph_of c.args.size (map g.I.Index.value c.args.a_p.now) (map g.I.Index.value c.args.a_i.now))
-    c.zeros.new.numbers.items none.0 none.1
+pub count_degrees-diagonals-requires-clause-fits : goal.count_degrees-diagonals-requires-clause-fits
+count_degrees-diagonals-requires-clause-fits g c =
+    let within = pointer_within c.args.size (map g.I.Index.value c.args.a_p.now) (map g.I.Index.value c.args.a_i.now) c.requires.form
+    c.args.size (omega arith) in
+    let long = length-map c.args.a_i.now g.I.Index.value in let short = c.well_formed in let size = c.ranges.size.fits in
+    (omega (arith, size), omega (arith, within, long, short))

@@ -1,10 +1,10 @@
 -- the goals of mirrors::column.
-use Rattle.std.proofs.Common.{◌≡◌, ◌≢◌, ◌+◌, ◌<◌, ◌^◌, ◌++◌, ◌∷◌, [], Bool, true, false, arith, map, get_or, sym, ◌∙◌, subst}
+use Rattle.std.proofs.Common.{◌≡◌, ◌≢◌, ◌+◌, ◌<◌, ◌^◌, ◌++◌, ◌∷◌, [], Bool, true, false, arith, map, get_or, ap, sym, ◌∙◌, subst}
 use Rattle.std.proofs.lemmas.Bool.{eqb-true, eqb-false, true≢false, le-ltb}
 use Rattle.std.proofs.lemmas.List.{length-map}
 use Rattle.amd_model.specs.Below.{count_below}
 use Rattle.amd_types.specs.Counts.{counts, is_entry}
-use Rattle.amd_edges.proofs.Forms.{pointer_fits, row_fits, place_in, sorted_form}
+use Rattle.amd_edges.proofs.Forms.{pointer_fits, row_fits, place_in, place_up, sorted_form}
 use Rattle.amd_edges.proofs.Reading.{before_end, past_end}
 use Rattle.amd_input.specs.Mirrors.{HaveMirrors, CountOthers, is_beside}
 use Rattle.amd_input.proofs.MirroredRows.{column_with, column_without, others_push}
@@ -29,6 +29,30 @@ pub count_at-requires-clause-fits : goal.count_at-requires-clause-fits
 count_at-requires-clause-fits g c = row_fits c.args.size (map g.I.Index.value c.args.a_p.now) (map g.I.Index.value c.args.a_i.now)
     c.requires.form c.args.k c.in-Some.place c.requires.k_in (before_end c.count_at-end.ensures.count c.if-place-end.true)
     c.ranges.size.fits
+
+pub cell_of-requires : goal.cell_of-requires
+cell_of-requires g c =
+    let p = c.in-Some.place in let r = c.requires in
+    place_up c.args.size (map g.I.Index.value c.args.a_p.now) (map g.I.Index.value c.args.a_i.now) r.form r.k_in
+    c.count_at-end.ensures.count (elim c.if-diagonal.branch [
+      | then-diagonal w ↦ (let is = w.place-is in let inside = before w.if-diagonal.true in omega (arith, is, inside))
+      | else-diagonal w ↦ (let is = w.place-is in let to = c.in-Some.ensures.ends.to in let ends = c.count_at-end.ensures.count in
+          omega (arith, is, to, ends))
+    ]) r.fits
+  where
+    before : c.if-place-end.diagonal ≡ true → c.in-Some.place < c.count_at-end.result
+    before e = elim c.if-place-end.branch [
+      | then-place-end w ↦ w.if-place-end.true
+      | else-place-end w ↦ absurd (true≢false (sym e ∙ w.diagonal-is ∙ le-ltb c.in-Some.place c.count_at-end.result w.if-place-end.false))
+    ]
+
+pub cell_of-requires-2 : goal.cell_of-requires-2
+cell_of-requires-2 g c =
+    place_up c.args.size (map g.I.Index.value c.args.a_p.now) (map g.I.Index.value c.args.a_i.now) c.requires.form c.requires.k_in
+    c.count_at-end.ensures.count (elim c.if-diagonal.branch [
+      | then-diagonal w ↦ (let is = w.others-is in omega (arith, is))
+      | else-diagonal w ↦ (let is = w.others-is in omega (arith, is))
+    ]) c.requires.fits
 
 pub returns : goal.returns
 returns g c =
@@ -59,8 +83,10 @@ returns g c =
           (missed w.if-diagonal.false) w.place-is (omega (arith, o, ends, starts)) in (both.0, both.1, w.if-diagonal.false ∙ both.2))
     ] in
     record {
-      read = subst (λ l. HaveMirrors n ap' ai l (k + 1) 0) (sym c.push_reserved.ensures.items) over.0;
-      others = subst (λ l. CountOthers n ap' ai (k + 1) l) (sym c.push_reserved-2.ensures.items)
+      read = subst (λ l. HaveMirrors n ap' ai l (k + 1) 0)
+          (ap (λ x. t ++ x ∷ []) (sym c.cell_of.ensures) ∙ sym c.push_reserved.ensures.items) over.0;
+      others = subst (λ l. CountOthers n ap' ai (k + 1) l)
+          (ap (λ x. c.args.degrees.now.items ++ x ∷ []) (sym c.cell_of-2.ensures) ∙ sym c.push_reserved-2.ensures.items)
           (others_push n ap' ai c.args.degrees.now.items k others r.others over.1);
       diagonal = over.2;
       room = (c.push_reserved.ensures.capacity ∙ c.uppers.ensures.room, c.push_reserved-2.ensures.capacity);

@@ -1,10 +1,11 @@
 -- the goals of mirrors::uppers.
-use Rattle.std.proofs.Common.{◌+◌, ◌<◌, ◌^◌, arith, map, get_or, sym, subst, le_refl}
+use Rattle.std.proofs.Common.{◌≡◌, ◌+◌, ◌<◌, ◌^◌, arith, map, get_or, set, sym, subst, le_refl}
 use Rattle.std.proofs.lemmas.List.{length-map}
 use Rattle.amd_types.specs.Counts.{counts}
-use Rattle.amd_edges.proofs.Forms.{pointer_fits, row_fits, place_in, sorted_form}
+use Rattle.amd_edges.proofs.Forms.{pointer_fits, row_fits, place_in, place_up, sorted_form}
 use Rattle.amd_edges.proofs.Places.{entry_from}
 use Rattle.amd_edges.proofs.Reading.{row_below, before_end, reading_next}
+use Rattle.amd_input.specs.Mirrors.{HaveMirrors}
 use Rattle.amd_input.proofs.MirroredRows.{mirrors_next, mirrors_over, unread_from}
 use Rattle.amd_input.proofs.mirrors.uppers.Goals as goal
 
@@ -42,15 +43,21 @@ pub count_at-requires-else-mirror-count_at-clause-within : goal.count_at-require
 count_at-requires-else-mirror-count_at-clause-within g c =
     let l = row_below c.count_at.ensures.count c.count_at-j.ensures.count c.if-count_at-k.true in let m = c.requires.k_in in
     place_in g.I.Index.value c.args.a_i.now c.args.size (map g.I.Index.value c.args.a_p.now) c.requires.form c.count_at-j.result
-    c.index-mirror.result.now c.count_at-in-uppers.result (omega (arith, l, m)) c.count_at-in-uppers.ensures.count
+    c.number_of-mirror.result c.count_at-in-uppers.result (omega (arith, l, m)) c.count_at-in-uppers.ensures.count
     (let t = c.if-mirror-count_at.false in omega (arith, t))
 
 pub count_at-requires-else-mirror-count_at-clause-fits : goal.count_at-requires-else-mirror-count_at-clause-fits
 count_at-requires-else-mirror-count_at-clause-fits g c =
     let l = row_below c.count_at.ensures.count c.count_at-j.ensures.count c.if-count_at-k.true in let m = c.requires.k_in in
     row_fits c.args.size (map g.I.Index.value c.args.a_p.now) (map g.I.Index.value c.args.a_i.now) c.requires.form c.count_at-j.result
-    c.index-mirror.result.now (omega (arith, l, m))
+    c.number_of-mirror.result (omega (arith, l, m))
     (let t = c.if-mirror-count_at.false in let e = c.count_at-in-uppers.ensures.count in omega (arith, t, e)) c.ranges.size.fits
+
+pub cell_of-requires : goal.cell_of-requires
+cell_of-requires g c =
+    let l = row_below c.count_at.ensures.count c.count_at-j.ensures.count c.if-count_at-k.true in let m = c.requires.k_in in
+    place_up c.args.size (map g.I.Index.value c.args.a_p.now) (map g.I.Index.value c.args.a_i.now) c.requires.form
+    (omega (arith, l, m)) c.count_at-in-uppers.ensures.count (let t = c.if-mirror-count_at.false in omega (arith, t)) c.requires.fits
 
 pub uppers-preserved : goal.uppers-preserved
 uppers-preserved g c =
@@ -61,17 +68,19 @@ uppers-preserved g c =
     let ends = c.count_at-end.ensures.count in let row = c.count_at-j.ensures.count in
     let up = row_below c.count_at.ensures.count row c.if-count_at-k.true in
     let low = v.place.left p (le_refl p) c.uppers-test.true in
-    let entry = entry_from ap' ai n j k p r.k_in v.place.from (before_end ends c.uppers-test.true) (sym row) in (
+    let entry = entry_from ap' ai n j k p r.k_in v.place.from (before_end ends c.uppers-test.true) (sym row) in
+    let reads : c.number_of-mirror.result ≡ get_or t j c.number_of-mirror.result =
+    subst (λ x. x ≡ get_or t j x) (sym c.number_of-mirror.ensures.is) c.index.ensures in (
       j + 1,
       record {
         place = reading_next n ap' ai form k (get_or ap' k 0) c.count_at-end.result k m p j r.k_in (le_refl (get_or ap' k 0)) ends v.place
             row c.uppers-test.true up;
         room = v.room;
-        read = mirrors_next n ap' ai t k m v.read j c.index-mirror.result.now up (omega (arith, low, row)) entry
+        read = subst (λ x. HaveMirrors n ap' ai (set t j x) k (j + 1)) (sym c.cell_of.ensures) (mirrors_next n ap' ai t k m v.read j c.number_of-mirror.result up (omega (arith, low, row)) entry
             (λ a x e. let w = (unread_from n ap' ai form k m p c.count_at-end.result a r.k_in ends v.place x e).1 in
             omega (arith, w, row))
-            c.index-mirror.ensures (let e = c.count_at-else-mirror-count_at.ensures.count in let s = c.if-count_at-k-2.false in
-            omega (arith, e, s));
+            reads (let e = c.count_at-else-mirror-count_at.ensures.count in let s = c.if-count_at-k-2.false in
+            omega (arith, e, s)));
       },
     )
 
