@@ -1,8 +1,8 @@
 // The engine in place: the lists of the neighbours are laid in one workspace, whose words have 32 bits where that is
-// wide enough, and the rows are eliminated in it. Source: Amestoy, Davis and Duff 1996 and 2004. Called by `order` of
-// the crate `amd`.
+// wide enough, and the rows are eliminated in it. Source: Amestoy, Davis and Duff 1996 and 2004.
 
-ghost use Rattle.std.specs.Prelude.{◌≡◌, ◌<◌, ◌≤◌, ◌+◌, ◌^◌, ◌↔◌, IsTrue, pos, map, length, IfOk, IfErr, OnOk};
+ghost use Rattle.std.specs.Prelude.{◌≡◌, ◌<◌, ◌≤◌, ◌+◌, ◌^◌, ◌↔◌, ℕ, IsTrue, pos, map, length, slice_index, IfOk, IfErr};
+ghost use Rattle.std.specs.Prelude.{OnOk};
 ghost use Rattle.std.specs.Option.{option_copied};
 ghost use Rattle.amd_model.specs.Input.Columns.{IsColumnForm, IsSorted};
 ghost use Rattle.amd_model.specs.Input.Held.{HasMarks};
@@ -10,15 +10,20 @@ ghost use Rattle.amd_model.specs.Input.Pattern.{graph_of};
 ghost use Rattle.amd_edges.specs.Visits.{AreCounts, start_of};
 ghost use Rattle.amd_engine_law.specs.Engine.{IsEngineAnswer};
 ghost use Rattle.amd_rounds.specs.Laid.{AreWideEnough};
+ghost use Rattle.amd_types.specs.Counts.{counts};
+ghost use Rattle.amd_workspace.specs.Lists.{HasRoom};
+ghost use Rattle.amd_workspace.specs.Lower.{AreNeighbourCounts, own_start};
 
 use crate::ended::finish;
-use crate::fresh::fresh_lists;
+use crate::fresh::{fill_lists, memory_for, room_for};
 use crate::running::run_growing;
 use amd_types::amd::{Control, Info, Status};
 use amd_types::dense::dense_threshold;
 use amd_types::index::Index;
+use amd_types::internal::count_at;
 use amd_words::{Signed, Unsigned, Word};
-use amd_workspace::laying::{Laid, lay};
+use amd_workspace::laying::lay;
+use amd_workspace::lists::Memory;
 use num_traits::PrimInt;
 use std::alloc::{AllocError, Allocator};
 
@@ -70,13 +75,96 @@ fn ask_for_two<A: Allocator + Copy>(alloc: A, words: usize) -> Result<(), AllocE
 /// # Errors
 ///
 /// A refused request for memory.
-fn ask_for_most<A: Allocator + Copy>(alloc: A, n: usize, iwlen: usize) -> Result<(), AllocError> {
+pub fn ask_for_most<A: Allocator + Copy>(
+    alloc: A,
+    n: usize,
+    iwlen: usize,
+) -> Result<(), AllocError> {
     let most = n.saturating_mul(12).saturating_add(iwlen);
     let _: Vec<Word<i32>, A> = Vec::with_capacity(alloc, most.min(GREATEST_MEASURE))?;
     if iwlen > GREATEST_MEASURE && most <= GREATEST_KEPT {
         ask_for_two(alloc, most / 2)?;
     }
     Ok(())
+}
+
+/// Orders the rows of a matrix with sorted columns by elimination in at most `room` words of memory that was asked for
+/// before. It asks for none, and so nothing can be refused.
+///
+/// The input is a column form with `n` rows and columns, at least one, each strictly ascending. The memory has the
+/// degree of each row in `len`, and room for `n` rows and `room` words; what its other lists hold is not read.
+/// `room` is at least the sum of the degrees plus `n`. The widths hold an elimination of `n` rows in `room` words, and
+/// a cell holds each pointer. `flag`, the first one, is 2 or more: the result is the same with each. The rows marked in
+/// `hold`, which has one mark for each row where it is given, are held last beside the dense ones. The permutation may
+/// be of another type than the input.
+///
+/// Writes the permutation into `p` and its inverse into `p_inv`, which have `n` places, and of `info` the number of
+/// rows held last, the figures of the fronts, and how often the workspace was compacted, at most `n` times. The memory
+/// keeps its room.
+///
+/// Source: Amestoy, Davis and Duff 1996 and 2004.
+pub fn order_within<I: Index, J: Index, S: Signed, P: Signed, U: Unsigned, A: Allocator + Copy>(
+    memory: &mut Memory<S, P, U, A>,
+    flag: usize,
+    a_p: &[J],
+    a_i: &[J],
+    room: usize,
+    control: &Control,
+    hold: Option<&[bool]>,
+    p: &mut [I],
+    p_inv: &mut [I],
+    info: &mut Info,
+)
+    requires places { length p_inv.old ≡ length p.old }
+    requires some { 0 < length p.old }
+    requires fits { (k : ℕ) → k < length p.old → I.fits (pos k) }
+    requires form { IsColumnForm (pos (length p.old)) (length p.old) (map J.value a_p.now) (map J.value a_i.now) }
+    requires sorted { IsSorted (length p.old) (map J.value a_p.now) (map J.value a_i.now) }
+    requires degrees { AreNeighbourCounts (length p.old) (map J.value a_p.now) (map J.value a_i.now)
+        memory.old.len.items }
+    requires words { own_start (length p.old) (map J.value a_p.now) (map J.value a_i.now) (length p.old) + length p.old
+        ≤ room }
+    requires room { HasRoom (length p.old) room memory.old }
+    requires narrow { AreWideEnough S.MOST P.MOST U.MOST (length p.old) room }
+    requires pointers { slice_index (counts (map J.value a_p.now)) (length p.old) ≤ U.MOST }
+    requires flag { 2 ≤ flag }
+    requires marks { HasMarks (option_copied hold) (length p.old) }
+    ensures orders { IsEngineAnswer (option_copied hold.entry) (length p.old) control.now.dense control.now.aggressive
+        (map J.value a_p.now) (map J.value a_i.now) (map I.value p.new) (map I.value p_inv.new) info.old info.new }
+    ensures compactions { info.new.n_cmp_a ≤ length p.old }
+    ensures room { (n count : ℕ) → HasRoom n count memory.old → HasRoom n count memory.new }
+{
+    let size = p.len();
+    let free = lay(size, a_p, a_i, room, memory);
+    let threshold = dense_threshold(size, control);
+    fill_lists(size, &mut memory.words.next, &mut memory.lists);
+    let told = run_growing(
+        &mut memory.words.iw,
+        &mut memory.pe,
+        &mut memory.len,
+        &mut memory.lists.e_len,
+        &mut memory.lists.nv,
+        &mut memory.words.next,
+        &mut memory.lists.w,
+        &mut memory.lists.head,
+        &mut memory.lists.sides,
+        &mut memory.lists.hash,
+        free,
+        flag,
+        control,
+        hold,
+        threshold,
+        room,
+    );
+    finish(
+        &told,
+        &mut memory.pe,
+        &mut memory.words.next,
+        &mut memory.lists,
+        p,
+        p_inv,
+        info,
+    );
 }
 
 /// As `amd_1`, in words of these widths, and with a first flag of 2 or more: the result is the same with each.
@@ -119,29 +207,27 @@ pub fn order_in<I: Index, S: Signed, P: Signed, U: Unsigned, A: Allocator + Copy
     ensures compactions { OnOk result (info.new.n_cmp_a ≤ length len.now) }
     ensures refused { IfErr result (λ e. e ≡ Status.OutOfMemory) }
 {
-    let mut laid: Laid<S, P, U, A> = lay(alloc, len.len(), a_p, a_i, len, iwlen)?;
-    let threshold = dense_threshold(len.len(), control);
-    let mut lists = fresh_lists(alloc, len.len())?;
-    let told = run_growing(
-        &mut laid.iw,
-        &mut laid.pe,
-        &mut laid.len,
-        &mut lists.e_len,
-        &mut lists.nv,
-        &mut lists.degree,
-        &mut lists.w,
-        &mut lists.head,
-        &mut lists.sides,
-        &mut lists.hash,
-        laid.free,
+    let size = len.len();
+    // No pointer is above `iwlen`, so this is never so.
+    if count_at(a_p, size) > U::MOST {
+        return Err(Status::OutOfMemory);
+    }
+    let mut memory: Memory<S, P, U, A> = memory_for(alloc, len, iwlen)?;
+    let mut p = room_for(alloc, size)?;
+    let mut p_inv = room_for(alloc, size)?;
+    order_within(
+        &mut memory,
         flag,
+        a_p,
+        a_i,
+        iwlen,
         control,
         hold,
-        threshold,
-        iwlen,
+        &mut p,
+        &mut p_inv,
+        info,
     );
-    finish(&told, &mut laid.pe, &mut lists, info);
-    Ok((lists.p, lists.p_inv))
+    Ok((p, p_inv))
 }
 
 /// Orders the rows of a matrix with sorted columns by elimination in a workspace of `iwlen` words.

@@ -13,7 +13,7 @@ ghost use Rattle.amd_workspace.specs.Laying.{IsLaidOut};
 ghost use Rattle.amd_engine.specs.InPlace.{AnswersInPlace, LaysGraph};
 
 use crate::ended::finish;
-use crate::fresh::{fresh_lists, room_for};
+use crate::fresh::{fill_lists, room_for};
 use crate::running::run;
 use amd_types::amd::{Control, Info, Status};
 use amd_types::dense::dense_threshold;
@@ -22,6 +22,7 @@ use amd_types::internal::from_count;
 use amd_views::{lend_cells, lend_words, raise};
 use amd_words::{Cell, Signed, Unsigned, Word, put_word, row_at, word_at};
 use amd_workspace::filling::words;
+use amd_workspace::lists::Lists;
 use num_traits::PrimInt;
 use std::alloc::{AllocError, Allocator};
 
@@ -65,14 +66,19 @@ pub fn amd_2_from<I: Index, S: Signed, P: Signed, U: Unsigned, A: Allocator + Co
     ensures refused { IfErr result (λ e. e ≡ Status.OutOfMemory) }
 {
     let threshold = dense_threshold(len.len(), control);
-    let mut lists = fresh_lists(alloc, len.len())?;
+    let size = len.len();
+    let mut degree = Vec::with_capacity(alloc, size)?;
+    let mut lists = Lists::with_room(alloc, size)?;
+    let mut p = room_for(alloc, size)?;
+    let mut p_inv = room_for(alloc, size)?;
+    fill_lists(size, &mut degree, &mut lists);
     let told = run(
         iw,
         pe,
         len,
         &mut lists.e_len,
         &mut lists.nv,
-        &mut lists.degree,
+        &mut degree,
         &mut lists.w,
         &mut lists.head,
         &mut lists.sides,
@@ -83,8 +89,8 @@ pub fn amd_2_from<I: Index, S: Signed, P: Signed, U: Unsigned, A: Allocator + Co
         hold,
         threshold,
     );
-    finish(&told, pe, &mut lists, info);
-    Ok((lists.nv, lists.p_inv, lists.p, lists.e_len))
+    finish(&told, pe, &mut degree, &mut lists, &mut p, &mut p_inv, info);
+    Ok((lists.nv, p_inv, p, lists.e_len))
 }
 
 /// Room for `count` numbers of 64 bits.

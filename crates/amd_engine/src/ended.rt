@@ -1,11 +1,11 @@
 // The end of an elimination: what its rounds left is made into links and numbers of rows, and listed. It is handed no
-// allocator, and so can ask for no memory. Source: Amestoy, Davis and Duff 2004. Called by `amd_1` and `amd_2`.
+// allocator, and so can ask for no memory. Source: Amestoy, Davis and Duff 2004.
 
 ghost use Rattle.std.specs.Prelude.{◌≡◌, ◌<◌, ◌≤◌, ◌+◌, ℕ, pos, map, length};
 ghost use Rattle.amd_words.specs.Words.{num};
+ghost use Rattle.amd_workspace.specs.Lists.{HasRows};
 ghost use Rattle.amd_engine.specs.InPlace.{AreListed, AreOver, told_info};
 
-use crate::fresh::Lists;
 use crate::running::Told;
 use amd_listing::listing::listing;
 use amd_types::amd::Info;
@@ -13,6 +13,7 @@ use amd_types::index::Index;
 use amd_types::internal::from_count;
 use amd_words::{Cell, Signed, Unsigned, Word, cell_at};
 use amd_workspace::ending::end_rows;
+use amd_workspace::lists::Lists;
 use std::alloc::Allocator;
 
 /// Writes figures as numbers of the caller's type.
@@ -73,36 +74,40 @@ fn tell(told: &Told, info: &mut Info)
     told.figures.write_figures(info);
 }
 
-/// Tells a run, lists the rows that it left, and writes the permutation and its inverse into `lists`.
+/// Tells a run, lists the rows that it left, and writes the permutation and its inverse into `p` and `p_inv`.
 ///
-/// `pe` and `lists` hold what `run` left of `n` rows. The caller's type has each number below `n`, and each width holds
-/// `n + 2`. What `nv`, `e_len` and `pe` hold afterwards is said by `list_rows`.
+/// `pe`, `degree` and `lists` hold what `run` left of `n` rows; `p` and `p_inv` have `n` places. The caller's type has
+/// each number below `n`, and each width holds `n + 2`. What `nv`, `e_len` and `pe` hold afterwards is said by
+/// `list_rows`.
 pub fn finish<I: Index, S: Signed, P: Signed, U: Unsigned, A: Allocator>(
     told: &Told,
     pe: &mut [Word<P>],
-    lists: &mut Lists<I, S, P, U, A>,
+    degree: &mut [Cell<U>],
+    lists: &mut Lists<S, P, U, A>,
+    p: &mut [I],
+    p_inv: &mut [I],
     info: &mut Info,
 )
-    requires over { AreOver (length pe.old) pe.old lists.old.e_len.items lists.old.nv.items lists.old.degree.items
+    requires over { AreOver (length pe.old) pe.old lists.old.e_len.items lists.old.nv.items degree.old
         lists.old.w.items lists.old.head.items lists.old.hash.items }
-    requires room { (length lists.old.p.items ≡ length pe.old) × (length lists.old.p_inv.items ≡ length pe.old) }
+    requires room { (length p.old ≡ length pe.old) × (length p_inv.old ≡ length pe.old) }
     requires narrow { (length pe.old + 2 ≤ S.MOST) × (S.MOST ≤ P.MOST) × (length pe.old + 2 ≤ U.MOST) }
     requires fits { (k : ℕ) → k < length pe.old → I.fits (pos k) }
-    ensures listed { AreListed (length pe.old) pe.old lists.old.e_len.items lists.old.degree.items
-        lists.new.e_len.items lists.new.nv.items (map I.value lists.new.p.items) (map I.value lists.new.p_inv.items)
-        pe.new }
+    ensures listed { AreListed (length pe.old) pe.old lists.old.e_len.items degree.old lists.new.e_len.items
+        lists.new.nv.items (map I.value p.new) (map I.value p_inv.new) pe.new }
     ensures tells { info.new ≡ told_info told.now.n_dense told.now.n_cmp_a told.now.figures info.old }
+    ensures room { (k : ℕ) → HasRows k lists.old → HasRows k lists.new }
 {
     tell(told, info);
     list_rows(
         pe,
         &mut lists.e_len,
         &mut lists.nv,
-        &mut lists.degree,
+        degree,
         &mut lists.w,
         &mut lists.head,
         &mut lists.hash,
-        &mut lists.p,
-        &mut lists.p_inv,
+        p,
+        p_inv,
     );
 }

@@ -149,6 +149,7 @@ fn advance<S: Signed, P: Signed, U: Unsigned>(
         (lasts sides.new) hash.new result) }
     ensures end { 0 < result.live → (length iw.old < room) × (length iw.old < result.free + result.live) }
     ensures fewer { 0 < numbers.live → numbers.free + numbers.live ≤ length iw.old → result.live < numbers.live }
+    ensures unpacked { length iw.old < room → result.n_cmp_a ≡ numbers.n_cmp_a }
     ensures long { (length iw.new ≡ length iw.old) × (length nv.new ≡ length nv.old) }
 {
     let mut work = Work {
@@ -294,6 +295,7 @@ pub fn run_growing<S: Signed, P: Signed, U: Unsigned, A: Allocator>(
     ensures runs { RunsInPlace (option_copied hold.entry) threshold control.now.aggressive iw.old.items pe.old len.old
         result.n_dense result.figures pe.new e_len.new nv.new degree.new }
     ensures packs { result.n_cmp_a ≤ length len.old }
+    ensures capacity { vec_capacity iw.old ≤ vec_capacity iw.new }
     ensures over { AreOver (length len.old) pe.new e_len.new nv.new degree.new w.new head.new hash.new }
 {
     let mut numbers = start(

@@ -146,8 +146,8 @@ total_is g degrees h = ap (λ n. sum_below n (num degrees)) h.size ∙ start_sum
 pub words_next : (pe : List ℤ) (next : List ℕ) (total : ℕ) → pe ≡ map pos next → pe ++ pos total ∷ [] ≡ map pos (next ++ total ∷ [])
 words_next pe next total e = ap (λ xs. xs ++ pos total ∷ []) e ∙ sym (map-append pos next (total ∷ []))
 
-module _ (g : Graph) (degrees : List ℕ) (pe : List ℤ) (next len : List ℕ) (counts : AreCounts g g.edge degrees)
-    (s : Starts degrees pe next len) where
+module _ (g : Graph) (degrees : List ℕ) (pe : List ℤ) (next : List ℕ) (counts : AreCounts g g.edge degrees)
+    (s : Starts degrees pe next) where
   pub first_at : (i : ℕ) → i < g.size → get_or next i 0 ≡ start_of g i
   first_at i l = s.each i (let a = counts.size in omega (arith, a, l)) ∙ start_sums g degrees counts i (omega (arith, l))
 
@@ -163,43 +163,43 @@ module _ (g : Graph) (degrees : List ℕ) (pe : List ℤ) (next len : List ℕ) 
   unfolding is_place
   start_place i l = ap is_place (start_word i l)
 
-  pub count_at : (i : ℕ) → i < g.size → num len i ≡ count_below g.size (g.edge i)
-  count_at i l = ap (λ xs. num xs i) s.counts ∙ counts.each i l
+  pub count_at : (i : ℕ) → i < g.size → num degrees i ≡ count_below g.size (g.edge i)
+  count_at i l = counts.each i l
 
-  long : length len ≡ g.size
-  long = ap length s.counts ∙ counts.size
+  long : length degrees ≡ g.size
+  long = counts.size
 
-  in_rows : (j : ℕ) → has_list pe len j ≡ true → j < g.size
-  in_rows j h = elim (cases_lt j (length len)) [
+  in_rows : (j : ℕ) → has_list pe degrees j ≡ true → j < g.size
+  in_rows j h = elim (cases_lt j (length degrees)) [
     | inl l ↦ (let a = long in omega (arith, a, l))
-    | inr l ↦ (let a = (has_parts pe len j h).1 in let b = get_or_past len j 0 l in absurd (omega (arith, a, b)))
+    | inr l ↦ (let a = (has_parts pe degrees j h).1 in let b = get_or_past degrees j 0 l in absurd (omega (arith, a, b)))
   ]
 
-  words_sum : (n : ℕ) → n ≤ g.size → live_words n pe len ≡ start_of g n
+  words_sum : (n : ℕ) → n ≤ g.size → live_words n pe degrees ≡ start_of g n
   unfolding sum_below start_of
   words_sum zero l = refl
   words_sum (suc n) l =
       let a = words_sum n (omega (arith, l)) in let m = count_at n (omega (arith, l)) in
-      let own : cond (has_list pe len n) (num len n) 0 ≡ num len n = elim (cases_Bool (has_list pe len n)) [
-        | inl h ↦ ap (λ b. cond b (num len n) 0) h
-        | inr h ↦ ap (λ b. cond b (num len n) 0) h ∙ sym (has_none pe len n (start_place n (omega (arith, l))) h)
+      let own : cond (has_list pe degrees n) (num degrees n) 0 ≡ num degrees n = elim (cases_Bool (has_list pe degrees n)) [
+        | inl h ↦ ap (λ b. cond b (num degrees n) 0) h
+        | inr h ↦ ap (λ b. cond b (num degrees n) 0) h ∙ sym (has_none pe degrees n (start_place n (omega (arith, l))) h)
       ] in
       omega (arith, a, m, own)
 
   -- a list that was written at the start of a row, and is as long as its degree says
-  pub list_at : (iw : List ℤ) (xs : List ℕ) (i : ℕ) → i < g.size → rows iw (start_of g i) (num degrees i) ≡ xs → list_in iw pe len i ≡ xs
-  list_at iw xs i l e = rows_at iw (start_at i l) (ap (λ ys. num ys i) s.counts) ∙ e
+  pub list_at : (iw : List ℤ) (xs : List ℕ) (i : ℕ) → i < g.size → rows iw (start_of g i) (num degrees i) ≡ xs → list_in iw pe degrees i ≡ xs
+  list_at iw xs i l e = rows_at iw (start_at i l) refl ∙ e
 
   module _ (iw : List ℤ) (names : HoldRows g.size iw) (room : start_of g g.size ≤ length iw) where
-    within : (j : ℕ) → has_list pe len j ≡ true → end_of pe len j ≤ start_of g g.size
+    within : (j : ℕ) → has_list pe degrees j ≡ true → end_of pe degrees j ≤ start_of g g.size
     within j k = let l = in_rows j k in let a = start_at j l in let c = count_at j l in let b = start_later g j g.size l in
         omega (arith, a, b, c)
 
-    before : (i j : ℕ) → i < j → j < g.size → end_of pe len i ≤ start pe j
+    before : (i j : ℕ) → i < j → j < g.size → end_of pe degrees i ≤ start pe j
     before i j l m = let x = start_at i (omega (arith, l, m)) in let y = start_at j m in let c = count_at i (omega (arith, l, m)) in
         let b = start_later g i j l in omega (arith, x, y, b, c)
 
-    pub laid_out : IsLaidOut g.size iw pe len (start_of g g.size)
+    pub laid_out : IsLaidOut g.size iw pe degrees (start_of g g.size)
     unfolding place
     laid_out = record {
       starts_long = ap length s.words ∙ length-map next pos ∙ s.long ∙ counts.size;

@@ -1,5 +1,5 @@
 -- The words of the lists of a pattern without an entry above the diagonal.
-use Rattle.std.proofs.Common.{◌≡◌, ◌≢◌, ◌<◌, ◌≤◌, ◌+◌, ◌-◌, inl, inr, ℕ, ℤ, zero, suc, Bool, true, false, List, [], ◌∷◌, ◌++◌, pos}
+use Rattle.std.proofs.Common.{◌≡◌, ◌≢◌, ◌<◌, ◌≤◌, ◌+◌, inl, inr, ℕ, ℤ, zero, suc, Bool, true, false, List, [], ◌∷◌, ◌++◌, pos}
 use Rattle.std.proofs.Common.{arith, refl, ap, sym, ◌∙◌, subst, cond, ltb, ◌&&◌, length, get_or, set}
 use Rattle.std.proofs.Common.{get_or-set_same, get_or-set_other, negsuc, unsigned_abs}
 use Rattle.std.proofs.lemmas.Bool.{and_parts, and_from, cases_Bool, cases_eq, cases_lt, lt-ltb, ltb-true, eq-eqb, ne_eqb}

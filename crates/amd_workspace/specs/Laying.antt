@@ -14,12 +14,11 @@ pub record Lays (g : Graph) (seen : ℕ → ℕ → Bool) (arcs : List (ℕ × �
   pub rows : g.size ≤ most_word
   pub places : length iw ≤ most_cell
 
--- where the list of each row starts, as a word and as a figure, and its length
-pub record Starts (degrees : List ℕ) (pe : List ℤ) (next len : List ℕ) : Type 0 where
+-- where the list of each row starts, as a word and as a figure
+pub record Starts (degrees : List ℕ) (pe : List ℤ) (next : List ℕ) : Type 0 where
   pub long : length next ≡ length degrees
   pub each : (i : ℕ) → i < length degrees → num next i ≡ sum_below i (num degrees)
   pub words : pe ≡ map pos next
-  pub counts : len ≡ degrees
 
 -- each of n rows has a list of words, no element stands yet, and the lists fill the workspace up to its free end
 pub record IsLaidOut (n : ℕ) (iw pe : List ℤ) (len : List ℕ) (free : ℕ) : Type 0 where

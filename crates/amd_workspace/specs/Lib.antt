@@ -1,4 +1,5 @@
 -- What the filling and the laying of a workspace promise, the start of an elimination in it, and its end.
+pub mod Lists
 pub mod Copying
 pub mod Lower
 pub mod Bands

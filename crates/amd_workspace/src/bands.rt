@@ -14,7 +14,7 @@ use crate::laying::append;
 use crate::lower::{own_first, push_rows, push_until};
 use amd_types::index::Index;
 use amd_types::internal::count_at;
-use amd_words::{Cell, Signed, Unsigned, Word, row_at};
+use amd_words::{Cell, Signed, Unsigned, Word, cell_at, cell_of, put_cell, row_at};
 use std::alloc::Allocator;
 
 /// In so many bands of rows the lists of a large matrix are written whose rows stand in any order.
@@ -60,8 +60,8 @@ fn spread_until<S: Signed, U: Unsigned>(
 fn spread_band<S: Signed, U: Unsigned>(
     next: &mut [Cell<U>],
     iw: &mut [Word<S>],
-    heads: &mut [usize],
-    degrees: &[usize],
+    heads: &mut [Cell<U>],
+    degrees: &[Cell<U>],
     hi: usize,
 )
     requires laid { (m : Matrix) × (lo : ℕ) × IsReadyForBand m lo hi degrees.now S.MOST U.MOST next.old iw.old
@@ -72,8 +72,10 @@ fn spread_band<S: Signed, U: Unsigned>(
 {
     let mut end = 0;
     'columns: for j in 0..hi {
-        end += degrees[j];
-        heads[j] = spread_until(next, iw, j, heads[j], end, hi);
+        end += cell_at(degrees, j);
+        let place = cell_at(heads, j);
+        let left = spread_until(next, iw, j, place, end, hi);
+        put_cell(heads, j, left);
     }
 }
 
@@ -83,8 +85,8 @@ fn spread_band<S: Signed, U: Unsigned>(
 fn spread_bands<S: Signed, U: Unsigned>(
     next: &mut [Cell<U>],
     iw: &mut [Word<S>],
-    heads: &mut [usize],
-    degrees: &[usize],
+    heads: &mut [Cell<U>],
+    degrees: &[Cell<U>],
 )
     requires laid { (m : Matrix) × HasColumns m degrees.now S.MOST U.MOST next.old iw.old ×
         HasHeads m (λ j. 0) heads.old }
@@ -104,26 +106,27 @@ fn spread_bands<S: Signed, U: Unsigned>(
 }
 
 /// Appends, for each of `size` columns, where its rows below the diagonal stand in the lists of `push_until`.
-fn push_heads<I: Index, A: Allocator>(
+fn push_heads<I: Index, U: Unsigned, A: Allocator>(
     size: usize,
     a_p: &[I],
     a_i: &[I],
-    degrees: &[usize],
-    heads: &mut Vec<usize, A>,
+    degrees: &[Cell<U>],
+    heads: &mut Vec<Cell<U>, A>,
 )
     requires input { IsLowerForm size (map I.value a_p.now) (map I.value a_i.now) }
     requires degrees { AreNeighbourCounts size (map I.value a_p.now) (map I.value a_i.now) degrees.now }
-    requires total { own_start size (map I.value a_p.now) (map I.value a_i.now) size < 2 ^ 64 }
+    requires total { own_start size (map I.value a_p.now) (map I.value a_i.now) size ≤ U.MOST }
     requires empty { length heads.old.items ≡ 0 }
     requires room { size ≤ vec_capacity heads.old }
-    ensures { HasHeads (record { n = size; ap = map I.value a_p.now; ai = map I.value a_i.now }) (λ j. 0)
+    ensures capacity { vec_capacity heads.new ≡ vec_capacity heads.old }
+    ensures heads { HasHeads (record { n = size; ap = map I.value a_p.now; ai = map I.value a_i.now }) (λ j. 0)
         heads.new.items }
 {
     let mut end = 0;
     'columns: for j in 0..size {
-        end += degrees[j];
+        end += cell_at(degrees, j);
         let own = count_at(a_p, j + 1) - own_first(size, a_p, a_i, j);
-        heads.push_reserved(end - own);
+        heads.push_reserved(cell_of(end - own));
     }
 }
 
@@ -163,10 +166,10 @@ pub fn lay_bands<I: Index, S: Signed, U: Unsigned, A: Allocator>(
     size: usize,
     a_p: &[I],
     a_i: &[I],
-    degrees: &[usize],
+    degrees: &[Cell<U>],
     next: &mut [Cell<U>],
     iw: &mut Vec<Word<S>, A>,
-    heads: &mut Vec<usize, A>,
+    heads: &mut Vec<Cell<U>, A>,
 )
     requires input { IsLowerForm size (map I.value a_p.now) (map I.value a_i.now) }
     requires some { 0 < size }
@@ -181,6 +184,7 @@ pub fn lay_bands<I: Index, S: Signed, U: Unsigned, A: Allocator>(
         num next.old i ≡ own_start size (map I.value a_p.now) (map I.value a_i.now) i }
     ensures long { length iw.new.items ≡ own_start size (map I.value a_p.now) (map I.value a_i.now) size + size }
     ensures capacity { vec_capacity iw.old ≤ vec_capacity iw.new }
+    ensures heads { vec_capacity heads.old ≤ vec_capacity heads.new }
     ensures lists { HoldsLists size (map I.value a_p.now) (map I.value a_i.now) degrees.now iw.new.items }
 {
     push_until(size, a_p, a_i, degrees, 0, size, iw);

@@ -17,7 +17,7 @@ ghost use Rattle.amd_workspace.specs.Copying.{is_other, HoldRows};
 use crate::lower::push_column;
 use amd_types::index::Index;
 use amd_types::internal::count_at;
-use amd_words::{Signed, Word, word_of};
+use amd_words::{Cell, Signed, Unsigned, Word, cell_at, word_of};
 use std::alloc::Allocator;
 
 /// Appends the rows of column `i`, one of `size`, that are before `i`. Returns the place in `a_i` of the first row of
@@ -83,11 +83,11 @@ fn push_others<I: Index, S: Signed, A: Allocator>(
 
 /// Appends the columns of a symmetric pattern of `size` rows to an empty list of words, each without its diagonal
 /// entry, and says whether the pattern is symmetric. If it is not, the words name some rows.
-pub fn copy_symmetric<I: Index, S: Signed, A: Allocator>(
+pub fn copy_symmetric<I: Index, S: Signed, U: Unsigned, A: Allocator>(
     size: usize,
     a_p: &[I],
     a_i: &[I],
-    degrees: &[usize],
+    degrees: &[Cell<U>],
     iw: &mut Vec<Word<S>, A>,
 ) -> bool
     requires form { IsColumnForm (pos size) size (map I.value a_p.now) (map I.value a_i.now) }
@@ -112,7 +112,7 @@ pub fn copy_symmetric<I: Index, S: Signed, A: Allocator>(
     'columns: for i in 0..size {
         push_others(size, i, a_p, a_i, iw);
         let end = iw.len();
-        if end - free != degrees[i] {
+        if end - free != cell_at(degrees, i) {
             return false;
         }
         free = end;

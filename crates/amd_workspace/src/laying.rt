@@ -2,35 +2,28 @@
 // the order in which the walk over the edges meets those of its row. Source: Amestoy, Davis and Duff 2004 (the forming
 // of A + A'). `lay` is called by `amd_1` of the crate `amd_engine`, `append` by `lower` and `bands` too.
 
-ghost use Rattle.std.specs.Prelude.{◌≡◌, ◌<◌, ◌≤◌, ◌+◌, ℕ, pos, map, length, slice_set, IfOk};
+ghost use Rattle.std.specs.Prelude.{◌≡◌, ◌<◌, ◌≤◌, ◌+◌, ◌∷◌, [], ℕ, pos, map, length, slice_index, slice_set};
 ghost use Rattle.std.specs.Vec.{vec_capacity};
 ghost use Rattle.amd_model.specs.Input.Columns.{IsColumnForm, IsSorted};
-ghost use Rattle.amd_model.specs.Input.Pattern.{graph_of, is_pair};
+ghost use Rattle.amd_model.specs.Input.Pattern.{is_pair};
+ghost use Rattle.amd_types.specs.Counts.{counts};
 ghost use Rattle.amd_model.specs.Below.{sum_below};
 ghost use Rattle.amd_model.specs.Quotient.{starting_list};
-ghost use Rattle.amd_edges.specs.Visits.{AreCounts, start_of};
 ghost use Rattle.amd_lists.specs.Layout.{list_in};
-ghost use Rattle.amd_words.specs.Words.{num, rows};
-ghost use Rattle.amd_workspace.specs.Copying.{HoldRows};
+ghost use Rattle.amd_words.specs.Words.{num};
 ghost use Rattle.amd_workspace.specs.Laying.{IsLaidOut, Lays, Starts};
-ghost use Rattle.amd_workspace.specs.Lower.{own_start};
+ghost use Rattle.amd_workspace.specs.Lists.{HasRoom, KeepsWords};
+ghost use Rattle.amd_workspace.specs.Lower.{AreNeighbourCounts, HoldsLists, own_start};
 
 use crate::copying::copy_symmetric;
+use crate::lists::{Memory, Words};
 use crate::lower::{has_long_lower, lower_lists, push_rows};
 use amd_edges::walk::{Visitor, walk};
 use amd_types::index::Index;
 use amd_words::words::put_row;
 use amd_words::{Cell, Signed, Unsigned, Word, cell_at, cell_of, put_cell, word_of};
-use std::alloc::{AllocError, Allocator};
-
-/// The words of the lists, and where the next word of each list goes.
-#[derive(Drop)]
-struct Words<S: Signed, U: Unsigned, A: Allocator> {
-    /// The place behind the last word of the list of each row.
-    next: Vec<Cell<U>, A>,
-    /// The words.
-    iw: Vec<Word<S>, A>,
-}
+use std::alloc::Allocator;
+use std::mem::replace;
 
 /// Writes a word behind the list of row `i`.
 pub fn append<S: Signed, U: Unsigned>(next: &mut [Cell<U>], iw: &mut [Word<S>], i: usize, j: usize)
@@ -51,7 +44,7 @@ impl<S: Signed, U: Unsigned, A: Allocator> Visitor for Words<S, U, A> {
     ghost runs = { λ g seen arcs j mark l. Lays g seen arcs S.MOST U.MOST (slice_set l.next.items j mark) l.iw.items ×
         (mark ≤ U.MOST) };
 
-    ghost room = { λ l. length l.iw.items };
+    ghost room = { λ l. length l.iw.items ∷ vec_capacity l.next ∷ vec_capacity l.iw ∷ [] };
 
     fn arc(&mut self, i: usize, j: usize) {
         append(&mut self.next, &mut self.iw, i, j);
@@ -72,148 +65,144 @@ impl<S: Signed, U: Unsigned, A: Allocator> Visitor for Words<S, U, A> {
     }
 }
 
-/// A workspace with a list for each row.
-#[derive(Drop)]
-pub struct Laid<S: Signed, P: Signed, U: Unsigned, A: Allocator> {
-    /// Where the list of each row starts.
-    pub pe: Vec<Word<P>, A>,
-    /// The number of its words.
-    pub len: Vec<Cell<U>, A>,
-    /// The words of all lists.
-    pub iw: Vec<Word<S>, A>,
-    /// No list has a word from here on.
-    pub free: usize,
-}
-
-/// Writes where the list of each row starts, once for the record and once for the walk, and its length. Answers where
-/// the last one ends.
-fn starts<P: Signed, U: Unsigned, A: Allocator>(
+/// Writes where the list of each row starts, once for the record and once for the walk. Answers where the last one
+/// ends.
+fn starts<P: Signed, U: Unsigned, A: Allocator + Copy>(
     pe: &mut Vec<Word<P>, A>,
     next: &mut Vec<Cell<U>, A>,
-    len: &mut Vec<Cell<U>, A>,
-    degrees: &[usize],
+    degrees: &[Cell<U>],
 ) -> usize
-    requires empty { (length pe.old.items ≡ 0) × (length next.old.items ≡ 0) × (length len.old.items ≡ 0) }
-    requires room { (length degrees.now ≤ vec_capacity pe.old) × (length degrees.now ≤ vec_capacity next.old) ×
-        (length degrees.now ≤ vec_capacity len.old) }
+    requires empty { (length pe.old.items ≡ 0) × (length next.old.items ≡ 0) }
+    requires room { (length degrees.now ≤ vec_capacity pe.old) × (length degrees.now ≤ vec_capacity next.old) }
     requires fits { (sum_below (length degrees.now) (num degrees.now) ≤ P.MOST) ×
         (sum_below (length degrees.now) (num degrees.now) ≤ U.MOST) }
     ensures total { result ≡ sum_below (length degrees.now) (num degrees.now) }
-    ensures starts { Starts degrees.now pe.new.items next.new.items len.new.items }
+    ensures starts { Starts degrees.now pe.new.items next.new.items }
+    ensures capacity { (vec_capacity pe.new ≡ vec_capacity pe.old) × (vec_capacity next.new ≡ vec_capacity next.old) }
 {
+    // Both are taken out of their places while they are filled, as in `filling`.
+    let alloc = *pe.allocator();
+    let mut places = replace(pe, Vec::new(alloc));
+    let mut ends = replace(next, Vec::new(alloc));
     let mut total = 0;
-    'rows: for &degree in degrees {
-        pe.push_reserved(word_of(total as isize));
-        next.push_reserved(cell_of(total));
-        len.push_reserved(cell_of(degree));
-        total += degree;
+    'rows: for row in 0..degrees.len() {
+        places.push_reserved(word_of(total as isize));
+        ends.push_reserved(cell_of(total));
+        total += cell_at(degrees, row);
     }
+    *pe = places;
+    *next = ends;
     total
 }
 
-/// Lays the lists of a pattern of `size` rows, one of any kind, in a workspace that has room for `room` words. Those of
-/// a symmetric pattern are copied from its columns; those of any other one are written by a walk over the edges. Each
-/// number of `next` is where the list of its row starts, and `pointers` has room for a pointer of each column. The
-/// words behind the lists name rows: `size` of them behind those that were copied, and all that there is room for
-/// behind those of a walk.
-///
-/// # Errors
-///
-/// A refused request for memory.
-fn general_lists<I: Index, S: Signed, U: Unsigned, A: Allocator>(
-    alloc: A,
+/// Lays the lists of a pattern of `size` rows, one of any kind, where the words are empty and have room for `room` of
+/// them. Those of a symmetric pattern are copied from its columns; those of any other one are written by a walk over
+/// the edges. Each number of `next` is where the list of its row starts, and `pointers` is empty and has room for a
+/// pointer of each column. The words behind the lists name rows: `size` of them behind those that were copied, and all
+/// that there is room for behind those of a walk.
+fn general_lists<I: Index, S: Signed, U: Unsigned, A: Allocator + Copy>(
     size: usize,
     a_p: &[I],
     a_i: &[I],
-    degrees: &[usize],
+    degrees: &[Cell<U>],
     room: usize,
-    next: Vec<Cell<U>, A>,
-    pointers: &mut Vec<usize, A>,
-) -> Result<Vec<Word<S>, A>, AllocError>
+    words: &mut Words<S, U, A>,
+    pointers: &mut Vec<Cell<U>, A>,
+)
     requires form { IsColumnForm (pos size) size (map I.value a_p.now) (map I.value a_i.now) }
     requires sorted { IsSorted size (map I.value a_p.now) (map I.value a_i.now) }
     requires some { 0 < size }
-    requires degrees { AreCounts (graph_of size (map I.value a_p.now) (map I.value a_i.now))
-        ((graph_of size (map I.value a_p.now) (map I.value a_i.now)).edge) degrees.now }
+    requires degrees { AreNeighbourCounts size (map I.value a_p.now) (map I.value a_i.now) degrees.now }
     requires room { own_start size (map I.value a_p.now) (map I.value a_i.now) size + size ≤ room }
-    requires fits { (size ≤ S.MOST) × (room ≤ U.MOST) }
-    requires long { length next.items ≡ size }
-    requires starts { (i : ℕ) → i < size →
-        num next.items i ≡ own_start size (map I.value a_p.now) (map I.value a_i.now) i }
-    requires empty { length pointers.old.items ≡ 0 }
+    requires fits { (size ≤ S.MOST) × (room ≤ U.MOST) ×
+        (slice_index (counts (map I.value a_p.now)) size ≤ U.MOST) }
+    requires capacity { room ≤ vec_capacity words.old.iw }
+    requires empty { (length words.old.iw.items ≡ 0) × (length pointers.old.items ≡ 0) }
     requires wide { size ≤ vec_capacity pointers.old }
-    ensures long { IfOk result (λ v. (own_start size (map I.value a_p.now) (map I.value a_i.now) size + size ≤
-        length v.items) × (length v.items ≤ room)) }
-    ensures capacity { IfOk result (λ v. room ≤ vec_capacity v) }
-    ensures words { IfOk result (λ v. HoldRows size v.items) }
-    ensures lists { IfOk result (λ v. (i : ℕ) → i < size →
-        rows v.items (own_start size (map I.value a_p.now) (map I.value a_i.now) i) (num degrees.now i) ≡
-        starting_list size (is_pair size (map I.value a_p.now) (map I.value a_i.now)) i) }
+    requires long { length words.old.next.items ≡ size }
+    requires starts { (i : ℕ) → i < size →
+        num words.old.next.items i ≡ own_start size (map I.value a_p.now) (map I.value a_i.now) i }
+    ensures long { (own_start size (map I.value a_p.now) (map I.value a_i.now) size + size ≤
+        length words.new.iw.items) × (length words.new.iw.items ≤ room) }
+    ensures capacity { KeepsWords words.old words.new }
+    ensures pointers { vec_capacity pointers.old ≤ vec_capacity pointers.new }
+    ensures lists { HoldsLists size (map I.value a_p.now) (map I.value a_i.now) degrees.now words.new.iw.items }
 {
-    let mut iw = Vec::with_capacity(alloc, room)?;
-    let copied = copy_symmetric(size, a_p, a_i, degrees, &mut iw);
+    // The words are taken out of their place while they are written, as in `filling`.
+    let alloc = *words.iw.allocator();
+    let none = Words {
+        next: Vec::new(alloc),
+        iw: Vec::new(alloc),
+    };
+    let mut own = replace(words, none);
+    let copied = copy_symmetric(size, a_p, a_i, degrees, &mut own.iw);
     // Each word names a row. It is not 0: a loop of stores is faster here than the `memset` that zeros would become.
     if copied {
-        push_rows(&mut iw, size - 1, size);
-        return Ok(iw);
+        push_rows(&mut own.iw, size - 1, size);
+        *words = own;
+        return;
     }
-    let rest = room - iw.len();
-    push_rows(&mut iw, size - 1, rest);
-    let mut list = Words { next, iw };
-    let _ = walk(size, a_p, a_i, pointers, &mut list);
-    Ok(list.iw)
+    let rest = room - own.iw.len();
+    push_rows(&mut own.iw, size - 1, rest);
+    let _ = walk(size, a_p, a_i, pointers, &mut own);
+    *words = own;
 }
 
-/// Lays the lists of the neighbours of each of `size` rows, whose degrees are known, in a workspace that has room for
-/// `room` words. Long ones of a pattern that has no entry above the diagonal are written row by row (`lower_lists`),
-/// all others by `general_lists`. Behind the lists stand `size` words or more that name rows; the rest of the room is
-/// not written.
-///
-/// # Errors
-///
-/// A refused request for memory.
+/// Lays the lists of the neighbours of each of `size` rows, whose degrees stand in `len`, in `room` words at most.
+/// Answers where the last one ends. Long ones of a pattern that has no entry above the diagonal are written row by row
+/// (`lower_lists`), all others by `general_lists`. Behind the lists stand `size` words or more that name rows; the rest
+/// of the room is not written. What the memory held before, but for the degrees, is not read; it has room for `size`
+/// rows and `room` words.
 pub fn lay<I: Index, S: Signed, P: Signed, U: Unsigned, A: Allocator + Copy>(
-    alloc: A,
     size: usize,
     a_p: &[I],
     a_i: &[I],
-    degrees: &[usize],
     room: usize,
-) -> Result<Laid<S, P, U, A>, AllocError>
+    memory: &mut Memory<S, P, U, A>,
+) -> usize
     requires form { IsColumnForm (pos size) size (map I.value a_p.now) (map I.value a_i.now) }
     requires sorted { IsSorted size (map I.value a_p.now) (map I.value a_i.now) }
     requires some { 0 < size }
-    requires degrees { AreCounts (graph_of size (map I.value a_p.now) (map I.value a_i.now))
-        ((graph_of size (map I.value a_p.now) (map I.value a_i.now)).edge) degrees.now }
-    requires room { start_of (graph_of size (map I.value a_p.now) (map I.value a_i.now)) size + size ≤ room }
-    requires fits { (size ≤ S.MOST) × (room ≤ P.MOST) × (room ≤ U.MOST) }
-    ensures laid { IfOk result (λ l. IsLaidOut size l.iw.items l.pe.items l.len.items l.free) }
-    ensures long { IfOk result (λ l. (l.free + size ≤ length l.iw.items) × (length l.iw.items ≤ room) ×
-        (l.free ≡ start_of (graph_of size (map I.value a_p.now) (map I.value a_i.now)) size)) }
-    ensures capacity { IfOk result (λ l. room ≤ vec_capacity l.iw) }
-    ensures degrees { IfOk result (λ l. l.len.items ≡ degrees.now) }
-    ensures lists { IfOk result (λ l. (i : ℕ) → i < size →
-        list_in l.iw.items l.pe.items l.len.items i ≡ starting_list size
-        (is_pair size (map I.value a_p.now) (map I.value a_i.now)) i) }
+    requires degrees { AreNeighbourCounts size (map I.value a_p.now) (map I.value a_i.now) memory.old.len.items }
+    requires words { own_start size (map I.value a_p.now) (map I.value a_i.now) size + size ≤ room }
+    requires fits { (size ≤ S.MOST) × (room ≤ P.MOST) × (room ≤ U.MOST) ×
+        (slice_index (counts (map I.value a_p.now)) size ≤ U.MOST) }
+    requires room { HasRoom size room memory.old }
+    ensures laid { IsLaidOut size memory.new.words.iw.items memory.new.pe.items memory.new.len.items result }
+    ensures long { (result + size ≤ length memory.new.words.iw.items) × (length memory.new.words.iw.items ≤ room) }
+    ensures free { result ≡ own_start size (map I.value a_p.now) (map I.value a_i.now) size }
+    ensures degrees { memory.new.len.items ≡ memory.old.len.items }
+    ensures lists { (i : ℕ) → i < size →
+        list_in memory.new.words.iw.items memory.new.pe.items memory.new.len.items i ≡ starting_list size
+        (is_pair size (map I.value a_p.now) (map I.value a_i.now)) i }
+    ensures room { (n words : ℕ) → HasRoom n words memory.old → HasRoom n words memory.new }
 {
-    let mut pe = Vec::with_capacity(alloc, size)?;
-    let mut len = Vec::with_capacity(alloc, size)?;
-    let mut next = Vec::with_capacity(alloc, size)?;
-    let free = starts(&mut pe, &mut next, &mut len, degrees);
-    let mut pointers = Vec::with_capacity(alloc, size)?;
-    let iw = if has_long_lower(size, a_p, a_i, free) {
+    memory.pe.clear();
+    memory.words.next.clear();
+    memory.words.iw.clear();
+    memory.lists.w.clear();
+    let free = starts(&mut memory.pe, &mut memory.words.next, &memory.len);
+    let pointers = &mut memory.lists.w;
+    if has_long_lower(size, a_p, a_i, free) {
         lower_lists(
-            alloc,
             size,
             a_p,
             a_i,
-            degrees,
+            &memory.len,
             room,
-            &mut next,
-            &mut pointers,
-        )?
+            &mut memory.words,
+            pointers,
+        );
     } else {
-        general_lists(alloc, size, a_p, a_i, degrees, room, next, &mut pointers)?
-    };
-    Ok(Laid { pe, len, iw, free })
+        general_lists(
+            size,
+            a_p,
+            a_i,
+            &memory.len,
+            room,
+            &mut memory.words,
+            pointers,
+        );
+    }
+    free
 }

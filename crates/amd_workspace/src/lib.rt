@@ -7,5 +7,6 @@ pub mod copying;
 pub mod ending;
 pub mod filling;
 pub mod laying;
+pub mod lists;
 pub mod lower;
 pub mod starting;

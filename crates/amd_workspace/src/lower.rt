@@ -6,23 +6,24 @@
 // the crate `amd_engine`.
 
 ghost use Rattle.std.specs.Prelude.{◌≡◌, ◌<◌, ◌≤◌, ◌+◌, ◌-◌, ◌++◌, ◌/◌, ℕ, List, true, map, length, pos, replicate};
-ghost use Rattle.std.specs.Prelude.{slice_index, slice_range, IfOk};
+ghost use Rattle.std.specs.Prelude.{slice_index, slice_range};
 ghost use Rattle.std.specs.Vec.{vec_capacity};
 ghost use Rattle.amd_model.specs.Input.Columns.{IsColumnForm, IsSorted};
 ghost use Rattle.amd_model.specs.Input.Pattern.{is_pair};
 ghost use Rattle.amd_types.specs.Counts.{counts};
-ghost use Rattle.amd_model.specs.Quotient.{starting_list};
-ghost use Rattle.amd_words.specs.Words.{num, rows};
-ghost use Rattle.amd_workspace.specs.Copying.{HoldRows};
+ghost use Rattle.amd_words.specs.Words.{num};
 ghost use Rattle.amd_workspace.specs.Lower.{IsLower, IsLowerForm, AreNeighbourCounts, Matrix, HoldsLists, LaysRows};
+ghost use Rattle.amd_workspace.specs.Lists.{KeepsWords};
 ghost use Rattle.amd_workspace.specs.Lower.{own_start, own_of, earlier_below, SpreadsFirst, IsReadyForColumn};
 
 use crate::bands::{is_scattered, lay_bands};
 use crate::laying::append;
+use crate::lists::Words;
 use amd_types::index::Index;
 use amd_types::internal::count_at;
 use amd_words::{Cell, Signed, Unsigned, Word, cell_at, row_at, word_of};
-use std::alloc::{AllocError, Allocator};
+use std::alloc::Allocator;
+use std::mem::replace;
 
 /// Whether no row of column `j`, one of `size`, stands above the diagonal.
 fn is_low<I: Index>(size: usize, a_p: &[I], a_i: &[I], j: usize) -> bool
@@ -174,11 +175,11 @@ fn past_column<I: Index>(size: usize, a_p: &[I], a_i: &[I], j: usize) -> usize
 }
 
 /// Appends the lists of the rows from `laid` to `past`, as `push_list`.
-pub fn push_until<I: Index, S: Signed, A: Allocator>(
+pub fn push_until<I: Index, S: Signed, U: Unsigned, A: Allocator>(
     size: usize,
     a_p: &[I],
     a_i: &[I],
-    degrees: &[usize],
+    degrees: &[Cell<U>],
     laid: usize,
     past: usize,
     iw: &mut Vec<Word<S>, A>,
@@ -196,7 +197,7 @@ pub fn push_until<I: Index, S: Signed, A: Allocator>(
     ensures capacity { vec_capacity iw.old ≤ vec_capacity iw.new }
 {
     'rows: for row in laid..past {
-        push_list(size, a_p, a_i, row, degrees[row], iw);
+        push_list(size, a_p, a_i, row, cell_at(degrees, row), iw);
     }
 }
 
@@ -237,7 +238,7 @@ fn lay_rows<I: Index, S: Signed, U: Unsigned, A: Allocator>(
     size: usize,
     a_p: &[I],
     a_i: &[I],
-    degrees: &[usize],
+    degrees: &[Cell<U>],
     next: &mut [Cell<U>],
     iw: &mut Vec<Word<S>, A>,
 )
@@ -261,54 +262,51 @@ fn lay_rows<I: Index, S: Signed, U: Unsigned, A: Allocator>(
         let past = past_column(size, a_p, a_i, j).max(laid);
         push_until(size, a_p, a_i, degrees, laid, past, iw);
         laid = past;
-        end += degrees[j];
+        end += cell_at(degrees, j);
         spread_in(next, iw, j, end);
     }
     push_rows(iw, size - 1, size);
 }
 
-/// Lays the lists of a pattern of `size` rows that has no entry above the diagonal in a workspace that has room for
-/// `room` words. Each number of `next` is where the list of its row starts; what it is afterwards is not said.
-/// `pointers` has room for a number of each column. Behind the lists stand `size` words that name rows; the rest of the
-/// room is not written. Where there is room for many words and the rows stand in any order, the earlier neighbours are
-/// written band by band.
-///
-/// # Errors
-///
-/// A refused request for memory.
-pub fn lower_lists<I: Index, S: Signed, U: Unsigned, A: Allocator>(
-    alloc: A,
+/// Lays the lists of a pattern of `size` rows that has no entry above the diagonal, where the words are empty and have
+/// room for `room` of them. Each number of `next` is where the list of its row starts; what it is afterwards is not
+/// said. `heads` is empty and has room for a number of each column. Behind the lists stand `size` words that name rows;
+/// the rest of the room is not written. Where there is room for many words and the rows stand in any order, the earlier
+/// neighbours are written band by band.
+pub fn lower_lists<I: Index, S: Signed, U: Unsigned, A: Allocator + Copy>(
     size: usize,
     a_p: &[I],
     a_i: &[I],
-    degrees: &[usize],
+    degrees: &[Cell<U>],
     room: usize,
-    next: &mut [Cell<U>],
-    pointers: &mut Vec<usize, A>,
-) -> Result<Vec<Word<S>, A>, AllocError>
+    words: &mut Words<S, U, A>,
+    heads: &mut Vec<Cell<U>, A>,
+)
     requires input { IsLowerForm size (map I.value a_p.now) (map I.value a_i.now) }
     requires some { 0 < size }
     requires degrees { AreNeighbourCounts size (map I.value a_p.now) (map I.value a_i.now) degrees.now }
     requires room { own_start size (map I.value a_p.now) (map I.value a_i.now) size + size ≤ room }
     requires fits { (size ≤ S.MOST) × (room ≤ U.MOST) }
-    requires empty { length pointers.old.items ≡ 0 }
-    requires wide { size ≤ vec_capacity pointers.old }
-    requires long { length next.old ≡ size }
+    requires capacity { room ≤ vec_capacity words.old.iw }
+    requires empty { (length words.old.iw.items ≡ 0) × (length heads.old.items ≡ 0) }
+    requires wide { size ≤ vec_capacity heads.old }
+    requires long { length words.old.next.items ≡ size }
     requires starts { (i : ℕ) → i < size →
-        num next.old i ≡ own_start size (map I.value a_p.now) (map I.value a_i.now) i }
-    ensures long { IfOk result (λ v. length v.items ≡
-        own_start size (map I.value a_p.now) (map I.value a_i.now) size + size) }
-    ensures capacity { IfOk result (λ v. room ≤ vec_capacity v) }
-    ensures words { IfOk result (λ v. HoldRows size v.items) }
-    ensures lists { IfOk result (λ v. (i : ℕ) → i < size →
-        rows v.items (own_start size (map I.value a_p.now) (map I.value a_i.now) i) (num degrees.now i) ≡
-        starting_list size (is_pair size (map I.value a_p.now) (map I.value a_i.now)) i) }
+        num words.old.next.items i ≡ own_start size (map I.value a_p.now) (map I.value a_i.now) i }
+    ensures long { length words.new.iw.items ≡
+        own_start size (map I.value a_p.now) (map I.value a_i.now) size + size }
+    ensures capacity { KeepsWords words.old words.new }
+    ensures heads { vec_capacity heads.old ≤ vec_capacity heads.new }
+    ensures lists { HoldsLists size (map I.value a_p.now) (map I.value a_i.now) degrees.now words.new.iw.items }
 {
-    let mut iw = Vec::with_capacity(alloc, room)?;
+    // The words are taken out of their place while they are written, as in `filling`.
+    let alloc = *words.iw.allocator();
+    let mut iw = replace(&mut words.iw, Vec::new(alloc));
+    let next = &mut words.next;
     if is_scattered(size, a_p, a_i, room) {
-        lay_bands(size, a_p, a_i, degrees, next, &mut iw, pointers);
+        lay_bands(size, a_p, a_i, degrees, next, &mut iw, heads);
     } else {
         lay_rows(size, a_p, a_i, degrees, next, &mut iw);
     }
-    Ok(iw)
+    words.iw = iw;
 }

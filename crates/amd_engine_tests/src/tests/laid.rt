@@ -11,10 +11,12 @@ ghost use Rattle.amd_engine.specs.InPlace.{LaysGraph};
 use crate::tests::sorted::{Sorted, check_marks, degrees_of};
 use amd_engine::amd_1::holds;
 use amd_engine::amd_2::amd_2_from;
+use amd_engine::fresh::memory_for;
 use amd_types::amd::{Control, Info};
-use amd_types::internal::flip;
+use amd_types::internal::{count_at, flip};
 use amd_words::{Cell, Signed, Unsigned, Word, cell_at, word_at};
-use amd_workspace::laying::{Laid, lay};
+use amd_workspace::laying::lay;
+use amd_workspace::lists::Memory;
 use std::alloc::Global;
 use std::process::Abort;
 
@@ -125,17 +127,26 @@ fn are_figures<U: Unsigned>(figures: &[Cell<U>], wanted: &[usize]) -> bool {
     figures.len() == wanted.len()
 }
 
+/// Memory in which lists are laid.
+#[derive(Drop)]
+pub struct Laid<S: Signed, P: Signed, U: Unsigned> {
+    /// The memory.
+    pub memory: Memory<S, P, U, Global>,
+    /// No list has a word from here on.
+    pub free: usize,
+}
+
 /// Whether lists are laid as in a case, with so many words in use.
 fn is_laid<S: Signed, P: Signed, U: Unsigned>(
     case: &WorkspaceCase,
-    laid: &Laid<S, P, U, Global>,
+    laid: &Laid<S, P, U>,
     sum: usize,
 ) -> bool {
-    laid.iw.len() == case.written
-        && begin_with(&laid.iw, case.words)
+    laid.memory.words.iw.len() == case.written
+        && begin_with(&laid.memory.words.iw, case.words)
         && case.words.len() == sum
-        && are_words(&laid.pe, case.starts)
-        && are_figures(&laid.len, case.lengths)
+        && are_words(&laid.memory.pe, case.starts)
+        && are_figures(&laid.memory.len, case.lengths)
         && laid.free == sum
 }
 
@@ -149,21 +160,25 @@ pub fn laid_of<S: Signed, P: Signed, U: Unsigned>(
     a_i: &[i64],
     more: usize,
     info: &mut Info,
-) -> Laid<S, P, U, Global>
-    ensures size { (n ≡ pos (length result.len.items)) × (0 < length result.len.items) }
-    ensures laid { IsLaidOut (length result.len.items) result.iw.items result.pe.items result.len.items result.free }
+) -> Laid<S, P, U>
+    ensures size { (n ≡ pos (length result.memory.len.items)) × (0 < length result.memory.len.items) }
+    ensures laid { IsLaidOut (length result.memory.len.items) result.memory.words.iw.items result.memory.pe.items
+        result.memory.len.items result.free }
     ensures graph { (g : Graph) × (lists : ℕ → List ℕ) ×
-        LaysGraph g lists result.iw.items result.pe.items result.len.items }
-    ensures room { result.free + length result.len.items ≤ length result.iw.items }
-    ensures wide { AreWideEnough S.MOST P.MOST U.MOST (length result.len.items) (length result.iw.items) }
+        LaysGraph g lists result.memory.words.iw.items result.memory.pe.items result.memory.len.items }
+    ensures room { result.free + length result.memory.len.items ≤ length result.memory.words.iw.items }
+    ensures wide { AreWideEnough S.MOST P.MOST U.MOST (length result.memory.len.items)
+        (length result.memory.words.iw.items) }
 {
     let (degrees, room) = degrees_of(rt, alloc, n, a_p, a_i, more, info);
     let size = degrees.len();
     assert!(rt; holds::<S, P, U>(size, room, 2));
-    let Ok(laid) = lay(alloc, size, a_p, a_i, &degrees, room) else {
-        panic!(rt; "not laid");
+    assert!(rt; count_at(a_p, size) <= U::MOST);
+    let Ok(mut memory) = memory_for::<S, P, U, Global>(alloc, &degrees, room) else {
+        panic!(rt; "no memory");
     };
-    laid
+    let free = lay(size, a_p, a_i, room, &mut memory);
+    Laid { memory, free }
 }
 
 /// Orders by `amd_2_from` over lists that are laid in words of these widths, with no word to spare.
@@ -176,14 +191,14 @@ pub fn order_laid<S: Signed, P: Signed, U: Unsigned>(
 ) -> (Vec<Word<S>>, Vec<i64>, Vec<i64>, Vec<Word<P>>) {
     let (n, a_p, a_i) = (matrix.n, matrix.a_p, matrix.a_i);
     let mut laid = laid_of::<S, P, U>(rt, alloc, n, a_p, a_i, 0, info);
-    check_marks(rt, matrix.hold, laid.len.len());
+    check_marks(rt, matrix.hold, laid.memory.len.len());
     let Ok(answer) = amd_2_from(
         alloc,
         2,
         n,
-        &mut laid.pe,
-        &mut laid.iw,
-        &mut laid.len,
+        &mut laid.memory.pe,
+        &mut laid.memory.words.iw,
+        &mut laid.memory.len,
         laid.free,
         control,
         matrix.hold,

@@ -59,9 +59,9 @@ pub fn order_numbers(
 ) -> ListedRows {
     let n = matrix.n;
     let laid = laid_of::<isize, isize, usize>(rt, alloc, n, matrix.a_p, matrix.a_i, 0, info);
-    let mut pe = words_of(rt, alloc, &laid.pe);
-    let mut iw = words_of(rt, alloc, &laid.iw);
-    let mut len = cells_of(rt, alloc, &laid.len);
+    let mut pe = words_of(rt, alloc, &laid.memory.pe);
+    let mut iw = words_of(rt, alloc, &laid.memory.words.iw);
+    let mut len = cells_of(rt, alloc, &laid.memory.len);
     let room = iw.len();
     let Ok((blocks, p_inv, p, fronts)) = amd_2(
         alloc, n, &mut pe, &mut iw, &mut len, room, laid.free, control, info,

@@ -31,6 +31,7 @@ growths-init g c = let r = c.requires in let s = c.start-numbers.new in record {
     rounds_none,
   );
   room = (r.room.1, r.room.2);
+  capacity = omega arith;
 }
 
 -- the workspace of the loop stands for a state
@@ -67,6 +68,7 @@ growths-preserved g c =
         let a = c.grow.ensures.long in omega (arith, a, long),
         let a = i.room.1 in let b = c.grow.ensures.capacity in omega (arith, a, b),
       );
+      capacity = (let a = i.capacity in let b = c.grow.ensures.capacity in omega (arith, a, b));
     })
 
 pub returns-clause-runs : goal.returns-clause-runs
@@ -88,3 +90,6 @@ returns-clause-over g c =
     let w = c.requires.graph in
     are_over (option_copied a.hold) a.threshold a.control.now.aggressive a.iw.now.items a.pe.now a.len.now i.0 (now g to) i.1 i.2
     (none_live (now g to) (let e = c.growths-test.false in omega (arith, e))) w.0 w.1 w.2
+
+pub returns-clause-capacity : goal.returns-clause-capacity
+returns-clause-capacity g c = c.growths.invariant.capacity

@@ -14,6 +14,7 @@ invariant-growths g l = record {
       × AreRounds l.control.aggressive before (workspace_in l.iw.items l.pe l.e_len l.nv l.len l.degree l.w l.head (nexts l.sides)
       (lasts l.sides) l.hash l.numbers);
   room : (length l.iw.items ≤ l.room) × (l.room ≤ vec_capacity l.iw);
+  capacity : vec_capacity l.fn.iw ≤ vec_capacity l.iw;
 }
 
 abbrev pub decreases-growths : goal.decreases-growths

@@ -1,5 +1,5 @@
 -- the goals of bands::push_heads.
-use Rattle.std.proofs.Common.{◌≡◌, ◌+◌, ◌-◌, ◌∷◌, [], inl, inr, ℕ, ℤ, List, arith, refl, map, ap, ◌∙◌, length}
+use Rattle.std.proofs.Common.{◌++◌, ◌≡◌, ◌+◌, ◌-◌, ◌∷◌, [], inl, inr, ℕ, ℤ, List, arith, refl, map, ap, ◌∙◌, length}
 use Rattle.std.proofs.lemmas.Bool.{cases_lt}
 use Rattle.std.proofs.lemmas.List.{get_or_append_left, get_or_push, length-append}
 use Rattle.amd_model.specs.Below.{list_below, sum_below}
@@ -18,28 +18,25 @@ unfolding start_of sum_below
 columns-init g c = record {
   end = refl;
   long = c.requires.empty;
-  capacity = c.requires.room;
+  capacity = refl;
   each = λ i l. absurd (omega (arith, l));
 }
 
-pub bounds-degrees-j : goal.bounds-degrees-j
+pub cell_at-end-requires : goal.cell_at-end-requires
 unfolding graph_of
-bounds-degrees-j g c = let a = c.requires.degrees.size in let b = c.columns-test.true in omega (arith, a, b)
+cell_at-end-requires g c = let a = c.requires.degrees.size in let b = c.columns-test.true in omega (arith, a, b)
 
 pub overflow_add-end : goal.overflow_add-end
 overflow_add-end g c =
     let total = c.requires.total in
     let d = list_room c.args.size (map g.I.Index.value c.args.a_p.now) (map g.I.Index.value c.args.a_i.now) c.requires.input.lower
-    c.args.degrees.now c.requires.degrees c.columns.j c.columns.end c.columns-test.true c.columns.invariant.end in omega (arith, d, total)
+    c.args.degrees.now c.requires.degrees c.columns.j c.columns.end c.columns-test.true c.columns.invariant.end in
+    let is = c.cell_at-end.ensures.is in let most = g.met.U.Unsigned.narrow in omega (arith, d, total, is, most)
 
 pub count_at-requires : goal.count_at-requires
 count_at-requires g c = let p = pointer_read g.I.Index.value c.args.a_p.now c.args.a_i.now c.args.size c.requires.input.form
     (c.columns.j + 1)
     (let l = c.columns-test.true in omega (arith, l)) (omega (arith, c.well_formed)) in record { within = p.0; fits = p.1 }
-
-pub offset_bounds-degrees-j : goal.offset_bounds-degrees-j
-unfolding graph_of
-offset_bounds-degrees-j g c = let a = c.requires.degrees.size in let b = c.columns-test.true in omega (arith, a, b, c.well_formed)
 
 -- where the own rows of column j stand
 module _ (n : ℕ) (ap' ai : List ℤ) (j end degree own : ℕ) (is : end ≡ own_start n ap' ai j)
@@ -56,7 +53,7 @@ overflow_sub-end g c =
     c.own_first.result c.own_first.ensures.rows in
     let is = c.count_at.ensures.count in
     let d = degree_is c.args.size ap' ai c.requires.input.lower c.args.degrees.now c.requires.degrees c.columns.j c.columns-test.true in
-    omega (arith, long, is, d)
+    let value = c.cell_at-end.ensures.is in omega (arith, long, is, d, value)
 
 pub columns-preserved : goal.columns-preserved
 columns-preserved g c =
@@ -68,13 +65,21 @@ columns-preserved g c =
     let count = c.count_at.ensures.count in
     let head = head_is n ap' ai j c.columns.end (num c.args.degrees.now j) (c.count_at.result - c.own_first.result) i.end
     (degree_is n ap' ai c.requires.input.lower c.args.degrees.now c.requires.degrees j c.columns-test.true) (omega (arith, long, count)) in
-    let items = c.push_reserved.ensures.items in record {
-      end = next_end n ap' ai c.requires.input.lower c.args.degrees.now c.requires.degrees j c.columns.end c.columns-test.true i.end;
+    let items =
+    c.push_reserved.ensures.items ∙ ap (λ x. c.columns.heads.items ++ x ∷ []) (c.cell_of.ensures ∙ ap (λ x. c.columns.end + x - (c.count_at.result - c.own_first.result)) c.cell_at-end.ensures.is) in record {
+      end = rw c.cell_at-end.ensures.is (next_end n ap' ai c.requires.input.lower c.args.degrees.now c.requires.degrees j c.columns.end c.columns-test.true i.end);
       long = ap length items ∙ length-append c.columns.heads.items (v ∷ []) ∙ (let l = i.long in omega (arith, l));
-      capacity = (let x = i.capacity in let y = c.push_reserved.ensures.capacity in omega (arith, x, y));
+      capacity = c.push_reserved.ensures.capacity ∙ i.capacity;
       each = λ k l. ap (λ xs. num xs k) items ∙ elim (cases_lt k j) [
         | inl x ↦ get_or_append_left c.columns.heads.items (v ∷ []) 0 k (let s = i.long in omega (arith, s, x)) ∙ i.each k x
         | inr x ↦ (let e : j ≡ k = omega (arith, l, x) in get_or_push c.columns.heads.items v 0 k (i.long ∙ e) ∙ head
             ∙ ap (λ y. own_from n ap' ai y 0) e)
       ];
     }
+
+pub cell_of-requires : goal.cell_of-requires
+cell_of-requires g c =
+    let total = c.requires.total in let is = c.cell_at-end.ensures.is in
+    let d = list_room c.args.size (map g.I.Index.value c.args.a_p.now) (map g.I.Index.value c.args.a_i.now) c.requires.input.lower
+    c.args.degrees.now c.requires.degrees c.columns.j c.columns.end c.columns-test.true c.columns.invariant.end in
+    omega (arith, d, total, is)

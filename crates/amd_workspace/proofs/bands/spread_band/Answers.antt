@@ -1,5 +1,5 @@
 -- the goals of bands::spread_band.
-use Rattle.std.proofs.Common.{◌≡◌, ◌+◌, ◌<◌, inl, inr, ℕ, ℤ, List, arith, cond, ltb, refl, sym, subst, ◌∙◌, length, set}
+use Rattle.std.proofs.Common.{◌≡◌, ◌+◌, ◌<◌, inl, inr, ℕ, ℤ, List, arith, cond, ltb, refl, ap, sym, subst, ◌∙◌, length, set}
 use Rattle.std.proofs.Common.{get_or-set_same, get_or-set_other}
 use Rattle.std.proofs.lemmas.Bool.{cases_eq, cases_lt, lt-ltb}
 use Rattle.std.proofs.lemmas.List.{length-set}
@@ -7,10 +7,14 @@ use Rattle.amd_model.specs.Below.{sum_below}
 use Rattle.amd_model.specs.Input.Pattern.{graph_of}
 use Rattle.amd_edges.specs.Visits.{start_of}
 use Rattle.amd_words.specs.Words.{num}
+use Rattle.amd_workspace.specs.Copying.{is_other}
 use Rattle.amd_workspace.specs.Lower.{Matrix, SpreadsColumns, own_start}
 use Rattle.amd_workspace.specs.Bands.{HasHeads, IsReadyForBand, IsReadyForPart, banded, own_from, spread_to}
 use Rattle.amd_workspace.proofs.BandWords.{band_ends, band_next, band_starts, none_in_band, not_lt}
-use Rattle.amd_workspace.proofs.LowerWords.{list_room, next_end, spreads_same}
+use Rattle.amd_workspace.proofs.LowerWords.{later_list, list_room, next_end, spreads_same}
+use Rattle.amd_workspace.proofs.LowerLists.{length_more}
+use Rattle.amd_workspace.proofs.bands.spread_band.Given.{Over}
+use Rattle.amd_workspace.proofs.bands.spread_band.Goals.{After-cell_at-place}
 use Rattle.amd_workspace.proofs.bands.spread_band.Goals as goal
 
 module _ (m : Matrix) (lo hi : ℕ) (degrees : List ℕ) (a b : ℕ) (next : List ℕ) (iw : List ℤ) (heads : List ℕ)
@@ -98,13 +102,13 @@ columns-init g c = record {
   heads = λ m lo r. heads_begin m lo _ _ _ _ _ _ _ r;
 }
 
-pub bounds-degrees-j : goal.bounds-degrees-j
-bounds-degrees-j g c =
+pub cell_at-end-requires : goal.cell_at-end-requires
+cell_at-end-requires g c =
     let m = c.requires.laid.0 in let lo = c.requires.laid.1 in let r = c.requires.laid.2 in
     let size = rows_long m lo _ _ _ _ _ _ _ r in let rows = r.rows_in in let t = c.columns-test.true in omega (arith, size, rows, t)
 
-pub bounds-heads-j : goal.bounds-heads-j
-bounds-heads-j g c =
+pub cell_at-place-requires : goal.cell_at-place-requires
+cell_at-place-requires g c =
     let r = c.requires.laid.2 in let size = r.stand.long in let rows = r.rows_in in let t = c.columns-test.true in
     let long = c.columns.invariant.heads_long in omega (arith, size, rows, t, long)
 
@@ -114,12 +118,13 @@ overflow_add-end g c =
     let t = c.columns-test.true in
     let d = list_room m.n m.ap m.ai r.lower c.args.degrees.now r.counts c.columns.j c.columns.end (omega (arith, rows, t))
     (c.columns.invariant.end m lo r) in
-    let room = r.room in let places = r.places in let n = g.met.U.Unsigned.narrow in omega (arith, d, room, places, n)
+    let room = r.room in let places = r.places in let n = g.met.U.Unsigned.narrow in
+    let is = c.cell_at-end.ensures.is in omega (arith, d, room, places, n, is)
 
-pub spread_until-requires : goal.spread_until-requires
-spread_until-requires g c =
+pub spread_until-left-requires : goal.spread_until-left-requires
+spread_until-left-requires g c =
     let m = c.requires.laid.0 in let lo = c.requires.laid.1 in let r = c.requires.laid.2 in let i = c.columns.invariant in record {
-      ready = (
+      ready = rw (c.cell_at-place.ensures.is, c.cell_at-end.ensures.is) (
         m,
         lo,
         ready m lo c.args.hi c.args.degrees.now _ _ c.args.next.now c.args.iw.now c.args.heads.now r c.columns.j c.columns.end
@@ -128,23 +133,45 @@ spread_until-requires g c =
       );
     }
 
+-- column j, as it comes next
+next : (g : Over) (c : After-cell_at-place g) (m : Matrix) (lo : ℕ) →
+    IsReadyForBand m lo c.args.hi c.args.degrees.now g.S.Signed.MOST g.U.Unsigned.MOST c.args.next.now c.args.iw.now c.args.heads.now →
+    IsReadyForPart m lo c.args.hi c.columns.j c.cell_at-place.result (c.columns.end + c.cell_at-end.result) g.S.Signed.MOST
+    g.U.Unsigned.MOST c.columns.next c.columns.iw
+next g c m lo r = let i = c.columns.invariant in
+    rw (c.cell_at-place.ensures.is, c.cell_at-end.ensures.is) (ready m lo c.args.hi c.args.degrees.now _ _ c.args.next.now c.args.iw.now
+    c.args.heads.now r c.columns.j c.columns.end c.columns.next c.columns.iw c.columns.heads c.columns-test.true (i.end m lo r) i.long
+    (i.spreads m lo r) (i.heads m lo r))
+
+pub put_cell-requires-clause-inside : goal.put_cell-requires-clause-inside
+put_cell-requires-clause-inside g c =
+    let r = c.requires.laid.2 in let size = r.stand.long in let rows = r.rows_in in let t = c.columns-test.true in
+    let long = c.columns.invariant.heads_long in omega (arith, size, rows, t, long)
+
+pub put_cell-requires-clause-fits : goal.put_cell-requires-clause-fits
+put_cell-requires-clause-fits g c =
+    let m = c.requires.laid.0 in let lo = c.requires.laid.1 in let r = c.requires.laid.2 in let t = c.columns-test.true in
+    let at = (c.spread_until-left.ensures.after m lo
+    (next g (goal.at.put_cell-requires-clause-fits g c).After-cell_at-place m lo r)).1 in
+    let in_band = r.rows_in in let j_in : c.columns.j < m.n = omega (arith, t, in_band) in
+    let few = length_more m.n c.args.hi (is_other m.n m.ap m.ai c.columns.j) in_band in
+    let later = later_list m.n m.ap m.ai r.lower c.columns.j m.n j_in (omega arith) in
+    let room = r.room in let places = r.places in omega (arith, at, few, later, room, places)
+
 pub columns-preserved : goal.columns-preserved
-columns-preserved g c = let i = c.columns.invariant in record {
-  long = c.spread_until.ensures.long ∙ i.long;
-  heads_long = length-set c.columns.heads c.columns.j c.spread_until.result ∙ i.heads_long;
-  end = λ m lo r. (ready m lo c.args.hi c.args.degrees.now _ _ c.args.next.now c.args.iw.now c.args.heads.now r c.columns.j c.columns.end
-      c.columns.next c.columns.iw c.columns.heads c.columns-test.true (i.end m lo r) i.long (i.spreads m lo r) (i.heads m lo r)).end;
-  spreads = λ m lo r. spreads_next m lo c.args.hi c.args.degrees.now _ _ c.args.next.now c.args.iw.now c.args.heads.now r c.columns.j
-      c.columns.end c.columns.next c.columns.iw c.columns.heads c.columns-test.true (i.end m lo r) i.long (i.spreads m lo r)
-      (i.heads m lo r) c.spread_until.new.next c.spread_until.new.iw (c.spread_until.ensures.after m lo
-      (ready m lo c.args.hi c.args.degrees.now _ _ c.args.next.now c.args.iw.now c.args.heads.now r c.columns.j c.columns.end
-      c.columns.next c.columns.iw c.columns.heads c.columns-test.true (i.end m lo r) i.long (i.spreads m lo r) (i.heads m lo r))).0;
-  heads = λ m lo r. heads_next m lo c.args.hi c.args.degrees.now _ _ c.args.next.now c.args.iw.now c.args.heads.now r c.columns.j
-      c.columns.end c.columns.next c.columns.iw c.columns.heads c.columns-test.true (i.end m lo r) i.long (i.spreads m lo r)
-      (i.heads m lo r) c.spread_until.result (c.spread_until.ensures.after m lo
-      (ready m lo c.args.hi c.args.degrees.now _ _ c.args.next.now c.args.iw.now c.args.heads.now r c.columns.j c.columns.end
-      c.columns.next c.columns.iw c.columns.heads c.columns-test.true (i.end m lo r) i.long (i.spreads m lo r) (i.heads m lo r))).1;
-}
+columns-preserved g c = let i = c.columns.invariant in
+    let to = (goal.at.columns-preserved g c).After-cell_at-place in record {
+      long = c.spread_until-left.ensures.long ∙ i.long;
+      heads_long = ap length c.put_cell.ensures ∙ length-set c.columns.heads c.columns.j c.spread_until-left.result ∙ i.heads_long;
+      end = λ m lo r. (next g to m lo r).end;
+      spreads = λ m lo r. spreads_next m lo c.args.hi c.args.degrees.now _ _ c.args.next.now c.args.iw.now c.args.heads.now r c.columns.j
+          c.columns.end c.columns.next c.columns.iw c.columns.heads c.columns-test.true (i.end m lo r) i.long (i.spreads m lo r)
+          (i.heads m lo r) c.spread_until-left.new.next c.spread_until-left.new.iw
+          (c.spread_until-left.ensures.after m lo (next g to m lo r)).0;
+      heads = λ m lo r. rw c.put_cell.ensures (heads_next m lo c.args.hi c.args.degrees.now _ _ c.args.next.now c.args.iw.now
+          c.args.heads.now r c.columns.j c.columns.end c.columns.next c.columns.iw c.columns.heads c.columns-test.true (i.end m lo r) i.long
+          (i.spreads m lo r) (i.heads m lo r) c.spread_until-left.result (c.spread_until-left.ensures.after m lo (next g to m lo r)).1);
+    }
 
 pub returns-clause-after : goal.returns-clause-after
 returns-clause-after g c = λ m lo r. let i = c.columns.invariant in

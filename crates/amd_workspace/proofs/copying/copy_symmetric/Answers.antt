@@ -28,13 +28,9 @@ push_others-requires-clause-room g c =
     let long = c.columns.invariant.copied.long in let wide = c.columns.invariant.capacity in let all = c.requires.room in
     omega (arith, room, long, wide, all)
 
-pub bounds-degrees-i : goal.bounds-degrees-i
+pub cell_at-requires : goal.cell_at-requires
 unfolding graph_of
-bounds-degrees-i g c = let a = c.requires.degrees.size in let b = c.columns-test.true in omega (arith, a, b)
-
-pub offset_bounds-degrees-i : goal.offset_bounds-degrees-i
-unfolding graph_of
-offset_bounds-degrees-i g c = let a = c.requires.degrees.size in let b = c.columns-test.true in omega (arith, a, b, c.well_formed)
+cell_at-requires g c = let a = c.requires.degrees.size in let b = c.columns-test.true in omega (arith, a, b)
 
 pub overflow_sub-end : goal.overflow_sub-end
 unfolding graph_of
@@ -68,7 +64,7 @@ returns-then-end-free-clause-symmetric g c =
     c.push_others.ensures.items v in (
       λ e. absurd (false≢true e),
       λ mirror. (let same = symmetric_count n az bz mirror i in let each = c.requires.degrees.each i c.columns-test.true in
-          absurd (c.if-end-free.true (omega (arith, same, each, long, end)))),
+          let value = c.cell_at.ensures.is in absurd (c.if-end-free.true (omega (arith, same, each, long, end, value)))),
     )
 
 pub columns-preserved : goal.columns-preserved
@@ -76,10 +72,10 @@ columns-preserved g c =
     let az = map g.I.Index.value c.args.a_p.now in let bz = map g.I.Index.value c.args.a_i.now in let n = c.args.size in
     let i = c.columns.i in let v = c.columns.invariant.copied in let new = c.push_others.new.iw.items in
     let end : c.len-end.result ≡ length new = (let len = c.push_others.new.iw.ok.0 in let e = c.len-end.ensures in omega (arith, len, e)) in
-    let is = c.if-end-free.false in record {
+    let is = c.if-end-free.false in let value = c.cell_at.ensures.is in record {
       copied = subst (λ e. AreCopied n az bz c.args.degrees.now new (i + 1) e) (sym end)
           (columns_more n az bz c.args.degrees.now c.requires.degrees i c.columns.free c.columns-test.true c.columns.iw.items new
-          c.push_others.ensures.items v (omega (arith, is, end)));
+          c.push_others.ensures.items v (omega (arith, is, end, value)));
       words = λ h. words_more n az bz c.args.degrees.now c.requires.degrees i c.columns.free c.columns-test.true c.columns.iw.items new
           c.push_others.ensures.items v (c.columns.invariant.words h);
       capacity = (let x = c.columns.invariant.capacity in let y = c.push_others.ensures.capacity in omega (arith, x, y));

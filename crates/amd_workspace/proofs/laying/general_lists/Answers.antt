@@ -1,6 +1,7 @@
 -- the goals of laying::general_lists.
-use Rattle.std.proofs.Common.{◌≡◌, ◌+◌, ◌<◌, ◌≤◌, ◌-◌, ◌++◌, ℕ, ℤ, List, map, length, arith, ap, ◌∙◌, pos}
+use Rattle.std.proofs.Common.{◌∷◌, [], ◌≡◌, ◌+◌, ◌<◌, ◌≤◌, ◌-◌, ◌++◌, ℕ, ℤ, List, map, length, arith, ap, ◌∙◌, pos}
 use Rattle.std.specs.Prelude.{replicate}
+use Rattle.std.specs.Vec.{vec_capacity}
 use Rattle.amd_model.specs.Input.Pattern.{graph_of, is_pair}
 use Rattle.amd_model.specs.Quotient.{met_edges}
 use Rattle.amd_edges.specs.Visits.{arcs_of}
@@ -9,6 +10,7 @@ use Rattle.amd_edges.proofs.Orders.{ends_starting}
 use Rattle.amd_words.specs.Words.{num, rows}
 use Rattle.amd_workspace.specs.Copying.{HoldRows}
 use Rattle.amd_workspace.specs.Lower.{own_start}
+use Rattle.amd_workspace.specs.declared.lists.Words.{Words}
 use Rattle.amd_workspace.proofs.CopiedColumns.{filled_words, filled_long, filled_same, rows_empty}
 use Rattle.amd_workspace.proofs.Layings.{lays_none, walked_list}
 use Rattle.amd_workspace.proofs.laying.general_lists.Goals as goal
@@ -35,71 +37,79 @@ module _ (start size room len : ℕ) (xs ys : List ℤ) (most : length xs ≤ st
   filled_up : length ys ≡ room
   filled_up = omega (arith, most, enough, is, long)
 
+-- what was taken out of its place is as empty as it was there
+taken_none : {S U A : Type 0} {old taken : Words S U A} → taken ≡ old → length old.iw.items ≡ 0 → length taken.iw.items ≡ 0
+taken_none is empty = ap (λ w. length w.iw.items) is ∙ empty
+
 pub returns-then-copied-clause-long : goal.returns-then-copied-clause-long
 returns-then-copied-clause-long g c = let r = c.requires in let e = c.copy_symmetric-copied.ensures in
-    let long = (are_filled c.args.size c.args.size c.in_ok-iw.iw.items _ _ r.some (ap length c.in_ok-iw.ensures.items) e.words
-    c.push_rows.ensures.items).long in
+    let long = (are_filled c.args.size c.args.size c.replace-own.result.iw.items _ _ r.some (taken_none c.replace-own.ensures.value r.empty.0) e.words c.push_rows.ensures.items).long in
     let all = e.all c.if-copied.true in let most = e.long in let room = r.room in
     (omega (arith, long, all), omega (arith, long, most, room))
 
-pub returns-then-copied-clause-words : goal.returns-then-copied-clause-words
-returns-then-copied-clause-words g c = let r = c.requires in let e = c.copy_symmetric-copied.ensures in
-    (are_filled c.args.size c.args.size c.in_ok-iw.iw.items _ _ r.some (ap length c.in_ok-iw.ensures.items) e.words
-    c.push_rows.ensures.items).words
+pub returns-then-copied-clause-capacity : goal.returns-then-copied-clause-capacity
+returns-then-copied-clause-capacity g c = let is = c.replace-own.ensures.value in record {
+  next = (let x = ap (λ w. vec_capacity w.next) is in omega (arith, x));
+  iw = (let x = ap (λ w. vec_capacity w.iw) is in let a = c.copy_symmetric-copied.ensures.capacity in
+      let b = c.push_rows.ensures.capacity in omega (arith, x, a, b));
+}
 
 pub returns-then-copied-clause-lists : goal.returns-then-copied-clause-lists
 unfolding graph_of
-returns-then-copied-clause-lists g c = λ i l.
+returns-then-copied-clause-lists g c =
     let ap' = map g.I.Index.value c.args.a_p.now in let ai = map g.I.Index.value c.args.a_i.now in let n = c.args.size in
-    let r = c.requires in let e = c.copy_symmetric-copied.ensures in
-    let all = e.all c.if-copied.true in let later = start_later (graph_of n ap' ai) i n l in let own = r.degrees.each i l in
-    (are_filled n n c.in_ok-iw.iw.items _ _ r.some (ap length c.in_ok-iw.ensures.items) e.words c.push_rows.ensures.items).same
-    (own_start n ap' ai i) (num c.args.degrees.now i) (omega (arith, all, later, own))
-    ∙ e.lists c.if-copied.true i l
+    let r = c.requires in let e = c.copy_symmetric-copied.ensures in let all = e.all c.if-copied.true in
+    let filled = are_filled n n c.replace-own.result.iw.items _ _ r.some (taken_none c.replace-own.ensures.value r.empty.0) e.words c.push_rows.ensures.items in (
+      filled.words,
+      λ i l. (let later = start_later (graph_of n ap' ai) i n l in let own = r.degrees.each i l in
+          filled.same (own_start n ap' ai i) (num c.args.degrees.now i) (omega (arith, all, later, own)) ∙ e.lists c.if-copied.true i l),
+    )
 
 pub walk-requires-clause-held : goal.walk-requires-clause-held
 unfolding graph_of
 walk-requires-clause-held g c = let r = c.requires in let e = c.copy_symmetric-copied.ensures in
     let ap' = map g.I.Index.value c.args.a_p.now in let ai = map g.I.Index.value c.args.a_i.now in
-    let filled = are_filled c.args.size (c.args.room - c.len.result) c.in_ok-iw.iw.items _ _ r.some
-    (ap length c.in_ok-iw.ensures.items) e.words c.push_rows-2.ensures.items in
+    let filled = are_filled c.args.size (c.args.room - c.len.result) c.replace-own.result.iw.items _ _ r.some (taken_none c.replace-own.ensures.value r.empty.0) e.words
+    c.push_rows-2.ensures.items in
     let long = filled_up _ c.args.size c.args.room c.len.result _ _ e.long r.room
     (c.len.ensures ∙ c.copy_symmetric-copied.new.iw.ok.0) filled.long in
     let room = r.room in let fits = r.fits.1 in
-    lays_none (graph_of c.args.size ap' ai) c.args.next.items r.long r.starts g.S.Signed.MOST g.U.Unsigned.MOST
-    c.push_rows-2.new.iw.items filled.words (omega (arith, room, long)) r.fits.0 (omega (arith, fits, long))
+    rw c.replace-own.ensures.value (lays_none (graph_of c.args.size ap' ai) c.args.words.now.next.items r.long r.starts g.S.Signed.MOST g.U.Unsigned.MOST
+    c.push_rows-2.new.iw.items filled.words (omega (arith, room, long)) r.fits.0 (omega (arith, fits, long)))
 
--- the length of the words that a walk goes on with
+-- the words that a walk goes on with
 module _ (start size room : ℕ) (enough : start + size ≤ room) (old new : List ℤ) (kept : length new ≡ length old)
     (long : length old ≡ room) where
   walked_long : (start + size ≤ length new) × (length new ≤ room)
   walked_long = (omega (arith, enough, kept, long), omega (arith, kept, long))
 
+-- the numbers of a room that is kept
+kept_room : {a b d x y z : ℕ} → a ∷ b ∷ d ∷ [] ≡ x ∷ y ∷ z ∷ [] → (a ≡ x) × (b ≡ y) × (d ≡ z)
+kept_room e = (cc, cc, cc)
+
 pub returns-clause-long : goal.returns-clause-long
 returns-clause-long g c = let r = c.requires in let e = c.copy_symmetric-copied.ensures in
-    let filled = are_filled c.args.size (c.args.room - c.len.result) c.in_ok-iw.iw.items _ _ r.some
-    (ap length c.in_ok-iw.ensures.items) e.words c.push_rows-2.ensures.items in
-    walked_long _ c.args.size c.args.room r.room _ _ c.walk.ensures.kept (filled_up _ c.args.size c.args.room c.len.result _ _ e.long
-    r.room (c.len.ensures ∙ c.copy_symmetric-copied.new.iw.ok.0) filled.long)
+    let filled = are_filled c.args.size (c.args.room - c.len.result) c.replace-own.result.iw.items _ _ r.some (taken_none c.replace-own.ensures.value r.empty.0) e.words
+    c.push_rows-2.ensures.items in
+    walked_long _ c.args.size c.args.room r.room _ _ (kept_room c.walk.ensures.kept).0 (filled_up _ c.args.size c.args.room c.len.result _ _
+    e.long r.room (c.len.ensures ∙ c.copy_symmetric-copied.new.iw.ok.0) filled.long)
 
 pub returns-clause-capacity : goal.returns-clause-capacity
-returns-clause-capacity g c = let r = c.requires in let e = c.copy_symmetric-copied.ensures in
-    let filled = are_filled c.args.size (c.args.room - c.len.result) c.in_ok-iw.iw.items _ _ r.some
-    (ap length c.in_ok-iw.ensures.items) e.words c.push_rows-2.ensures.items in
-    let long = filled_up _ c.args.size c.args.room c.len.result _ _ e.long r.room
-    (c.len.ensures ∙ c.copy_symmetric-copied.new.iw.ok.0) filled.long in
-    let kept = c.walk.ensures.kept in let len = c.walk.new.visitor.iw.ok.0 in let cap = c.walk.new.visitor.iw.ok.1 in
-    omega (arith, long, kept, len, cap)
-
-pub returns-clause-words : goal.returns-clause-words
-unfolding graph_of
-returns-clause-words g c = c.walk.ensures.held.words
+returns-clause-capacity g c =
+    let kept = kept_room c.walk.ensures.kept in let x = kept.1 in let y = kept.2 in
+    let is = c.replace-own.ensures.value in
+    let a = c.copy_symmetric-copied.ensures.capacity in let b = c.push_rows-2.ensures.capacity in record {
+      next = (let old = ap (λ w. vec_capacity w.next) is in omega (arith, x, old));
+      iw = (let old = ap (λ w. vec_capacity w.iw) is in omega (arith, y, a, b, old));
+    }
 
 pub returns-clause-lists : goal.returns-clause-lists
 unfolding graph_of
-returns-clause-lists g c = λ i l.
+returns-clause-lists g c =
     let ap' = map g.I.Index.value c.args.a_p.now in let ai = map g.I.Index.value c.args.a_i.now in
-    let graph = graph_of c.args.size ap' ai in
-    walked_list graph c.args.degrees.now c.requires.degrees (arcs_of (met_edges c.args.size (is_pair c.args.size ap' ai)))
-    g.S.Signed.MOST g.U.Unsigned.MOST c.walk.new.visitor.next.items c.walk.new.visitor.iw.items c.walk.ensures.held i l
-    ∙ ends_starting c.args.size (is_pair c.args.size ap' ai) i
+    let graph = graph_of c.args.size ap' ai in (
+      c.walk.ensures.held.words,
+      λ i l. walked_list graph c.args.degrees.now c.requires.degrees (arcs_of (met_edges c.args.size (is_pair c.args.size ap' ai)))
+          g.S.Signed.MOST g.U.Unsigned.MOST c.walk.new.visitor.next.items c.walk.new.visitor.iw.items c.walk.ensures.held i l
+          ∙ ends_starting c.args.size (is_pair c.args.size ap' ai) i,
+    )

@@ -1,133 +1,122 @@
-use Rattle.std.proofs.Common.{ℕ, ◌≡◌, ◌≤◌, ◌+◌, map, length, arith, sym, ap, subst, ◌∙◌}
-use Rattle.std.specs.Vec.{vec_capacity}
+-- the goals of laying::lay.
+use Rattle.std.proofs.Common.{ℕ, ℤ, List, ◌≡◌, ◌≤◌, ◌<◌, map, length, arith, refl, sym, ap, subst, ◌∙◌}
+use Rattle.amd_model.specs.Below.{sum_below}
 use Rattle.amd_model.specs.Input.Pattern.{graph_of, is_pair}
-use Rattle.amd_edges.specs.Visits.{start_of}
-use Rattle.amd_workspace.specs.Copying.{HoldRows}
-use Rattle.amd_workspace.specs.Laying.{IsLaidOut}
-use Rattle.amd_workspace.specs.Lower.{own_start}
 use Rattle.amd_model.specs.Quotient.{starting_list}
+use Rattle.amd_lists.specs.Layout.{list_in}
+use Rattle.amd_words.specs.Words.{num}
+use Rattle.amd_workspace.specs.Laying.{IsLaidOut, Starts}
+use Rattle.amd_workspace.specs.Lower.{AreNeighbourCounts, HoldsLists, own_start}
 use Rattle.amd_workspace.proofs.Layings.{total_is, laid_out, list_at, first_at}
-use Rattle.amd_words.specs.Words.{num, rows}
+use Rattle.amd_workspace.proofs.laying.lay.Given.{Over}
+use Rattle.amd_workspace.proofs.laying.lay.Goals.{After-starts-free}
 use Rattle.amd_workspace.proofs.laying.lay.Goals as goal
-use Rattle.amd_workspace.proofs.laying.lay.Goals.{then-has_long_lower+in_ok-iw, else-has_long_lower+in_ok-iw-2}
+
+-- the starts of the lists of a matrix
+module _ (n : ℕ) (ap' ai : List ℤ) (degrees : List ℕ) (counts : AreNeighbourCounts n ap' ai degrees) (pe : List ℤ) (next : List ℕ)
+    (s : Starts degrees pe next) where
+  next_long : length next ≡ n
+  unfolding graph_of
+  next_long = s.long ∙ counts.size
+
+  next_first : (i : ℕ) → i < n → num next i ≡ own_start n ap' ai i
+  unfolding graph_of
+  next_first = first_at (graph_of n ap' ai) degrees pe next counts s
+
+  -- and with the lists in the words
+  module _ (iw : List ℤ) (so : HoldsLists n ap' ai degrees iw) where
+    laid : own_start n ap' ai n ≤ length iw → IsLaidOut n iw pe degrees (own_start n ap' ai n)
+    unfolding graph_of
+    laid room = laid_out (graph_of n ap' ai) degrees pe next counts s iw so.0 room
+
+    lists : (i : ℕ) → i < n → list_in iw pe degrees i ≡ starting_list n (is_pair n ap' ai) i
+    unfolding graph_of
+    lists i l = list_at (graph_of n ap' ai) degrees pe next counts s iw _ i l (so.1 i l)
+
+total : (n : ℕ) (ap' ai : List ℤ) (degrees lent : List ℕ) → AreNeighbourCounts n ap' ai degrees → lent ≡ degrees → (sum : ℕ) →
+    sum ≡ sum_below (length lent) (num lent) → sum ≡ own_start n ap' ai n
+unfolding graph_of
+total n ap' ai degrees lent counts same sum is =
+    is ∙ ap (λ xs. sum_below (length xs) (num xs)) same ∙ total_is (graph_of n ap' ai) degrees counts
+
+-- the starts as they are written
+starts_are : (g : Over) (c : After-starts-free g) → Starts c.args.memory.now.len.items c.starts-free.new.pe.items
+    c.starts-free.new.next.items
+starts_are g c = rw c.deref.ensures.value at c.starts-free.ensures.starts
+
+free_is : (g : Over) (c : After-starts-free g) → c.starts-free.result ≡ own_start c.args.size (map g.I.Index.value c.args.a_p.now)
+    (map g.I.Index.value c.args.a_i.now) c.args.size
+free_is g c = total c.args.size (map g.I.Index.value c.args.a_p.now) (map g.I.Index.value c.args.a_i.now) c.args.memory.now.len.items
+    c.deref.result.now c.requires.degrees c.deref.ensures.value c.starts-free.result c.starts-free.ensures.total
 
 pub starts-free-requires-clause-room : goal.starts-free-requires-clause-room
 unfolding graph_of
 starts-free-requires-clause-room g c =
-    let size = c.requires.degrees.size in let a = c.in_ok-pe.ensures.capacity in let b = c.in_ok-next.ensures.capacity in
-    let d = c.in_ok-len.ensures.capacity in
-    (omega (arith, size, a), omega (arith, size, b), omega (arith, size, d))
+    let same = ap length c.deref.ensures.value in let size = c.requires.degrees.size in let room = c.requires.room in
+    let a = room.pe in let b = room.next in let x = c.clear.ensures.capacity in let y = c.clear-2.ensures.capacity in
+    (omega (arith, same, size, a, x), omega (arith, same, size, b, y))
 
 pub starts-free-requires-clause-fits : goal.starts-free-requires-clause-fits
-unfolding graph_of
 starts-free-requires-clause-fits g c =
-    let graph = graph_of c.args.size (map g.I.Index.value c.args.a_p.now) (map g.I.Index.value c.args.a_i.now) in
-    let r = c.requires in let e = total_is graph c.args.degrees.now r.degrees in let fits = r.fits in let room = r.room in
-    (omega (arith, e, fits, room), omega (arith, e, fits, room))
+    let is = total c.args.size (map g.I.Index.value c.args.a_p.now) (map g.I.Index.value c.args.a_i.now) c.args.memory.now.len.items
+    c.deref.result.now c.requires.degrees c.deref.ensures.value _ refl in
+    let words = c.requires.words in let fits = c.requires.fits in let p = fits.1 in let u = fits.2 in
+    (omega (arith, is, words, p), omega (arith, is, words, u))
 
--- the starts, as both ways ask for them
 pub lower_lists-requires-clause-long : goal.lower_lists-requires-clause-long
-unfolding graph_of
-lower_lists-requires-clause-long g c = ap length c.deref_mut.ensures.value ∙ c.starts-free.ensures.starts.long ∙ c.requires.degrees.size
+lower_lists-requires-clause-long g c = next_long _ _ _ _ c.requires.degrees _ _
+    (starts_are g (goal.at.lower_lists-requires-clause-long g c).After-starts-free)
 
 pub lower_lists-requires-clause-starts : goal.lower_lists-requires-clause-starts
-unfolding graph_of
-lower_lists-requires-clause-starts g c = λ i l.
-    let graph = graph_of c.args.size (map g.I.Index.value c.args.a_p.now) (map g.I.Index.value c.args.a_i.now) in
-    let s = c.starts-free.new in ap (λ xs. num xs i) c.deref_mut.ensures.value
-    ∙ first_at graph c.args.degrees.now s.pe.items s.next.items s.len.items c.requires.degrees c.starts-free.ensures.starts i l
+lower_lists-requires-clause-starts g c = next_first _ _ _ _ c.requires.degrees _ _
+    (starts_are g (goal.at.lower_lists-requires-clause-starts g c).After-starts-free)
 
 pub general_lists-requires-clause-long : goal.general_lists-requires-clause-long
-unfolding graph_of
-general_lists-requires-clause-long g c = c.starts-free.ensures.starts.long ∙ c.requires.degrees.size
+general_lists-requires-clause-long g c = next_long _ _ _ _ c.requires.degrees _ _
+    (starts_are g (goal.at.general_lists-requires-clause-long g c).After-starts-free)
 
 pub general_lists-requires-clause-starts : goal.general_lists-requires-clause-starts
-unfolding graph_of
-general_lists-requires-clause-starts g c =
-    let graph = graph_of c.args.size (map g.I.Index.value c.args.a_p.now) (map g.I.Index.value c.args.a_i.now) in
-    let s = c.starts-free.new in
-    first_at graph c.args.degrees.now s.pe.items s.next.items s.len.items c.requires.degrees c.starts-free.ensures.starts
+general_lists-requires-clause-starts g c = next_first _ _ _ _ c.requires.degrees _ _
+    (starts_are g (goal.at.general_lists-requires-clause-starts g c).After-starts-free)
 
--- what both ways say of the words
-pub returns-clause-laid : goal.returns-clause-laid
-unfolding graph_of
-returns-clause-laid g c =
-    let graph = graph_of c.args.size (map g.I.Index.value c.args.a_p.now) (map g.I.Index.value c.args.a_i.now) in
-    let r = c.requires in let s = c.starts-free.new in let iw = c.if-has_long_lower.iw.items in
-    let long : start_of graph c.args.size ≤ length iw = elim c.if-has_long_lower.branch [
-      | then-has_long_lower+in_ok-iw w ↦ (let e = ap (λ v. length v.items) w.iw-is in let l = w.in_ok-iw.ensures.long in
-          omega (arith, e, l))
-      | else-has_long_lower+in_ok-iw-2 w ↦ (let e = ap (λ v. length v.items) w.iw-is in let l = w.in_ok-iw-2.ensures.long.0 in
-          omega (arith, e, l))
-    ] in
-    let names : HoldRows c.args.size iw = elim c.if-has_long_lower.branch [
-      | then-has_long_lower+in_ok-iw w ↦ subst (λ v. HoldRows c.args.size v.items) (sym w.iw-is) w.in_ok-iw.ensures.words
-      | else-has_long_lower+in_ok-iw-2 w ↦ subst (λ v. HoldRows c.args.size v.items) (sym w.iw-is) w.in_ok-iw-2.ensures.words
-    ] in
-    let out = laid_out graph c.args.degrees.now s.pe.items s.next.items s.len.items r.degrees c.starts-free.ensures.starts iw names
-    long in
-    let P : ℕ → Type 0 = λ free. IsLaidOut c.args.size iw s.pe.items s.len.items free in
-    subst P (sym (c.starts-free.ensures.total ∙ total_is graph c.args.degrees.now r.degrees)) out
+pub returns-then-has_long_lower-clause-laid : goal.returns-then-has_long_lower-clause-laid
+returns-then-has_long_lower-clause-laid g c =
+    let to = (goal.at.returns-then-has_long_lower-clause-laid g c).After-starts-free in let long = c.lower_lists.ensures.long in
+    let P : ℕ → Type 0 = λ free. IsLaidOut c.args.size c.lower_lists.new.words.iw.items c.starts-free.new.pe.items
+    c.args.memory.now.len.items free in
+    subst P (sym (free_is g to)) (laid _ _ _ _ c.requires.degrees _ _ (starts_are g to) _
+    (rw c.deref-then-has_long_lower.ensures.value at c.lower_lists.ensures.lists) (omega (arith, long)))
 
-pub returns-clause-long : goal.returns-clause-long
-unfolding graph_of
-returns-clause-long g c =
-    let graph = graph_of c.args.size (map g.I.Index.value c.args.a_p.now) (map g.I.Index.value c.args.a_i.now) in
-    let iw = c.if-has_long_lower.iw.items in let room = c.requires.room in
-    let long : (start_of graph c.args.size + c.args.size ≤ length iw) × (length iw ≤ c.args.room) = elim c.if-has_long_lower.branch [
-      | then-has_long_lower+in_ok-iw w ↦ (let e = ap (λ v. length v.items) w.iw-is in let l = w.in_ok-iw.ensures.long in
-          (omega (arith, e, l), omega (arith, e, l, room)))
-      | else-has_long_lower+in_ok-iw-2 w ↦ (let e = ap (λ v. length v.items) w.iw-is in let l = w.in_ok-iw-2.ensures.long.0 in
-          let m = w.in_ok-iw-2.ensures.long.1 in (omega (arith, e, l), omega (arith, e, m)))
-    ] in
-    let total = c.starts-free.ensures.total ∙ total_is graph c.args.degrees.now c.requires.degrees in let low = long.0 in
-    (omega (arith, low, total), long.1, total)
+pub returns-then-has_long_lower-clause-long : goal.returns-then-has_long_lower-clause-long
+returns-then-has_long_lower-clause-long g c =
+    let is = free_is g (goal.at.returns-then-has_long_lower-clause-long g c).After-starts-free in
+    let long = c.lower_lists.ensures.long in let words = c.requires.words in (omega (arith, is, long), omega (arith, long, words))
 
-pub returns-clause-capacity : goal.returns-clause-capacity
-returns-clause-capacity g c = elim c.if-has_long_lower.branch [
-  | then-has_long_lower+in_ok-iw w ↦ subst (λ v. c.args.room ≤ vec_capacity v) (sym w.iw-is) w.in_ok-iw.ensures.capacity
-  | else-has_long_lower+in_ok-iw-2 w ↦ subst (λ v. c.args.room ≤ vec_capacity v) (sym w.iw-is) w.in_ok-iw-2.ensures.capacity
-]
+pub returns-then-has_long_lower-clause-free : goal.returns-then-has_long_lower-clause-free
+returns-then-has_long_lower-clause-free g c = free_is g (goal.at.returns-then-has_long_lower-clause-free g c).After-starts-free
 
-pub returns-clause-lists : goal.returns-clause-lists
-unfolding graph_of
-returns-clause-lists g c = λ i l.
-    let ap' = map g.I.Index.value c.args.a_p.now in let ai = map g.I.Index.value c.args.a_i.now in
-    let graph = graph_of c.args.size ap' ai in
-    let s = c.starts-free.new in
-    let start = own_start c.args.size ap' ai i in let count = num c.args.degrees.now i in
-    let list : rows c.if-has_long_lower.iw.items start count ≡ starting_list c.args.size (is_pair c.args.size ap' ai) i =
-    elim c.if-has_long_lower.branch [
-      | then-has_long_lower+in_ok-iw w ↦ ap (λ v. rows v.items start count) w.iw-is ∙ w.in_ok-iw.ensures.lists i l
-      | else-has_long_lower+in_ok-iw-2 w ↦ ap (λ v. rows v.items start count) w.iw-is ∙ w.in_ok-iw-2.ensures.lists i l
-    ] in
-    list_at graph c.args.degrees.now s.pe.items s.next.items s.len.items c.requires.degrees c.starts-free.ensures.starts
-    c.if-has_long_lower.iw.items _ i l list
+pub returns-then-has_long_lower-clause-lists : goal.returns-then-has_long_lower-clause-lists
+returns-then-has_long_lower-clause-lists g c = lists _ _ _ _ c.requires.degrees _ _
+    (starts_are g (goal.at.returns-then-has_long_lower-clause-lists g c).After-starts-free) _
+    (rw c.deref-then-has_long_lower.ensures.value at c.lower_lists.ensures.lists)
 
--- what both ways and the choice between them ask for
-pub lower_lists-requires-clause-input : goal.lower_lists-requires-clause-input
-lower_lists-requires-clause-input g c = record {
-  form = c.requires.form;
-  sorted = c.requires.sorted;
-  lower = c.has_long_lower.ensures.yes c.if-has_long_lower.true;
-}
+pub returns-else-has_long_lower-clause-laid : goal.returns-else-has_long_lower-clause-laid
+returns-else-has_long_lower-clause-laid g c =
+    let to = (goal.at.returns-else-has_long_lower-clause-laid g c).After-starts-free in let long = c.general_lists.ensures.long.0 in
+    let P : ℕ → Type 0 = λ free. IsLaidOut c.args.size c.general_lists.new.words.iw.items c.starts-free.new.pe.items
+    c.args.memory.now.len.items free in
+    subst P (sym (free_is g to)) (laid _ _ _ _ c.requires.degrees _ _ (starts_are g to) _
+    (rw c.deref-else-has_long_lower.ensures.value at c.general_lists.ensures.lists) (omega (arith, long)))
 
-pub lower_lists-requires-clause-room : goal.lower_lists-requires-clause-room
-unfolding graph_of
-lower_lists-requires-clause-room g c = c.requires.room
+pub returns-else-has_long_lower-clause-long : goal.returns-else-has_long_lower-clause-long
+returns-else-has_long_lower-clause-long g c =
+    let is = free_is g (goal.at.returns-else-has_long_lower-clause-long g c).After-starts-free in
+    let long = c.general_lists.ensures.long.0 in (omega (arith, is, long), c.general_lists.ensures.long.1)
 
-pub lower_lists-requires-clause-fits : goal.lower_lists-requires-clause-fits
-lower_lists-requires-clause-fits g c = (c.requires.fits.0, c.requires.fits.2)
+pub returns-else-has_long_lower-clause-free : goal.returns-else-has_long_lower-clause-free
+returns-else-has_long_lower-clause-free g c = free_is g (goal.at.returns-else-has_long_lower-clause-free g c).After-starts-free
 
-pub general_lists-requires-clause-room : goal.general_lists-requires-clause-room
-unfolding graph_of
-general_lists-requires-clause-room g c = c.requires.room
-
-pub general_lists-requires-clause-fits : goal.general_lists-requires-clause-fits
-general_lists-requires-clause-fits g c = (c.requires.fits.0, c.requires.fits.2)
-
-pub general_lists-requires-clause-degrees : goal.general_lists-requires-clause-degrees
-general_lists-requires-clause-degrees g c = c.requires.degrees
-
-pub lower_lists-requires-clause-degrees : goal.lower_lists-requires-clause-degrees
-lower_lists-requires-clause-degrees g c = c.requires.degrees
+pub returns-else-has_long_lower-clause-lists : goal.returns-else-has_long_lower-clause-lists
+returns-else-has_long_lower-clause-lists g c = lists _ _ _ _ c.requires.degrees _ _
+    (starts_are g (goal.at.returns-else-has_long_lower-clause-lists g c).After-starts-free) _
+    (rw c.deref-else-has_long_lower.ensures.value at c.general_lists.ensures.lists)

@@ -41,26 +41,22 @@ columns-init g c = record {
       c.args.iw.now.items c.requires.some c.requires.empty c.requires.next c.requires.starts;
 }
 
-pub bounds-degrees-j : goal.bounds-degrees-j
+pub cell_at-end-requires : goal.cell_at-end-requires
 unfolding graph_of
-bounds-degrees-j g c = let a = c.requires.degrees.size in let b = c.columns-test.true in omega (arith, a, b)
-
-pub offset_bounds-degrees-j : goal.offset_bounds-degrees-j
-unfolding graph_of
-offset_bounds-degrees-j g c = let a = c.requires.degrees.size in let b = c.columns-test.true in omega (arith, a, b, c.well_formed)
+cell_at-end-requires g c = let a = c.requires.degrees.size in let b = c.columns-test.true in omega (arith, a, b)
 
 pub overflow_add-end : goal.overflow_add-end
 overflow_add-end g c =
     let room = c.requires.room in let small = c.args.iw.now.small in
     let d = list_room c.args.size (map g.I.Index.value c.args.a_p.now) (map g.I.Index.value c.args.a_i.now) c.requires.input.lower
     c.args.degrees.now c.requires.degrees c.columns.j c.columns.end c.columns-test.true c.columns.invariant.end in
-    omega (arith, d, room, small)
+    let is = c.cell_at-end.ensures.is in omega (arith, d, room, small, is)
 
 pub spread_in-requires : goal.spread_in-requires
 spread_in-requires g c =
     let ap' = map g.I.Index.value c.args.a_p.now in let ai = map g.I.Index.value c.args.a_i.now in let i = c.columns.invariant in
     let past = c.past_column.ensures.past in let most = c.max-past.ensures in record {
-      ready = (
+      ready = rw c.cell_at-end.ensures.is (
         record { n = c.args.size; ap = ap'; ai = ai },
         c.max-past.result,
         ready c.args.size ap' ai c.requires.input.lower c.args.degrees.now c.requires.degrees c.columns.j c.max-past.result c.columns.end
@@ -78,13 +74,13 @@ columns-preserved g c =
     λ k e. let all = c.past_column.ensures.all k e in omega (arith, all, most) in
     let laid = c.push_until.ensures.laid _ _ i.laid in record {
       reach = omega (arith, past, most);
-      end = next_end n ap' ai c.requires.input.lower c.args.degrees.now c.requires.degrees c.columns.j c.columns.end c.columns-test.true
-          i.end;
+      end = rw c.cell_at-end.ensures.is (next_end n ap' ai c.requires.input.lower c.args.degrees.now c.requires.degrees c.columns.j c.columns.end c.columns-test.true
+          i.end);
       capacity = (let x = i.capacity in let y = c.push_until.ensures.capacity in let z = c.spread_in.ensures.capacity in
           omega (arith, x, y, z));
       laid = lays_column n ap' ai c.requires.input.lower c.max-past.result c.columns.j c.columns.next c.spread_in.new.next
           c.push_until.new.iw.items c.spread_in.new.iw.items c.columns-test.true within c.spread_in.ensures.long laid
-          (c.spread_in.ensures.after (record { n = n; ap = ap'; ai = ai }) c.max-past.result
+          ((rw c.cell_at-end.ensures.is at c.spread_in.ensures.after) (record { n = n; ap = ap'; ai = ai }) c.max-past.result
           (ready n ap' ai c.requires.input.lower c.args.degrees.now c.requires.degrees c.columns.j c.max-past.result c.columns.end
           c.columns-test.true i.end (omega (arith, past, most)) within _ _ c.columns.next c.push_until.new.iw.items laid
           c.requires.fits.0 c.requires.fits.1));

@@ -7,14 +7,9 @@ use Rattle.amd_workspace.proofs.LowerWords.{degree_is, list_room}
 use Rattle.amd_workspace.proofs.LaidRows.{lays_row}
 use Rattle.amd_workspace.proofs.lower.push_until.Goals as goal
 
-pub bounds-degrees-row : goal.bounds-degrees-row
+pub cell_at-requires : goal.cell_at-requires
 unfolding graph_of
-bounds-degrees-row g c = let a = c.requires.degrees.size in let b = c.rows-test.true in let d = c.requires.rows.1 in omega (arith, a, b, d)
-
-pub offset_bounds-degrees-row : goal.offset_bounds-degrees-row
-unfolding graph_of
-offset_bounds-degrees-row g c = let a = c.requires.degrees.size in let b = c.rows-test.true in let d = c.requires.rows.1 in
-    omega (arith, a, b, d, c.well_formed)
+cell_at-requires g c = let a = c.requires.degrees.size in let b = c.rows-test.true in let d = c.requires.rows.1 in omega (arith, a, b, d)
 
 pub push_list-requires-clause-row : goal.push_list-requires-clause-row
 push_list-requires-clause-row g c = let b = c.rows-test.true in let d = c.requires.rows.1 in omega (arith, b, d)
@@ -22,7 +17,7 @@ push_list-requires-clause-row g c = let b = c.rows-test.true in let d = c.requir
 pub push_list-requires-clause-degree : goal.push_list-requires-clause-degree
 push_list-requires-clause-degree g c = let b = c.rows-test.true in let all = c.requires.rows.1 in
     let d = degree_is c.args.size (map g.I.Index.value c.args.a_p.now) (map g.I.Index.value c.args.a_i.now) c.requires.input.lower
-    c.args.degrees.now c.requires.degrees c.rows.row (omega (arith, b, all)) in omega (arith, d)
+    c.args.degrees.now c.requires.degrees c.rows.row (omega (arith, b, all)) in let is = c.cell_at.ensures.is in omega (arith, d, is)
 
 pub push_list-requires-clause-room : goal.push_list-requires-clause-room
 push_list-requires-clause-room g c = let b = c.rows-test.true in let all = c.requires.rows.1 in
@@ -30,15 +25,15 @@ push_list-requires-clause-room g c = let b = c.rows-test.true in let all = c.req
     let room = c.requires.room in
     let d = list_room c.args.size (map g.I.Index.value c.args.a_p.now) (map g.I.Index.value c.args.a_i.now) c.requires.input.lower
     c.args.degrees.now c.requires.degrees c.rows.row (length c.rows.iw.items) (omega (arith, b, all)) long in
-    omega (arith, d, wide, room)
+    let is = c.cell_at.ensures.is in omega (arith, d, wide, room, is)
 
 pub rows-preserved : goal.rows-preserved
 rows-preserved g c = let b = c.rows-test.true in let all = c.requires.rows.1 in
     let ap' = map g.I.Index.value c.args.a_p.now in let ai = map g.I.Index.value c.args.a_i.now in let i = c.rows.invariant in record {
       laid = λ early next h. subst (LaysRows c.args.size ap' ai (c.rows.row + 1) early next) (sym c.push_list.ensures.items)
-          (lays_row c.args.size ap' ai c.requires.input.lower c.rows.row (num c.args.degrees.now c.rows.row) early next c.rows.iw.items
+          (rw c.cell_at.ensures.is (lays_row c.args.size ap' ai c.requires.input.lower c.rows.row (num c.args.degrees.now c.rows.row) early next c.rows.iw.items
           (omega (arith, b, all)) (degree_is c.args.size ap' ai c.requires.input.lower c.args.degrees.now c.requires.degrees c.rows.row
-          (omega (arith, b, all))) (i.laid early next h));
+          (omega (arith, b, all))) (i.laid early next h)));
       capacity = (let x = i.capacity in let y = c.push_list.ensures.capacity in omega (arith, x, y));
     }
 

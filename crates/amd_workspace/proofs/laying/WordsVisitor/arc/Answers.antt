@@ -1,5 +1,6 @@
-use Rattle.std.proofs.Common.{arith, refl, ap, ◌∙◌, length, get_or, pos}
+use Rattle.std.proofs.Common.{◌∷◌, [], arith, refl, ap, ◌∙◌, length, get_or, pos}
 use Rattle.std.proofs.lemmas.List.{length-set}
+use Rattle.std.specs.Vec.{vec_capacity}
 use Rattle.amd_workspace.proofs.Layings.{appended, lay_in, lays_more, moved_on}
 use Rattle.amd_workspace.proofs.laying.WordsVisitor.arc.Goals as goal
 
@@ -31,4 +32,4 @@ returns-clause-kept g c =
     let l = c.args.self.now in let place = get_or l.next.items c.args.i 0 in
     let iw_is = appended l.next.items c.deref_mut.result.now l.iw.items c.deref_mut-2.result.now c.append.new.iw c.args.i c.args.j l.iw.len
     c.deref_mut.ensures.value c.deref_mut-2.ensures.value c.append.ensures.words (let b = l.iw.ok.0 in omega (arith, b)) in
-    ap length iw_is ∙ length-set l.iw.items place (pos c.args.j)
+    ap (λ k. k ∷ vec_capacity l.next ∷ vec_capacity l.iw ∷ []) (ap length iw_is ∙ length-set l.iw.items place (pos c.args.j))

@@ -1,5 +1,6 @@
-use Rattle.std.proofs.Common.{◌++◌, arith, refl, ap, ◌∙◌, length, get_or, set, take, drop, pos}
+use Rattle.std.proofs.Common.{◌∷◌, [], ◌++◌, arith, refl, ap, ◌∙◌, length, get_or, set, take, drop, pos}
 use Rattle.std.proofs.lemmas.List.{length-set}
+use Rattle.std.specs.Vec.{vec_capacity}
 use Rattle.amd_workspace.proofs.Layings.{appended, other_in, own_in, run_long, run_more, written, moved_on}
 use Rattle.amd_workspace.proofs.laying.WordsVisitor.edge.Goals as goal
 
@@ -70,4 +71,4 @@ returns-clause-kept g c =
     (drop (length c.put_row.new.words) (take l.iw.len (c.append.new.iw ++ drop (length c.append.new.iw) l.iw.items))) l.iw.len
     (c.put_row.ensures ∙ ap (λ xs. set xs c.args.mark (pos c.args.i)) (c.deref_mut-3.ensures.value ∙ first))
     (let b = l.iw.ok.0 in omega (arith, one, two, b)) in
-    ap length iw_is ∙ two ∙ one
+    ap (λ k. k ∷ vec_capacity l.next ∷ vec_capacity l.iw ∷ []) (ap length iw_is ∙ two ∙ one)

@@ -1,21 +1,25 @@
 use Rattle.std.proofs.Common.{◌++◌, ◌∷◌, [], arith, ap, length, ◌∙◌, w64, to_z, of_z}
 use Rattle.std.proofs.lemmas.List.{length-replicate, replicate_more}
-use Rattle.amd_workspace.proofs.filling.words.Goals as goal
+use Rattle.std.specs.Vec.{vec_capacity}
+use Rattle.amd_workspace.proofs.filling.fill_words.Goals as goal
 
 pub push_reserved-requires : goal.push_reserved-requires
 push_reserved-requires g c =
     let i = c.words.invariant in let long = length-replicate c.words.counter (to_z w64 (of_z w64 c.args.number)) in
-    let same = ap length i.items in let room = i.room in let len = c.words.list.ok.0 in
-    omega (arith, long, same, room, len)
+    let same = ap length i.items in let room = i.room in let wide = c.requires.room in let len = c.words.own.ok.0 in
+    omega (arith, long, same, room, wide, len)
 
 pub words-preserved : goal.words-preserved
 words-preserved g c =
     let i = c.words.invariant in let e = c.push_reserved.ensures in record {
-      room = (let x = i.room in let y = e.capacity in omega (arith, x, y));
-      items = e.items ∙ ap (λ x. c.words.list.items ++ x ∷ []) c.word_of.ensures
+      room = e.capacity ∙ i.room;
+      items = e.items ∙ ap (λ x. c.words.own.items ++ x ∷ []) c.word_of.ensures
           ∙ ap (λ xs. xs ++ (to_z w64 (of_z w64 c.args.number)) ∷ []) i.items
           ∙ replicate_more c.words.counter (to_z w64 (of_z w64 c.args.number));
     }
 
 pub words-init : goal.words-init
-words-init g c = record { room = c.in_ok-list.ensures.capacity; items = c.in_ok-list.ensures.items }
+words-init g c = record {
+  room = c.clear.ensures.capacity ∙ ap vec_capacity c.replace-own.ensures.value;
+  items = c.clear.ensures.items;
+}
