@@ -103,6 +103,7 @@ fn start<S: Signed, P: Signed, U: Unsigned>(
         StandsAtStart (option_copied hold.entry) threshold iw pe.old len.old
         (workspace_in iw pe.new e_len.new nv.new len.new degree.new w.new head.new (nexts sides.new) (lasts sides.new)
         hash result) }
+    ensures unpacked { result.n_cmp_a ≡ 0 }
 {
     let (live, n_dense) = begin(len, pe, e_len, nv, degree, w, head, sides, hold, threshold);
     Numbers {
@@ -260,7 +261,7 @@ fn grow<S: Signed, A: Allocator>(iw: &mut Vec<Word<S>, A>, free: usize, live: us
 }
 
 /// As `run`, in a workspace that grows up to `room` words where there is no room for a new element: the result is the
-/// same as with so many words from the start.
+/// same as with so many words from the start. It is compacted only where it has all its words.
 ///
 /// The vector has capacity for `room` words, which the widths hold, and `n` words or more follow the lists.
 ///
@@ -295,6 +296,7 @@ pub fn run_growing<S: Signed, P: Signed, U: Unsigned, A: Allocator>(
     ensures runs { RunsInPlace (option_copied hold.entry) threshold control.now.aggressive iw.old.items pe.old len.old
         result.n_dense result.figures pe.new e_len.new nv.new degree.new }
     ensures packs { result.n_cmp_a ≤ length len.old }
+    ensures unpacked { length iw.new.items < room → result.n_cmp_a ≡ 0 }
     ensures capacity { vec_capacity iw.old ≤ vec_capacity iw.new }
     ensures over { AreOver (length len.old) pe.new e_len.new nv.new degree.new w.new head.new hash.new }
 {

@@ -1,5 +1,5 @@
-use Rattle.std.proofs.Common.{◌≡◌, ap, arith, drop, length, sym, ◌∙◌}
-use Rattle.std.proofs.lemmas.List.{take_at}
+use Rattle.std.proofs.Common.{ℕ, ◌≡◌, ◌<◌, ◌+◌, ap, arith, drop, length, sym, ◌∙◌}
+use Rattle.std.proofs.lemmas.List.{take_at, length-append}
 use Rattle.std.specs.Option.{option_copied}
 use Rattle.amd_model.specs.Run.{last_state}
 use Rattle.amd_model.specs.Input.Held.{is_held_last}
@@ -31,6 +31,7 @@ growths-init g c = let r = c.requires in let s = c.start-numbers.new in record {
     rounds_none,
   );
   room = (r.room.1, r.room.2);
+  unpacked = λ short. c.start-numbers.ensures.unpacked;
   capacity = omega arith;
 }
 
@@ -56,6 +57,13 @@ advance-numbers-requires-clause-stands g c =
     let w = (stands g (goal.at.advance-numbers-requires-clause-stands g c).At-growths).0 in let more = c.grow.ensures.words in
     rw (c.deref_mut.ensures.value, more.1) (w.0, w.1, w.2, w.3, w.4, stands_grown w.5 more.0)
 
+-- words that are too few are so under the name by which they are lent, and were so before they grew
+lent_short : (count lent grown room : ℕ) → count < room → count ≡ grown → lent ≡ grown → lent < room
+lent_short count lent grown room short long same = omega (arith, short, long, same)
+
+grown_short : (count grown old more room : ℕ) → count < room → count ≡ grown → grown ≡ old + more → old < room
+grown_short count grown old more room short long sum = omega (arith, short, long, sum)
+
 pub growths-preserved : goal.growths-preserved
 growths-preserved g c =
     let i = c.growths.invariant in let more = c.grow.ensures.words in let new = c.advance-numbers.new in
@@ -68,6 +76,9 @@ growths-preserved g c =
         let a = c.grow.ensures.long in omega (arith, a, long),
         let a = i.room.1 in let b = c.grow.ensures.capacity in omega (arith, a, b),
       );
+      unpacked = λ short.
+          c.advance-numbers.ensures.unpacked (lent_short _ _ _ c.args.room short long (ap length c.deref_mut.ensures.value))
+          ∙ i.unpacked (grown_short _ _ _ _ c.args.room short long (ap length more.1 ∙ length-append c.growths.iw.items more.0));
       capacity = (let a = i.capacity in let b = c.grow.ensures.capacity in omega (arith, a, b));
     })
 

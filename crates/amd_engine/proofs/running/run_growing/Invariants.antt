@@ -1,4 +1,4 @@
-use Rattle.std.specs.Prelude.{◌≤◌, length}
+use Rattle.std.specs.Prelude.{◌≡◌, ◌<◌, ◌≤◌, length}
 use Rattle.std.specs.Option.{option_copied}
 use Rattle.std.specs.Vec.{vec_capacity}
 use Rattle.amd_words.specs.Sides.{nexts, lasts}
@@ -14,6 +14,7 @@ invariant-growths g l = record {
       × AreRounds l.control.aggressive before (workspace_in l.iw.items l.pe l.e_len l.nv l.len l.degree l.w l.head (nexts l.sides)
       (lasts l.sides) l.hash l.numbers);
   room : (length l.iw.items ≤ l.room) × (l.room ≤ vec_capacity l.iw);
+  unpacked : length l.iw.items < l.room → l.numbers.n_cmp_a ≡ 0;
   capacity : vec_capacity l.fn.iw ≤ vec_capacity l.iw;
 }
 

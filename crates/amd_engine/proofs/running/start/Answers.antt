@@ -51,4 +51,5 @@ returns g c = record {
       fresh_at_start v (e.lengths.0, e.lengths.1, e.lengths.2, hash_long) e.linked empty e.live e.dense c.first_figures.ensures
       refl refl refl c.requires.flag room in
       stands_start (option_copied a.hold) a.threshold p v e.begins fresh laid gr lists lays;
+  unpacked = refl;
 }
