@@ -2,4 +2,5 @@ pub mod SamePairs
 pub mod Orderings
 pub mod OneAnswer
 pub mod OrderedColumns
-pub mod Ready
+pub mod CountedDegrees
+pub mod Rooms

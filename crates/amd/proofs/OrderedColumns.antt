@@ -1,24 +1,18 @@
--- The columns by which an input is ordered: its own where it is sorted, else those of its transpose. An ordering by these columns
--- is one of the input.
-use Rattle.std.proofs.Common.{ℕ, ℤ, List, Bool, pos, negsuc, ◌≡◌, ◌≢◌, map, refl, sym, ap, subst}
-use Rattle.std.specs.Prelude.{unsigned_abs, Option, None, Some, IsSomeAnd, MatchOption, Result, Ok, Err, IfOk, IfErr, IsErrAnd}
-use Rattle.amd_model.specs.Input.Columns.{IsInput, IsSortedInput}
+-- What the status of an input says: by which columns it is ordered, and with what it is refused. An ordering by these columns is one of
+-- the input.
+use Rattle.std.proofs.Common.{ℕ, ℤ, List, Bool, pos, ◌≡◌, ◌≢◌, refl, sym, ap, subst, inl, inr}
+use Rattle.std.specs.Prelude.{unsigned_abs, Option, None, Some, Result, Ok, Err, IfOk, IfErr, IsErrAnd, ◌⊎◌, true, false}
+use Rattle.std.specs.Option.{is_some}
+use Rattle.amd_model.specs.Input.Columns.{IsColumnForm, IsInput, IsSorted}
+use Rattle.num_traits.specs.Laws.{Checks}
 use Rattle.amd_model.specs.Input.Held.{HasMarks}
-use Rattle.amd_model.specs.Input.Pattern.{is_pair}
-use Rattle.amd_input.specs.Transposes.{IsCleanTranspose}
 use Rattle.amd_types.specs.Statuses.{IsStatusOf}
 use Rattle.amd_types.specs.declared.amd.Info.{Info}
 use Rattle.amd_types.specs.declared.amd.Status.{Status}
 use Rattle.amd_types.specs.declared.amd.Status.TheVariants.{OK, Invalid, OkButJumbled, OutOfMemory}
 use Rattle.amd.specs.Answers.{OrdersMatrix, IsOrderingHolding, IsInputHolding, IsRefusalHolding, ordered_pairs, refusal_of}
-use Rattle.amd.proofs.Orderings.{orders_turned}
-
--- the columns by which an input of this status is ordered
-abbrev pub AreOrdered : Status → ℤ → List ℤ → List ℤ → List ℤ → List ℤ → Type 0
-AreOrdered OK z a_p a_i c_p c_i = (c_p ≡ a_p) × (c_i ≡ a_i)
-AreOrdered Invalid z a_p a_i c_p c_i = ⊥
-AreOrdered OkButJumbled z a_p a_i c_p c_i = IsCleanTranspose z a_p a_i c_p c_i
-AreOrdered OutOfMemory z a_p a_i c_p c_i = ⊥
+use Rattle.amd.specs.Within.{jumbled_by, pairs_by}
+use Rattle.amd_input.proofs.PatternLemmas.{input_form, input_sorted}
 
 -- what is known of an input once it has a status
 pub record HasStatus (hold : Option (List Bool)) (z : ℤ) (a_p a_i : List ℤ) (status : Status) : Type 0 where
@@ -42,30 +36,6 @@ valid_form hold z a_p a_i Invalid h valid = absurd (valid refl)
 valid_form hold z a_p a_i OkButJumbled h valid = (h.is (h.marks valid)).0
 valid_form hold z a_p a_i OutOfMemory h valid = absurd (h.is (h.marks valid))
 
--- what two facts of an option give
-matched : {T : Type 0} (t : Option T) (P Q : T → Type 0) (N R : Type 0) → IsSomeAnd t P → MatchOption t N Q →
-    ((c : T) → P c → Q c → R) → R
-matched None P Q N R p q both = absurd p
-matched (Some c) P Q N R p q both = both c p q
-
--- the columns of the transpose where there is one, else those of the input
-are_ordered : {T : Type 0} (status : Status) (t : Option T) (z : ℤ) (a_p a_i c_p c_i : List ℤ) (Clean Same : T → Type 0)
-    (Own : Type 0) → status ≢ Invalid → status ≢ OutOfMemory → (status ≡ OK → t ≡ None) → (status ≡ OkButJumbled → IsSomeAnd t Clean) →
-    MatchOption t Own Same → (Own → (c_p ≡ a_p) × (c_i ≡ a_i)) →
-    ((c : T) → Clean c → Same c → IsCleanTranspose z a_p a_i c_p c_i) → AreOrdered status z a_p a_i c_p c_i
-are_ordered OK t z a_p a_i c_p c_i Clean Same Own valid known sorted jumbled taken own turned =
-    own (subst (λ o. MatchOption o Own Same) (sorted refl) taken)
-are_ordered Invalid t z a_p a_i c_p c_i Clean Same Own valid known sorted jumbled taken own turned = absurd (valid refl)
-are_ordered OkButJumbled t z a_p a_i c_p c_i Clean Same Own valid known sorted jumbled taken own turned =
-    matched t Clean Same Own (IsCleanTranspose z a_p a_i c_p c_i) (jumbled refl) taken turned
-are_ordered OutOfMemory t z a_p a_i c_p c_i Clean Same Own valid known sorted jumbled taken own turned = absurd (known refl)
-
--- what is known once a status was found and the columns were taken by it
-pub record IsTaken (hold : Option (List Bool)) (z : ℤ) (a_p a_i c_p c_i : List ℤ) (status : Status) : Type 0 where
-  pub has : HasStatus hold z a_p a_i status
-  pub valid : status ≢ Invalid
-  pub columns : AreOrdered status z a_p a_i c_p c_i
-
 -- a number that is a count other than 0 is not 0
 not_nothing : (count : ℕ) (z : ℤ) → pos count ≡ z → count ≢ 0 → z ≢ pos 0
 not_nothing count z is some e = let zero : count ≡ 0 = cc in some zero
@@ -83,17 +53,6 @@ has_status hold count z a_p a_i status is some marks status_is = record {
   some = not_nothing count z is some;
   marks = λ v. marks_for hold count z is (marks v);
   is = λ m. status_is (marks_back hold count z is m);
-}
-
-taken : {T : Type 0} (hold : Option (List Bool)) (z : ℤ) (a_p a_i c_p c_i : List ℤ) (status : Status) → HasStatus hold z a_p a_i status →
-    (t : Option T) (Clean Same : T → Type 0) (Own : Type 0) → status ≢ Invalid → (status ≡ OK → t ≡ None) →
-    (status ≡ OkButJumbled → IsSomeAnd t Clean) → MatchOption t Own Same → (Own → (c_p ≡ a_p) × (c_i ≡ a_i)) →
-    ((c : T) → Clean c → Same c → IsCleanTranspose z a_p a_i c_p c_i) → IsTaken hold z a_p a_i c_p c_i status
-taken hold z a_p a_i c_p c_i status has t Clean Same Own valid sorted jumbled from own turned = record {
-  has = has;
-  valid = valid;
-  columns = are_ordered status t z a_p a_i c_p c_i Clean Same Own valid (not_memory hold z a_p a_i status has) sorted jumbled from own
-      turned;
 }
 
 -- an input with marks
@@ -134,67 +93,83 @@ refused_by hold z a_p a_i Invalid e h is = subst (IsRefusalHolding hold z a_p a_
 refused_by hold z a_p a_i OkButJumbled e h is = refused hold z a_p a_i OkButJumbled e h (λ i. cc) is
 refused_by hold z a_p a_i OutOfMemory e h is = refused hold z a_p a_i OutOfMemory e h (λ i. cc) is
 
--- the transpose under other names
-pub clean_same : (z : ℤ) (a_p a_i b_p b_i c_p c_i : List ℤ) → IsCleanTranspose z a_p a_i b_p b_i → c_p ≡ b_p → c_i ≡ b_i →
-    IsCleanTranspose z a_p a_i c_p c_i
-clean_same z a_p a_i b_p b_i c_p c_i clean x y = subst (λ xs. IsCleanTranspose z a_p a_i xs c_i) (sym x)
-    (subst (λ xs. IsCleanTranspose z a_p a_i b_p xs) (sym y) clean)
+-- the status of a column form says which pairs order it
+pub pairs_ordered : (status : Status) (jumbled : Bool) → jumbled_by status ≡ Some jumbled → (n : ℕ) (a_p a_i : List ℤ) →
+    pairs_by jumbled n a_p a_i ≡ ordered_pairs status n a_p a_i
+pairs_ordered OK false is n a_p a_i = refl
+pairs_ordered OK true is n a_p a_i = cc
+pairs_ordered Invalid jumbled is n a_p a_i = cc
+pairs_ordered OkButJumbled false is n a_p a_i = cc
+pairs_ordered OkButJumbled true is n a_p a_i = refl
+pairs_ordered OutOfMemory jumbled is n a_p a_i = cc
 
--- the columns that were taken, as lists of the caller's numbers
-pub columns_taken : {T I : Type 0} (value : I → ℤ) (hold : Option (List Bool)) (z : ℤ) (own_p own_i got_p got_i : List I)
-    (status : Status) → HasStatus hold z (map value own_p) (map value own_i) status → (t : Option T) (first second : T → List I) →
-    status ≢ Invalid → (status ≡ OK → t ≡ None) →
-    (status ≡ OkButJumbled → IsSomeAnd t (λ c. IsCleanTranspose z (map value own_p) (map value own_i) (map value (first c))
-    (map value (second c)))) →
-    MatchOption t ((got_p ≡ own_p) × (got_i ≡ own_i)) (λ c. (got_p ≡ first c) × (got_i ≡ second c)) →
-    IsTaken hold z (map value own_p) (map value own_i) (map value got_p) (map value got_i) status
-columns_taken value hold z own_p own_i got_p got_i status has t first second valid sorted jumbled from =
-    taken hold z (map value own_p) (map value own_i) (map value got_p) (map value got_i) status has t
-    (λ c. IsCleanTranspose z (map value own_p) (map value own_i) (map value (first c)) (map value (second c)))
-    (λ c. (got_p ≡ first c) × (got_i ≡ second c)) ((got_p ≡ own_p) × (got_i ≡ own_i)) valid sorted jumbled from
-    (λ own. (ap (map value) own.0, ap (map value) own.1))
-    (λ c clean same. clean_same z (map value own_p) (map value own_i) (map value (first c)) (map value (second c)) (map value got_p)
-    (map value got_i) clean (ap (map value) same.0) (ap (map value) same.1))
+-- one that is no column form is not jumbled, and one that is says so
+pub not_jumbled : (status : Status) → jumbled_by status ≡ None → (status ≡ Invalid) ⊎ (status ≡ OutOfMemory)
+not_jumbled OK is = cc
+not_jumbled Invalid is = inl refl
+not_jumbled OkButJumbled is = cc
+not_jumbled OutOfMemory is = inr refl
 
-clean_form : (z : ℤ) (a_p a_i c_p c_i : List ℤ) → IsCleanTranspose z a_p a_i c_p c_i → IsInput z z c_p c_i × IsSortedInput z c_p c_i
-clean_form (pos k) a_p a_i c_p c_i clean = (clean.form, clean.sorted)
-clean_form (negsuc k) a_p a_i c_p c_i clean = absurd clean
+pub jumbled_valid : (status : Status) (jumbled : Bool) → jumbled_by status ≡ Some jumbled → status ≢ Invalid
+jumbled_valid OK jumbled is = λ e. cc
+jumbled_valid Invalid jumbled is = λ e. cc
+jumbled_valid OkButJumbled jumbled is = λ e. cc
+jumbled_valid OutOfMemory jumbled is = λ e. cc
 
--- they are a column form with sorted columns
-pub ordered_form : (hold : Option (List Bool)) (z : ℤ) (a_p a_i c_p c_i : List ℤ) (status : Status) → HasStatus hold z a_p a_i status →
-    AreOrdered status z a_p a_i c_p c_i → IsInput z z c_p c_i × IsSortedInput z c_p c_i
-ordered_form hold z a_p a_i c_p c_i OK h same =
-    subst (λ xs. IsInput z z xs c_i × IsSortedInput z xs c_i) (sym same.0)
-    (subst (λ xs. IsInput z z a_p xs × IsSortedInput z a_p xs) (sym same.1) (h.is (h.marks (λ i. cc))))
-ordered_form hold z a_p a_i c_p c_i Invalid h same = absurd same
-ordered_form hold z a_p a_i c_p c_i OkButJumbled h clean = clean_form z a_p a_i c_p c_i clean
-ordered_form hold z a_p a_i c_p c_i OutOfMemory h same = absurd same
+pub some_valid : (status : Status) → is_some (jumbled_by status) ≡ true → status ≢ Invalid
+some_valid OK is = λ e. cc
+some_valid Invalid is = λ e. cc
+some_valid OkButJumbled is = λ e. cc
+some_valid OutOfMemory is = λ e. cc
 
--- an ordering by them is one of the input
-orders : (hold : Option (List Bool)) (z t : ℤ) (aggressive : Bool) (a_p a_i c_p c_i p q : List ℤ) (info : Info) (status : Status) →
-    AreOrdered status z a_p a_i c_p c_i → info.status ≡ OK →
-    OrdersMatrix hold (unsigned_abs z) t aggressive (is_pair (unsigned_abs z) c_p c_i) c_p c_i p q info →
-    OrdersMatrix hold (unsigned_abs z) t aggressive (ordered_pairs status (unsigned_abs z) a_p a_i) a_p a_i p q
-    (record info { status = status })
-orders hold z t aggressive a_p a_i c_p c_i p q info OK same told o =
-    let n : ℕ = unsigned_abs z in
-    let here = subst (λ xs. OrdersMatrix hold n t aggressive (is_pair n xs a_i) xs a_i p q info) same.0
-    (subst (λ xs. OrdersMatrix hold n t aggressive (is_pair n c_p xs) c_p xs p q info) same.1 o) in
-    subst (OrdersMatrix hold n t aggressive (is_pair n a_p a_i) a_p a_i p q) (ap (λ s. record info { status = s }) told) here
-orders hold z t aggressive a_p a_i c_p c_i p q info Invalid same told o = absurd same
-orders hold z t aggressive a_p a_i c_p c_i p q info OkButJumbled clean told o =
-    orders_turned hold z t aggressive a_p a_i c_p c_i p q info OkButJumbled clean o
-orders hold z t aggressive a_p a_i c_p c_i p q info OutOfMemory same told o = absurd same
+pub sorted_status : (status : Status) → jumbled_by status ≡ Some false → status ≡ OK
+sorted_status OK is = refl
+sorted_status Invalid is = cc
+sorted_status OkButJumbled is = cc
+sorted_status OutOfMemory is = cc
 
-pub ordering : (hold : Option (List Bool)) (z t : ℤ) (aggressive : Bool) (a_p a_i c_p c_i p q : List ℤ) (info : Info) (status : Status) →
-    HasStatus hold z a_p a_i status → status ≢ Invalid → AreOrdered status z a_p a_i c_p c_i → info.status ≡ OK →
-    OrdersMatrix hold (unsigned_abs z) t aggressive (is_pair (unsigned_abs z) c_p c_i) c_p c_i p q info →
-    IsOrderingHolding hold z t aggressive a_p a_i p q (record info { status = status })
-ordering hold z t aggressive a_p a_i c_p c_i p q info status h valid columns told o =
-    let marks = h.marks valid in record {
+-- the form of an input with a status, by its number of rows
+pub status_form : (hold : Option (List Bool)) (n : ℕ) (z : ℤ) (a_p a_i : List ℤ) (status : Status) → pos n ≡ z →
+    HasStatus hold z a_p a_i status → status ≢ Invalid → IsColumnForm (pos n) n a_p a_i
+status_form hold n z a_p a_i status is h valid =
+    subst (λ m. IsColumnForm (pos m) m a_p a_i) (sym (ap unsigned_abs is))
+    (input_form z a_p a_i (valid_form hold z a_p a_i status h valid))
+
+-- and that its columns are sorted where it is not jumbled
+pub status_sorted : (hold : Option (List Bool)) (n : ℕ) (z : ℤ) (a_p a_i : List ℤ) (status : Status) → pos n ≡ z →
+    HasStatus hold z a_p a_i status → jumbled_by status ≡ Some false → IsSorted n a_p a_i
+status_sorted hold n z a_p a_i status is h sorted =
+    let ok : status ≡ OK = sorted_status status sorted in
+    let here : HasStatus hold z a_p a_i OK = subst (HasStatus hold z a_p a_i) ok h in
+    subst (λ m. IsSorted m a_p a_i) (sym (ap unsigned_abs is)) (input_sorted z a_p a_i (here.is (here.marks (λ e. cc))).1)
+
+-- an ordering by the pairs that its status says is one of the input
+pub ordering : (hold : Option (List Bool)) (n : ℕ) (z t : ℤ) (aggressive jumbled : Bool) (a_p a_i p q : List ℤ) (info : Info)
+    (status : Status) → pos n ≡ z → HasStatus hold z a_p a_i status → jumbled_by status ≡ Some jumbled → info.status ≡ status →
+    OrdersMatrix hold n t aggressive (pairs_by jumbled n a_p a_i) a_p a_i p q info →
+    IsOrderingHolding hold z t aggressive a_p a_i p q info
+ordering hold n z t aggressive jumbled a_p a_i p q info status is h by told o =
+    let valid : status ≢ Invalid = jumbled_valid status jumbled by in
+    let marks = h.marks valid in
+    let here : OrdersMatrix hold n t aggressive (ordered_pairs info.status n a_p a_i) a_p a_i p q info =
+    subst (λ s. OrdersMatrix hold n t aggressive (ordered_pairs s n a_p a_i) a_p a_i p q info) (sym told)
+    (subst (λ pair. OrdersMatrix hold n t aggressive pair a_p a_i p q info) (pairs_ordered status jumbled by n a_p a_i) o) in
+    record {
       nothing = λ e. absurd (h.some e);
       form = λ _. valid_form hold z a_p a_i status h valid;
       marks = λ _. marks;
-      status = λ _. h.is marks;
-      orders = λ _. orders hold z t aggressive a_p a_i c_p c_i p q info status columns told o;
+      status = λ _. subst (IsStatusOf z z a_p a_i) (sym told) (h.is marks);
+      orders = λ _. subst (λ m. OrdersMatrix hold m t aggressive (ordered_pairs info.status m a_p a_i) a_p a_i p q info)
+          (ap unsigned_abs is) here;
     }
+
+-- what a checked number says where there is one
+pub checked_fits : {T : Type 0} (value : T → ℤ) (fits : ℤ → Type 0) (z : ℤ) (r : Option T) → Checks value fits z r → is_some r ≡ true →
+    fits z
+checked_fits value fits z None checks is = cc
+checked_fits value fits z (Some y) checks is = checks.0
+
+-- what holds of a result where it is one gives what follows from it
+pub ok_gives : {T E : Type 0} {P Q : T → Type 0} (r : Result T E) → ((a : T) → P a → Q a) → IfOk r P → IfOk r Q
+ok_gives (Ok a) follows is = follows a is
+ok_gives (Err e) follows is = tt

@@ -27,35 +27,22 @@ use Rattle.amd_types.specs.declared.amd.Info.{Info}
 use Rattle.amd_types.specs.declared.amd.Status.{Status}
 use Rattle.amd.specs.Answers.{OrdersMatrix, TellsFigures, Reserves, FillsNothing, DenseStandLast, IsOrderingHolding, HaveEqualFigures}
 use Rattle.amd.specs.Answers.{ordered_pairs}
-use Rattle.amd_input.specs.Transposes.{IsCleanTranspose}
+use Rattle.amd_input.specs.Transposes.{IsCleanForm}
 use Rattle.amd_input.specs.PatternFigures.{HasPatternFigures}
 use Rattle.amd_input.specs.Degrees.{AreDegrees}
 use Rattle.amd.proofs.SamePairs.{figures_turned, graph_turned, graph_same, pairs_same, pairs_turned}
 use Rattle.amd_edges.proofs.Places.{funext2}
 
--- an ordering of the transpose is one of the matrix, whatever status its record gets
-pub orders_turned : (hold : Option (List Bool)) (n t : ℤ) (aggressive : Bool) (a_p a_i b_p b_i p q : List ℤ) (info : Info)
-    (status : Status) → IsCleanTranspose n a_p a_i b_p b_i →
-    OrdersMatrix hold (unsigned_abs n) t aggressive (is_pair (unsigned_abs n) b_p b_i) b_p b_i p q info →
-    OrdersMatrix hold (unsigned_abs n) t aggressive (λ i j. is_pair (unsigned_abs n) a_p a_i j i) a_p a_i p q
-    (record info { status = status })
-orders_turned hold (pos n) t aggressive a_p a_i b_p b_i p q info status clean o =
-    let f = figures_turned n a_p a_i b_p b_i info clean.transpose o.figures in
+-- an ordering of the transpose is one of the matrix
+pub orders_turned : (hold : Option (List Bool)) (n : ℕ) (t : ℤ) (aggressive : Bool) (a_p a_i b_p b_i p q : List ℤ) (info : Info) →
+    IsCleanForm n a_p a_i b_p b_i → OrdersMatrix hold n t aggressive (is_pair n b_p b_i) b_p b_i p q info →
+    OrdersMatrix hold n t aggressive (λ i j. is_pair n a_p a_i j i) a_p a_i p q info
+orders_turned hold n t aggressive a_p a_i b_p b_i p q info clean o =
     let same : graph_of n b_p b_i ≡ graph_of n a_p a_i = graph_turned n a_p a_i b_p b_i clean.transpose in
     let pairs = funext2 (is_pair n b_p b_i) (λ i j. is_pair n a_p a_i j i) (pairs_turned n a_p a_i b_p b_i clean.transpose) in
-    let told = subst (λ g. TellsFigures g (is_held_last hold g o.threshold) (last_state o.first o.states) info) same o.told in
-    let reserves = subst (λ g. Reserves g o.rows info) same o.reserves in
-    let forest = subst (λ g. IsForest g → info.n_dense ≡ 0 → FillsNothing g o.rows info) same o.forest in
     record {
       inverse = o.inverse;
-      figures = record {
-        size = f.size;
-        entries = f.entries;
-        diagonal = f.diagonal;
-        off_diagonal = f.off_diagonal;
-        symmetric =
-            f.symmetric;
-      };
+      figures = figures_turned n a_p a_i b_p b_i info clean.transpose o.figures;
       compactions = o.compactions;
       threshold = o.threshold;
       is_threshold = o.is_threshold;
@@ -69,30 +56,68 @@ orders_turned hold (pos n) t aggressive a_p a_i b_p b_i p q info status clean o 
           (subst (λ g. IsListingOf g (is_held_last hold g o.threshold) aggressive (starting_list n (is_pair n b_p b_i)) o.first o.states
           o.rows) same o.listing);
       promises = subst (λ g. Promises g (is_held_last hold g o.threshold) o.first o.states o.rows) same o.promises;
-      told = record {
-        lnz = told.lnz;
-        divisions = told.divisions;
-        ldl = told.ldl;
-        lu = told.lu;
-        greatest = told.greatest;
-        lnz_most =
-            told.lnz_most;
-        greatest_most = told.greatest_most;
-      };
-      reserves = record {
-        columns = reserves.columns;
-        factor = reserves.factor;
-        lnz = reserves.lnz;
-        divisions = reserves.divisions;
-        ldl =
-            reserves.ldl;
-        lu = reserves.lu;
-        greatest = reserves.greatest;
-      };
-      forest = λ no_cycle none. (let told = forest no_cycle none in record { count = told.count; entry = told.entry });
+      told = subst (λ g. TellsFigures g (is_held_last hold g o.threshold) (last_state o.first o.states) info) same o.told;
+      reserves = subst (λ g. Reserves g o.rows info) same o.reserves;
+      forest = subst (λ g. IsForest g → info.n_dense ≡ 0 → FillsNothing g o.rows info) same o.forest;
       room = o.room;
     }
-orders_turned hold (negsuc n) t aggressive a_p a_i b_p b_i p q info status clean o = absurd clean
+
+-- what a record tells does not depend on its status
+reserves_still : (g : Graph) (p : List ℕ) (info : Info) (status : Status) → Reserves g p info →
+    Reserves g p (record info { status = status })
+reserves_still g p info status r = record {
+  columns = r.columns;
+  factor = r.factor;
+  lnz = r.lnz;
+  divisions = r.divisions;
+  ldl = r.ldl;
+  lu = r.lu;
+  greatest = r.greatest;
+}
+
+told_still : (g : Graph) (dense : ℕ → Bool) (s : State) (info : Info) (status : Status) → TellsFigures g dense s info →
+    TellsFigures g dense s (record info { status = status })
+told_still g dense s info status told = record {
+  lnz = told.lnz;
+  divisions = told.divisions;
+  ldl = told.ldl;
+  lu = told.lu;
+  greatest = told.greatest;
+  lnz_most = told.lnz_most;
+  greatest_most = told.greatest_most;
+}
+
+-- and so it orders the matrix whatever status it gets
+pub orders_still : (hold : Option (List Bool)) (n : ℕ) (t : ℤ) (aggressive : Bool) (pair : ℕ → ℕ → Bool) (a_p a_i p q : List ℤ)
+    (info : Info) (status : Status) → OrdersMatrix hold n t aggressive pair a_p a_i p q info →
+    OrdersMatrix hold n t aggressive pair a_p a_i p q (record info { status = status })
+orders_still hold n t aggressive pair a_p a_i p q info status o =
+    let f = o.figures in
+    record {
+      inverse = o.inverse;
+      figures = record {
+        size = f.size;
+        entries = f.entries;
+        diagonal = f.diagonal;
+        off_diagonal = f.off_diagonal;
+        symmetric = f.symmetric;
+      };
+      compactions = o.compactions;
+      threshold = o.threshold;
+      is_threshold = o.is_threshold;
+      dense = record { count = o.dense.count; last = o.dense.last };
+      rows = o.rows;
+      listed = o.listed;
+      first = o.first;
+      states = o.states;
+      listing = o.listing;
+      promises = o.promises;
+      told = told_still (graph_of n a_p a_i) (is_held_last hold (graph_of n a_p a_i) o.threshold) (last_state o.first o.states) info status
+          o.told;
+      reserves = reserves_still (graph_of n a_p a_i) o.rows info status o.reserves;
+      forest = λ no_cycle none. (let told = o.forest no_cycle none in record { count = told.count; entry = told.entry });
+      room = o.room;
+    }
 
 -- what was not cut is the same
 not_cut : (x f : ℕ) → x ≤ f → cut f < 18446744073709551615 → x ≤ cut f

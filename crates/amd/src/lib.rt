@@ -1,100 +1,35 @@
 //! An approximate minimum degree ordering of sparse matrices.
 //!
 //! [`order`] takes the pattern of a square matrix by columns and returns a permutation of its rows, its inverse, and
-//! figures. [`order_holding`] does the same with rows that a caller wants last. [`control`] and [`info`] write what a
-//! caller chooses and what the ordering tells, as text.
+//! figures. [`order_holding`] does the same with rows that a caller wants last. A [`Workspace`] is memory that is taken
+//! once: its calls give the same answers, ask for no memory, and refuse nothing but wrong or too large inputs.
+//! [`control`] and [`info`] write what a caller chooses and what the ordering tells, as text.
 #![tactic(auto)]
 
+mod entrance;
 pub mod laws;
+mod once;
+mod refusal;
+mod widths;
+mod within;
+mod workspace;
 
-ghost use Rattle.std.specs.Prelude.{◌≡◌, ◌≢◌, pos, ◌+◌, ◌/◌, ◌^◌, ◌<◌, None, Some, map, unsigned_abs, IfOk, IfErr};
-ghost use Rattle.std.specs.Prelude.{IsSomeAnd, MatchOption};
-ghost use Rattle.std.specs.Option.{SomeIff, option_copied};
-ghost use Rattle.amd_model.specs.Input.Columns.{IsInput};
-ghost use Rattle.amd_model.specs.Input.Held.{HasMarks};
-ghost use Rattle.amd_input.specs.Transposes.{IsCleanTranspose};
-ghost use Rattle.amd_types.specs.Statuses.{IsStatusOf};
-ghost use Rattle.amd.specs.Answers.{IsOrdering, IsOrderingHolding, IsRefusal, IsRefusalHolding, refusal_of};
+ghost use Rattle.std.specs.Prelude.{◌≡◌, Some, map, IfOk, IfErr};
+ghost use Rattle.std.specs.Option.{option_copied};
+ghost use Rattle.amd.specs.Answers.{IsOrdering, IsOrderingHolding, IsRefusal, IsRefusalHolding};
 
-use amd_engine::amd_1::amd_1;
-use amd_input::aat::aat;
-use amd_input::preprocess::preprocess;
-use amd_input::valid::status_of;
+use crate::entrance::{class_of, jumbled_of};
+use crate::once::order_once;
 pub use amd_input::{aat, preprocess, valid};
 pub use amd_texts::{control, info};
 pub use amd_types::amd::{Control, Info, Status};
-use amd_types::index::Index;
+pub use refusal::Refusal;
+pub use workspace::Workspace;
 /// Internal: how the crates over this one read a caller's numbers. It is no part of what the ordering promises.
 pub use amd_types::internal;
 use amd_types::internal::to_count;
 use num_traits::PrimInt;
 use std::alloc::Allocator;
-
-/// The words of a workspace for lists of `nzaat` entries in all, with a fifth more and `n` words of elbow room, where
-/// they are at most `isize::MAX`.
-fn workspace_words(nzaat: usize, n: usize) -> Option<usize>
-    ensures { SomeIff result (nzaat + nzaat / 5 + n < 2 ^ 63) (nzaat + nzaat / 5 + n) }
-{
-    let words = nzaat.checked_add(nzaat / 5)?.checked_add(n)?;
-    if words < 1 << 63 { Some(words) } else { None }
-}
-
-/// The status of an input with marks of rows to hold last: that of the column form, but `Invalid` where there are marks
-/// and not one for each of the `count` rows.
-fn class_of<I: Index>(n: I, count: usize, a_p: &[I], a_i: &[I], hold: Option<&[bool]>) -> Status
-    requires fits { I.fits (I.value n) }
-    requires count { I.value n ≡ pos count }
-    ensures marks { result ≢ Status.Invalid → HasMarks (option_copied hold.entry) count }
-    ensures status { HasMarks (option_copied hold.entry) count →
-        IsStatusOf (I.value n) (I.value n) (map I.value a_p.now) (map I.value a_i.now) result }
-{
-    match hold {
-        Some(marks) if marks.len() != count => Status::Invalid,
-        _ => status_of(n, n, a_p, a_i),
-    }
-}
-
-/// The transpose of a matrix with this status, by which it is ordered where it is jumbled; none where it is sorted.
-fn transpose_of<I: PrimInt, A: Allocator + Copy>(
-    alloc: A,
-    n: I,
-    a_p: &[I],
-    a_i: &[I],
-    status: &Status,
-) -> Result<Option<(Vec<I, A>, Vec<I, A>)>, Status>
-    requires fits { I.fits (I.value n) }
-    requires known { status.now ≢ Status.OutOfMemory }
-    requires form { status.now ≡ Status.OkButJumbled → IsInput (I.value n) (I.value n) (map I.value a_p.now)
-        (map I.value a_i.now) }
-    ensures sorted { status.now ≡ Status.OK → IfOk result (λ t. t ≡ None) }
-    ensures jumbled { status.now ≡ Status.OkButJumbled → IfOk result (λ t. IsSomeAnd t (λ c.
-        IsCleanTranspose (I.value n) (map I.value a_p.now) (map I.value a_i.now) (map I.value c.0.items)
-        (map I.value c.1.items))) }
-    ensures valid { IfOk result (λ t. status.now ≢ Status.Invalid) }
-    ensures refused { IfErr result (λ e. e ≡ refusal_of status.now) }
-{
-    match status {
-        Status::OK => Ok(None),
-        Status::OkButJumbled => Ok(Some(preprocess(alloc, n, a_p, a_i)?)),
-        Status::Invalid => Err(Status::Invalid),
-        Status::OutOfMemory => unreachable!(),
-    }
-}
-
-/// The columns of the transpose where there is one, else those of the matrix.
-fn columns_of<'a, I: Index, A: Allocator>(
-    transpose: &'a Option<(Vec<I, A>, Vec<I, A>)>,
-    a_p: &'a [I],
-    a_i: &'a [I],
-) -> (&'a [I], &'a [I])
-    ensures { MatchOption transpose.now ((result.0.now ≡ a_p.now) × (result.1.now ≡ a_i.now))
-        (λ c. (result.0.now ≡ c.0.items) × (result.1.now ≡ c.1.items)) }
-{
-    match transpose {
-        Some((c_p, c_i)) => (c_p, c_i),
-        None => (a_p, a_i),
-    }
-}
 
 /// Orders as [`order`] does, and where there are marks as [`order_holding`] does; both of them call it.
 ///
@@ -126,14 +61,10 @@ pub fn order_marked<I: PrimInt, A: Allocator + Copy>(
         return Ok((Vec::new(alloc), Vec::new(alloc), Info::new(0)));
     }
     let status = class_of(n, count, a_p, a_i, hold);
-    let transpose = transpose_of(alloc, n, a_p, a_i, &status)?;
-    let (c_p, c_i) = columns_of(&transpose, a_p, a_i);
-    let mut info = Info::new(count);
-    let (nzaat, mut len) = aat(alloc, n, c_p, c_i, &mut info)?;
-    let Some(room) = workspace_words(nzaat, count) else {
-        return Err(Status::OutOfMemory);
+    let Some(jumbled) = jumbled_of(&status) else {
+        return Err(status);
     };
-    let (p, p_inv) = amd_1(alloc, n, c_p, c_i, &mut len, room, control, hold, &mut info)?;
+    let (p, p_inv, mut info) = order_once(alloc, count, a_p, a_i, jumbled, control, hold)?;
     info.status = status;
     Ok((p, p_inv, info))
 }
@@ -158,9 +89,9 @@ pub fn order_marked<I: PrimInt, A: Allocator + Copy>(
 /// # Errors
 ///
 /// `Invalid` exactly where `n` is not 0 and the input is no column form; no memory is asked before. `OutOfMemory`, only
-/// for a column form with `n` not 0, where an allocation was refused, or the workspace would have more than
-/// `isize::MAX` words. Two parts have one more refusal each, which no input of a primitive type reaches: `preprocess`
-/// where the type lacks a pointer of the transpose, and `amd_1` where `n + 2` exceeds `isize::MAX`.
+/// for a column form with `n` not 0, where an allocation was refused, or the words of the lists could be more than
+/// `isize::MAX`. Two refusals more no input of a primitive type reaches: where no width holds `n + 2`, and where the
+/// type of a transpose lacks a pointer of it.
 ///
 /// Source: AMD user guide; Amestoy, Davis and Duff 1996 and 2004.
 pub fn order<I: PrimInt, A: Allocator + Copy>(

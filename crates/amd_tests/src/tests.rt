@@ -12,3 +12,4 @@ mod small_matrices;
 mod statuses;
 mod wide_numbers;
 mod worked;
+mod workspace;

@@ -77,11 +77,10 @@ pub fn check_requests(rt: &impl Abort, what: &str, refusals: Result<u64, Slip>, 
     }
 }
 
-/// The number of requests of `order`: two lists for the degrees; a block that is given back at once; five lists to lay
-/// the neighbours, the words of the workspace among them; and nine lists for the rounds and the result. A jumbled
-/// matrix takes five more for its transpose.
+/// The number of requests of `order`: a block that is given back at once; nine lists with a place for each row; the
+/// words of the lists; and two for the result. A jumbled matrix takes two more for its transpose.
 fn requests_of(case: &OrderingCase) -> u64 {
-    if case.jumbled { 22 } else { 17 }
+    if case.jumbled { 15 } else { 13 }
 }
 
 /// Orders with each request refused in turn, and again with marks that hold no row.
@@ -111,23 +110,23 @@ struct Sizes<'a> {
     sizes: [(usize, u64); 4],
 }
 
-/// Nine lists have 4 bytes for each row and six have 8, of which two are for the degrees, one for the walk, and three
-/// for the rounds and the result. The workspace has 4 bytes for each of its words, which are the sum of the degrees, a
-/// fifth of it, and the number of rows. The block that is given back at once has those words, and 12 for each row.
+/// Eight lists have 4 bytes for each row and three have 8, of which two are the result. The words of the lists have 4
+/// bytes each, and are the sum of the degrees, a fifth of it, and the number of rows. The block that is given back at
+/// once has so many words for the entries in the place of the degrees, and 12 for each row.
 static SIZES: [Sizes<'static>; 2] = [
-    // 8 + 1 + 4 words
+    // 8 + 1 + 4 words, 4 + 0 + 4 for the entries
     Sizes {
         n: 4,
         a_p: &[0, 2, 3, 4, 4],
         a_i: &[1, 3, 2, 3],
-        sizes: [(16, 9), (32, 6), (4 * 13, 1), (4 * (13 + 48), 1)],
+        sizes: [(16, 8), (32, 3), (4 * 13, 1), (4 * (8 + 48), 1)],
     },
-    // 10 + 2 + 5 words
+    // 10 + 2 + 5 words, 14 + 2 + 5 for the entries
     Sizes {
         n: 5,
         a_p: &[0, 2, 6, 10, 12, 14],
         a_i: &[0, 1, 0, 1, 2, 4, 1, 2, 3, 4, 2, 3, 1, 4],
-        sizes: [(20, 9), (40, 6), (4 * 17, 1), (4 * (17 + 60), 1)],
+        sizes: [(20, 8), (40, 3), (4 * 17, 1), (4 * (21 + 60), 1)],
     },
 ];
 

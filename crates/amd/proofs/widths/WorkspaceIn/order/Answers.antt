@@ -1,0 +1,71 @@
+use Rattle.std.proofs.Common.{map, length, arith}
+use Rattle.std.specs.Option.{option_copied}
+use Rattle.amd_input.specs.Transposes.{IsCleanForm}
+use Rattle.amd_input.proofs.RowForms.{upto_fits}
+use Rattle.amd.specs.Within.{list_words}
+use Rattle.amd.proofs.Orderings.{orders_turned}
+use Rattle.amd.proofs.widths.WorkspaceIn.order.Given.{Over}
+use Rattle.amd.proofs.widths.WorkspaceIn.order.Goals.{After-deref-2}
+use Rattle.amd.proofs.widths.WorkspaceIn.order.Goals as goal
+
+-- the transpose, as it is lent
+clean : (g : Over) (c : After-deref-2 g) → IsCleanForm (length c.args.p.now) (map g.I.Index.value c.args.a_p.now)
+    (map g.I.Index.value c.args.a_i.now) (map g.J.Index.value c.deref.result.now) (map g.J.Index.value c.deref-2.result.now)
+clean g c = rw (c.deref.ensures.value, c.deref-2.ensures.value) c.transpose_within.ensures.clean
+
+pub invariant_of-self : goal.invariant_of-self
+invariant_of-self g c =
+    let s = c.args.self.now.sized in record {
+      sized = record {
+        memory = c.order_columns.ensures.room c.args.self.now.rows (list_words c.args.self.now.rows c.args.self.now.entries) s.memory;
+        pointers = s.pointers;
+        columns = s.columns;
+        narrow = s.narrow;
+        few = s.few;
+      };
+    }
+
+pub transpose_within-requires-clause-names : goal.transpose_within-requires-clause-names
+transpose_within-requires-clause-names g c = (
+  upto_fits g.J.Index.fits g.met.J.Index.zero_fits g.met.J.Index.between _ _ c.requires.names.0 c.requires.inside.0,
+  upto_fits g.J.Index.fits g.met.J.Index.zero_fits g.met.J.Index.between _ _ c.requires.names.1 c.requires.inside.1,
+)
+
+pub order_columns-requires-2-clause-sorted : goal.order_columns-requires-2-clause-sorted
+order_columns-requires-2-clause-sorted g c =
+    (clean g (goal.at.order_columns-requires-2-clause-sorted g c).After-deref-2).sorted
+
+pub invariant_of-self-2 : goal.invariant_of-self-2
+invariant_of-self-2 g c =
+    let s = c.args.self.now.sized in let r = s.memory in let e = c.transpose_within.ensures in
+    let marks = e.scratch.0 in let next = e.scratch.1 in let pointers = e.room.0 in let columns = e.room.1 in
+    let w = r.lists.w in let ends = r.next in let wide = s.pointers in let long = s.columns in record {
+      sized = record {
+        memory = c.order_columns-2.ensures.room c.args.self.now.rows (list_words c.args.self.now.rows c.args.self.now.entries) (record {
+          words = r.words;
+          next = omega (arith, ends, next);
+          pe = r.pe;
+          len = r.len;
+          lists = record {
+            nv = r.lists.nv;
+            e_len = r.lists.e_len;
+            w = omega (arith, w, marks);
+            head = r.lists.head;
+            sides = r.lists.sides;
+            hash = r.lists.hash;
+          };
+        });
+        pointers = omega (arith, wide, pointers);
+        columns = omega (arith, long, columns);
+        narrow = s.narrow;
+        few = s.few;
+      };
+    }
+
+pub returns-clause-orders : goal.returns-clause-orders
+returns-clause-orders g c =
+    let value = g.I.Index.value in let new = c.order_columns-2.new in
+    rw c.if-not-jumbled.false (orders_turned (option_copied c.args.hold) (length c.args.p.now) c.args.control.now.dense
+    c.args.control.now.aggressive (map value c.args.a_p.now) (map value c.args.a_i.now) (map g.J.Index.value c.deref.result.now)
+    (map g.J.Index.value c.deref-2.result.now) (map value new.p) (map value new.p_inv) new.info
+    (clean g (goal.at.returns-clause-orders g c).After-deref-2) c.order_columns-2.ensures.orders)

@@ -1,0 +1,12 @@
+use Rattle.std.proofs.Common.{length, arith}
+use Rattle.amd.proofs.Rooms.{less_room}
+use Rattle.amd.proofs.widths.order_columns.Goals as goal
+
+pub order_sorted-requires-clause-room : goal.order_sorted-requires-clause-room
+order_sorted-requires-clause-room g c =
+    let n = length c.args.p.now in let least = c.min-room.ensures in
+    less_room n c.args.words n c.min-room.result c.count_degrees-nzaat.new.memory
+    (c.count_degrees-nzaat.ensures.room n c.args.words c.requires.room) (omega arith) (omega (arith, least))
+
+pub returns-clause-room : goal.returns-clause-room
+returns-clause-room g c = λ n count has. c.order_sorted.ensures.room n count (c.count_degrees-nzaat.ensures.room n count has)

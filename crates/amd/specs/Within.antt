@@ -1,0 +1,55 @@
+-- A workspace: memory that is taken once, for all matrices with at most so many rows and entries, and what a call over it
+-- answers.
+use Rattle.std.specs.Prelude.{◌≡◌, ◌≢◌, ◌≤◌, ◌<◌, ◌+◌, ◌*◌, ◌/◌, ◌^◌, ℕ, ℤ, pos, Bool, true, false, Option, None}
+use Rattle.std.specs.Prelude.{Some, List, length}
+use Rattle.std.specs.Prelude.{slice_index, unsigned_abs}
+use Rattle.amd_model.specs.Input.Pattern.{is_pair}
+use Rattle.amd_rounds.specs.Laid.{AreWideEnough}
+use Rattle.amd_types.specs.Counts.{counts}
+use Rattle.amd_workspace.specs.Lists.{HasRoom}
+use Rattle.amd_workspace.specs.declared.lists.Memory.{Memory}
+use Rattle.amd.specs.Answers.{IsInputHolding}
+use Rattle.amd_types.specs.declared.amd.Status.{Status}
+use Rattle.amd_types.specs.declared.amd.Status.TheVariants.{OK, Invalid, OkButJumbled, OutOfMemory}
+use Rattle.amd.specs.declared.refusal.Refusal.{Refusal}
+use Rattle.amd.specs.declared.refusal.Refusal.TheVariants as refusal
+
+-- whether a matrix of this status is jumbled, where it is a column form
+abbrev pub jumbled_by : Status → Option Bool
+jumbled_by OK = Some false
+jumbled_by OkButJumbled = Some true
+jumbled_by Invalid = None
+jumbled_by OutOfMemory = None
+
+-- the pairs that order the starting lists: those of the transpose where the matrix is jumbled
+abbrev pub pairs_by : Bool → ℕ → List ℤ → List ℤ → ℕ → ℕ → Bool
+pairs_by false n ap ai = is_pair n ap ai
+pairs_by true n ap ai = λ i j. is_pair n ap ai j i
+
+-- how many words the lists of n rows take for that many entries
+abbrev pub list_words : ℕ → ℕ → ℕ
+list_words n entries = 2 * entries + n
+
+-- the lists have room for so many rows and entries, in widths that hold their numbers
+pub record IsSized {S P U A : Type 0} (word place cell rows entries : ℕ) (m : Memory S P U A)
+    (pointer_room column_room : ℕ) : Type 0 where
+  pub memory : HasRoom rows (list_words rows entries) m
+  pub pointers : rows + 1 ≤ pointer_room
+  pub columns : entries ≤ column_room
+  pub narrow : AreWideEnough word place cell rows (list_words rows entries)
+  pub few : 2 * entries + 2 * entries / 5 + rows < 2 ^ 63
+
+-- a matrix with n rows and these pointers has at most so many rows and entries
+abbrev pub FitsIn : ℤ → List ℤ → ℕ → ℕ → Type 0
+FitsIn n ap rows entries = n ≢ pos 0 → (unsigned_abs n ≤ rows) × (slice_index (counts ap) (unsigned_abs n) ≤ entries)
+
+-- a call is valid: n is 0 or the input is a column form, with a mark for each row where there are marks; and there are n
+-- places for the permutation and for its inverse
+pub record IsCall (hold : Option (List Bool)) (n : ℤ) (ap ai : List ℤ) (p q : List ℤ) : Type 0 where
+  pub places : (n ≡ pos (length p)) × (length q ≡ length p)
+  pub input : n ≢ pos 0 → IsInputHolding hold n ap ai
+
+-- why a workspace for so many rows and entries orders nothing
+abbrev pub IsWithinRefusal : Option (List Bool) → ℤ → List ℤ → List ℤ → List ℤ → List ℤ → ℕ → ℕ → Refusal → Type 0
+IsWithinRefusal hold n ap ai p q rows entries refusal.Invalid = ¬ (IsCall hold n ap ai p q)
+IsWithinRefusal hold n ap ai p q rows entries refusal.TooLarge = IsCall hold n ap ai p q × (¬ (FitsIn n ap rows entries))

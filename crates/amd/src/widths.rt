@@ -1,0 +1,168 @@
+// The lists of a workspace in words, places and cells of given widths, with room for all matrices with at most so many
+// rows and entries. Source: Amestoy, Davis and Duff 1996 and 2004.
+
+ghost use Rattle.std.specs.Prelude.{◌≡◌, ◌<◌, ◌≤◌, ◌+◌, ◌*◌, ◌/◌, ◌^◌, false, pos, map, length, slice_index, ℕ};
+ghost use Rattle.std.specs.Prelude.{IfOk};
+ghost use Rattle.std.specs.Option.{option_copied};
+ghost use Rattle.std.specs.Vec.{vec_capacity};
+ghost use Rattle.amd_model.specs.Input.Columns.{IsColumnForm, IsSorted};
+ghost use Rattle.amd_model.specs.Input.Held.{HasMarks};
+ghost use Rattle.amd_model.specs.Input.Pattern.{is_pair};
+ghost use Rattle.amd_rounds.specs.Laid.{AreWideEnough};
+ghost use Rattle.amd_types.specs.Counts.{counts};
+ghost use Rattle.amd_workspace.specs.Lists.{HasRoom};
+ghost use Rattle.amd.specs.Answers.{OrdersMatrix};
+ghost use Rattle.amd.specs.Within.{IsSized, list_words, pairs_by};
+
+use crate::within::{count_degrees, order_sorted};
+use amd_input::preprocess::transpose_within;
+use amd_types::amd::{Control, Info};
+use amd_types::index::Index;
+use amd_words::{Signed, Unsigned};
+use amd_workspace::lists::Memory;
+use std::alloc::{AllocError, Allocator};
+
+/// Orders a matrix with sorted columns in memory for so many words: in as many of them as upstream takes, or in all.
+///
+/// Source: AMD user guide; Amestoy, Davis and Duff 1996 and 2004.
+fn order_columns<I: Index, J: Index, S: Signed, P: Signed, U: Unsigned, A: Allocator + Copy>(
+    memory: &mut Memory<S, P, U, A>,
+    words: usize,
+    a_p: &[J],
+    a_i: &[J],
+    control: &Control,
+    hold: Option<&[bool]>,
+    p: &mut [I],
+    p_inv: &mut [I],
+    info: &mut Info,
+)
+    requires places { length p_inv.old ≡ length p.old }
+    requires some { 0 < length p.old }
+    requires fits { (k : ℕ) → k < length p.old → I.fits (pos k) }
+    requires form { IsColumnForm (pos (length p.old)) (length p.old) (map J.value a_p.now) (map J.value a_i.now) }
+    requires sorted { IsSorted (length p.old) (map J.value a_p.now) (map J.value a_i.now) }
+    requires room { HasRoom (length p.old) words memory.old }
+    requires words { list_words (length p.old) (slice_index (counts (map J.value a_p.now)) (length p.old)) ≤ words }
+    requires few { 2 * slice_index (counts (map J.value a_p.now)) (length p.old)
+        + 2 * slice_index (counts (map J.value a_p.now)) (length p.old) / 5 + length p.old < 2 ^ 63 }
+    requires narrow { AreWideEnough S.MOST P.MOST U.MOST (length p.old) words }
+    requires marks { HasMarks (option_copied hold) (length p.old) }
+    ensures orders { OrdersMatrix (option_copied hold.entry) (length p.old) control.now.dense control.now.aggressive
+        (is_pair (length p.old) (map J.value a_p.now) (map J.value a_i.now)) (map J.value a_p.now)
+        (map J.value a_i.now) (map I.value p.new) (map I.value p_inv.new) info.new }
+    ensures status { info.new.status ≡ info.old.status }
+    ensures room { (n count : ℕ) → HasRoom n count memory.old → HasRoom n count memory.new }
+{
+    let size = p.len();
+    let nzaat = count_degrees(memory, size, a_p, a_i, info);
+    let room = (nzaat + nzaat / 5 + size).min(words);
+    order_sorted(memory, a_p, a_i, nzaat, room, control, hold, p, p_inv, info);
+}
+
+/// The lists of a workspace in these widths; the numbers of the transpose of a jumbled matrix are of type `J`.
+#[derive(Drop)]
+pub struct WorkspaceIn<J, S: Signed, P: Signed, U: Unsigned, A: Allocator> {
+    /// So many rows a matrix may have.
+    pub rows: usize,
+    /// So many entries it may have.
+    pub entries: usize,
+    /// The lists of an elimination.
+    pub memory: Memory<S, P, U, A>,
+    /// The pointers of the transpose.
+    pub pointers: Vec<J, A>,
+    /// The row indices of the transpose.
+    pub columns: Vec<J, A>,
+    ghost sized: { IsSized S.MOST P.MOST U.MOST rows entries memory (vec_capacity pointers) (vec_capacity columns) },
+}
+
+impl<J: Index, S: Signed, P: Signed, U: Unsigned, A: Allocator + Copy> WorkspaceIn<J, S, P, U, A> {
+    /// Takes the memory of the orderings of all matrices with at most so many rows and entries.
+    ///
+    /// # Errors
+    ///
+    /// A refused request for memory.
+    pub fn new(
+        alloc: A,
+        rows: usize,
+        entries: usize,
+    ) -> Result<WorkspaceIn<J, S, P, U, A>, AllocError>
+        requires narrow { AreWideEnough S.MOST P.MOST U.MOST rows (list_words rows entries) }
+        requires few { 2 * entries + 2 * entries / 5 + rows < 2 ^ 63 }
+        ensures made { IfOk result (λ w. (w.rows ≡ rows) × (w.entries ≡ entries)) }
+    {
+        Ok(WorkspaceIn {
+            rows,
+            entries,
+            memory: Memory::with_room(alloc, rows, 2 * entries + rows)?,
+            pointers: Vec::with_capacity(alloc, rows + 1)?,
+            columns: Vec::with_capacity(alloc, entries)?,
+        })
+    }
+
+    /// Orders a matrix that fits, by its transpose where it is jumbled. It asks for no memory.
+    ///
+    /// Writes the permutation into `p` and its inverse into `p_inv`, which have a place for each row, and the figures
+    /// into `info`, of which the status stays. The numbers of the transpose hold the rows and the entries.
+    pub fn order<I: Index>(
+        &mut self,
+        a_p: &[I],
+        a_i: &[I],
+        jumbled: bool,
+        control: &Control,
+        hold: Option<&[bool]>,
+        p: &mut [I],
+        p_inv: &mut [I],
+        info: &mut Info,
+    )
+        requires places { length p_inv.old ≡ length p.old }
+        requires some { 0 < length p.old }
+        requires fits { (k : ℕ) → k < length p.old → I.fits (pos k) }
+        requires form { IsColumnForm (pos (length p.old)) (length p.old) (map I.value a_p.now) (map I.value a_i.now) }
+        requires sorted { jumbled ≡ false → IsSorted (length p.old) (map I.value a_p.now) (map I.value a_i.now) }
+        requires inside { (length p.old ≤ self.old.rows) ×
+            (slice_index (counts (map I.value a_p.now)) (length p.old) ≤ self.old.entries) }
+        requires names { J.fits (pos self.old.rows) × J.fits (pos self.old.entries) }
+        requires marks { HasMarks (option_copied hold) (length p.old) }
+        ensures orders { OrdersMatrix (option_copied hold.entry) (length p.old) control.now.dense
+            control.now.aggressive (pairs_by jumbled (length p.old) (map I.value a_p.now) (map I.value a_i.now))
+            (map I.value a_p.now) (map I.value a_i.now) (map I.value p.new) (map I.value p_inv.new) info.new }
+        ensures status { info.new.status ≡ info.old.status }
+        ensures made { (self.new.rows ≡ self.old.rows) × (self.new.entries ≡ self.old.entries) }
+    {
+        let words = 2 * self.entries + self.rows;
+        if !jumbled {
+            order_columns(
+                &mut self.memory,
+                words,
+                a_p,
+                a_i,
+                control,
+                hold,
+                p,
+                p_inv,
+                info,
+            );
+            return;
+        }
+        transpose_within(
+            p.len(),
+            a_p,
+            a_i,
+            &mut self.memory.lists.w,
+            &mut self.memory.words.next,
+            &mut self.pointers,
+            &mut self.columns,
+        );
+        order_columns(
+            &mut self.memory,
+            words,
+            &self.pointers,
+            &self.columns,
+            control,
+            hold,
+            p,
+            p_inv,
+            info,
+        );
+    }
+}

@@ -1,0 +1,98 @@
+// An ordering of a matrix with sorted columns in memory that was taken before: its degrees are counted into it, and its
+// rows are eliminated in it. Nothing here asks for memory. Source: AMD user guide; Amestoy, Davis and Duff 1996 and
+// 2004.
+
+ghost use Rattle.std.specs.Prelude.{◌≡◌, ◌<◌, ◌≤◌, ◌+◌, ◌*◌, ◌/◌, ◌^◌, ℕ, pos, map, length, slice_index};
+ghost use Rattle.std.specs.Option.{option_copied};
+ghost use Rattle.amd_model.specs.Input.Columns.{IsColumnForm, IsSorted};
+ghost use Rattle.amd_model.specs.Input.Held.{HasMarks};
+ghost use Rattle.amd_model.specs.Input.Pattern.{is_pair};
+ghost use Rattle.amd_rounds.specs.Laid.{AreWideEnough};
+ghost use Rattle.amd_types.specs.Counts.{counts};
+ghost use Rattle.amd_input.specs.Degrees.{AreDegrees};
+ghost use Rattle.amd_input.specs.PatternFigures.{HasPatternFigures};
+ghost use Rattle.amd_workspace.specs.Lists.{HasRoom};
+ghost use Rattle.amd.specs.Answers.{OrdersMatrix};
+
+use amd_engine::amd_1::order_within;
+use amd_input::aat::{DegreeCounter, aat_within};
+use amd_types::amd::{Control, Info};
+use amd_types::index::Index;
+use amd_words::{Signed, Unsigned};
+use amd_workspace::lists::Memory;
+use std::alloc::Allocator;
+use std::mem::replace;
+
+/// Counts the degree of each of `size` rows into the memory, and answers their sum; writes the figures of the pattern.
+///
+/// The input is a column form with `size` rows and columns, each of which is strictly ascending. The memory has room
+/// for so many rows, and keeps it. A cell has room for `size` and for the number of entries.
+///
+/// Source: AMD user guide; Amestoy, Davis and Duff 2004.
+pub fn count_degrees<J: Index, S: Signed, P: Signed, U: Unsigned, A: Allocator + Copy>(
+    memory: &mut Memory<S, P, U, A>,
+    size: usize,
+    a_p: &[J],
+    a_i: &[J],
+    info: &mut Info,
+) -> usize
+    requires form { IsColumnForm (pos size) size (map J.value a_p.now) (map J.value a_i.now) }
+    requires sorted { IsSorted size (map J.value a_p.now) (map J.value a_i.now) }
+    requires room { HasRoom size 0 memory.old }
+    requires fits { (size ≤ U.MOST) × (slice_index (counts (map J.value a_p.now)) size ≤ U.MOST) }
+    requires small { 2 * slice_index (counts (map J.value a_p.now)) size < 2 ^ 64 }
+    ensures degrees { AreDegrees size (map J.value a_p.now) (map J.value a_i.now) result memory.new.len.items }
+    ensures few { result ≤ 2 * slice_index (counts (map J.value a_p.now)) size }
+    ensures figures { HasPatternFigures size (map J.value a_p.now) (map J.value a_i.now) info.new }
+    ensures status { info.new.status ≡ info.old.status }
+    ensures room { (n count : ℕ) → HasRoom n count memory.old → HasRoom n count memory.new }
+{
+    let alloc = *memory.len.allocator();
+    let degrees = replace(&mut memory.len, Vec::new(alloc));
+    let mut counter = DegreeCounter { degrees };
+    let sum = aat_within(size, a_p, a_i, &mut memory.words.next, &mut counter, info);
+    memory.len = counter.degrees;
+    sum
+}
+
+/// Orders a matrix with sorted columns, whose degrees stand in the memory and have the sum `nzaat`, in at most `room`
+/// words; the record has the figures of its pattern.
+///
+/// Writes the permutation into `p` and its inverse into `p_inv`, which have a place for each row, and the other figures
+/// into `info`, of which the status stays.
+///
+/// Source: Amestoy, Davis and Duff 1996 and 2004.
+pub fn order_sorted<I: Index, J: Index, S: Signed, P: Signed, U: Unsigned, A: Allocator + Copy>(
+    memory: &mut Memory<S, P, U, A>,
+    a_p: &[J],
+    a_i: &[J],
+    nzaat: usize,
+    room: usize,
+    control: &Control,
+    hold: Option<&[bool]>,
+    p: &mut [I],
+    p_inv: &mut [I],
+    info: &mut Info,
+)
+    requires places { length p_inv.old ≡ length p.old }
+    requires some { 0 < length p.old }
+    requires fits { (k : ℕ) → k < length p.old → I.fits (pos k) }
+    requires form { IsColumnForm (pos (length p.old)) (length p.old) (map J.value a_p.now) (map J.value a_i.now) }
+    requires sorted { IsSorted (length p.old) (map J.value a_p.now) (map J.value a_i.now) }
+    requires degrees { AreDegrees (length p.old) (map J.value a_p.now) (map J.value a_i.now) nzaat
+        memory.old.len.items }
+    requires figures { HasPatternFigures (length p.old) (map J.value a_p.now) (map J.value a_i.now) info.old }
+    requires words { nzaat + length p.old ≤ room }
+    requires few { nzaat + nzaat / 5 + length p.old < 2 ^ 63 }
+    requires room { HasRoom (length p.old) room memory.old }
+    requires narrow { AreWideEnough S.MOST P.MOST U.MOST (length p.old) room }
+    requires pointers { slice_index (counts (map J.value a_p.now)) (length p.old) ≤ U.MOST }
+    requires marks { HasMarks (option_copied hold) (length p.old) }
+    ensures orders { OrdersMatrix (option_copied hold.entry) (length p.old) control.now.dense control.now.aggressive
+        (is_pair (length p.old) (map J.value a_p.now) (map J.value a_i.now)) (map J.value a_p.now)
+        (map J.value a_i.now) (map I.value p.new) (map I.value p_inv.new) info.new }
+    ensures status { info.new.status ≡ info.old.status }
+    ensures room { (n count : ℕ) → HasRoom n count memory.old → HasRoom n count memory.new }
+{
+    order_within(memory, 2, a_p, a_i, room, control, hold, p, p_inv, info);
+}

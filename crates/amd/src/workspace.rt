@@ -1,0 +1,289 @@
+// Memory that is taken once, for the orderings of all matrices with at most so many rows and entries: behind the making
+// of a workspace no call asks for any, and so nothing but the input is a reason to refuse. Source: AMD user guide;
+// Amestoy, Davis and Duff 1996 and 2004.
+
+ghost use Rattle.std.specs.Prelude.{◌≡◌, ◌≢◌, ◌≤◌, ◌<◌, ◌+◌, ◌*◌, ◌/◌, ◌^◌, ℕ, Some, None, false, pos, map, length};
+ghost use Rattle.std.specs.Prelude.{slice_index, IfOk, IfErr};
+ghost use Rattle.std.specs.Option.{option_copied};
+ghost use Rattle.amd_model.specs.Input.Columns.{IsColumnForm, IsSorted};
+ghost use Rattle.amd_model.specs.Input.Held.{HasMarks};
+ghost use Rattle.amd_types.specs.Counts.{counts};
+ghost use Rattle.amd_types.specs.Statuses.{IsStatusOf};
+ghost use Rattle.amd.specs.Answers.{IsOrdering, IsOrderingHolding, OrdersMatrix};
+ghost use Rattle.amd.specs.Within.{FitsIn, IsWithinRefusal, pairs_by};
+ghost use Rattle.amd.specs.Workspaces.{IsMadeFor, entries_of, rows_of};
+
+use crate::entrance::{class_of, jumbled_of};
+use crate::once::most_words;
+use crate::refusal::Refusal;
+use crate::widths::WorkspaceIn;
+use amd_engine::amd_1::holds;
+use amd_types::amd::{Control, Info, Status};
+use amd_types::index::Index;
+use amd_types::internal::{count_at, to_count};
+use num_traits::PrimInt;
+use std::alloc::{AllocError, Allocator};
+
+/// A workspace in the least widths that its rows and entries need.
+#[derive(Drop)]
+pub enum Widths<A: Allocator> {
+    /// All numbers have 32 bits.
+    Narrow(WorkspaceIn<i32, i32, i32, u32, A>),
+    /// Places in the words have 64 bits, with a sign.
+    Places(WorkspaceIn<i32, i32, isize, u32, A>),
+    /// The words alone have 32 bits.
+    Words(WorkspaceIn<isize, i32, isize, usize, A>),
+    /// All numbers have 64 bits.
+    Wide(WorkspaceIn<isize, isize, isize, usize, A>),
+}
+
+/// The memory of the orderings of all matrices with at most so many rows and entries.
+#[derive(Drop)]
+pub struct Workspace<A: Allocator> {
+    rows: usize,
+    entries: usize,
+    widths: Widths<A>,
+    ghost made: { IsMadeFor rows entries widths },
+}
+
+/// The lists of a workspace for so many rows and entries.
+///
+/// # Errors
+///
+/// A refused request for memory, or no width holds `rows + 2`.
+fn widths_for<A: Allocator + Copy>(
+    alloc: A,
+    rows: usize,
+    entries: usize,
+) -> Result<Widths<A>, AllocError>
+    requires few { 2 * entries + 2 * entries / 5 + rows < 2 ^ 63 }
+    ensures { IfOk result (IsMadeFor rows entries) }
+{
+    let words = 2 * entries + rows;
+    if holds::<i32, i32, u32>(rows, words, 2) {
+        return Ok(Widths::Narrow(WorkspaceIn::new(alloc, rows, entries)?));
+    }
+    if holds::<i32, isize, u32>(rows, words, 2) {
+        return Ok(Widths::Places(WorkspaceIn::new(alloc, rows, entries)?));
+    }
+    if holds::<i32, isize, usize>(rows, words, 2) {
+        return Ok(Widths::Words(WorkspaceIn::new(alloc, rows, entries)?));
+    }
+    if holds::<isize, isize, usize>(rows, words, 2) {
+        return Ok(Widths::Wide(WorkspaceIn::new(alloc, rows, entries)?));
+    }
+    Err(AllocError)
+}
+
+/// How many rows a matrix has that fits in a workspace, and its status; and whether it is jumbled, where it has rows.
+///
+/// # Errors
+///
+/// Those of a workspace.
+fn fitting_rows<I: Index>(
+    n: I,
+    a_p: &[I],
+    a_i: &[I],
+    hold: Option<&[bool]>,
+    p: &[I],
+    p_inv: &[I],
+    rows: usize,
+    entries: usize,
+) -> Result<(usize, Status), Refusal>
+    requires fits { I.fits (I.value n) }
+    ensures size { IfOk result (λ r. pos r.0 ≡ I.value n) }
+    ensures places { IfOk result (λ r. (length p.now ≡ r.0) × (length p_inv.now ≡ r.0)) }
+    ensures marks { IfOk result (λ r. r.0 ≢ 0 → HasMarks (option_copied hold.entry) r.0) }
+    ensures valid { IfOk result (λ r. r.0 ≢ 0 → r.1 ≢ Status.Invalid) }
+    ensures status { IfOk result (λ r. r.0 ≢ 0 →
+        IsStatusOf (I.value n) (I.value n) (map I.value a_p.now) (map I.value a_i.now) r.1) }
+    ensures inside { IfOk result (λ r. FitsIn (I.value n) (map I.value a_p.now) rows entries) }
+    ensures refused { IfErr result (IsWithinRefusal (option_copied hold.entry) (I.value n) (map I.value a_p.now)
+        (map I.value a_i.now) (map I.value p.now) (map I.value p_inv.now) rows entries) }
+{
+    let Some(size) = to_count(n) else {
+        return Err(Refusal::Invalid);
+    };
+    if p.len() != size || p_inv.len() != size {
+        return Err(Refusal::Invalid);
+    }
+    if size == 0 {
+        return Ok((0, Status::OK));
+    }
+    let status = class_of(n, size, a_p, a_i, hold);
+    if jumbled_of(&status).is_none() {
+        return Err(Refusal::Invalid);
+    }
+    if size > rows || count_at(a_p, size) > entries {
+        return Err(Refusal::TooLarge);
+    }
+    Ok((size, status))
+}
+
+impl<A: Allocator + Copy> Widths<A> {
+    /// Orders a matrix that fits, as [`WorkspaceIn::order`] does.
+    fn order<I: Index>(
+        &mut self,
+        a_p: &[I],
+        a_i: &[I],
+        jumbled: bool,
+        control: &Control,
+        hold: Option<&[bool]>,
+        p: &mut [I],
+        p_inv: &mut [I],
+        info: &mut Info,
+    )
+        requires places { length p_inv.old ≡ length p.old }
+        requires some { 0 < length p.old }
+        requires fits { (k : ℕ) → k < length p.old → I.fits (pos k) }
+        requires form { IsColumnForm (pos (length p.old)) (length p.old) (map I.value a_p.now) (map I.value a_i.now) }
+        requires sorted { jumbled ≡ false → IsSorted (length p.old) (map I.value a_p.now) (map I.value a_i.now) }
+        requires inside { (length p.old ≤ rows_of self.old) ×
+            (slice_index (counts (map I.value a_p.now)) (length p.old) ≤ entries_of self.old) }
+        requires marks { HasMarks (option_copied hold) (length p.old) }
+        ensures orders { OrdersMatrix (option_copied hold.entry) (length p.old) control.now.dense
+            control.now.aggressive (pairs_by jumbled (length p.old) (map I.value a_p.now) (map I.value a_i.now))
+            (map I.value a_p.now) (map I.value a_i.now) (map I.value p.new) (map I.value p_inv.new) info.new }
+        ensures status { info.new.status ≡ info.old.status }
+        ensures made { IsMadeFor (rows_of self.old) (entries_of self.old) self.new }
+    {
+        match self {
+            Widths::Narrow(lists) => lists.order(a_p, a_i, jumbled, control, hold, p, p_inv, info),
+            Widths::Places(lists) => lists.order(a_p, a_i, jumbled, control, hold, p, p_inv, info),
+            Widths::Words(lists) => lists.order(a_p, a_i, jumbled, control, hold, p, p_inv, info),
+            Widths::Wide(lists) => lists.order(a_p, a_i, jumbled, control, hold, p, p_inv, info),
+        }
+    }
+}
+
+impl<A: Allocator + Copy> Workspace<A> {
+    /// Takes the memory of the orderings of all matrices with at most so many rows and entries, jumbled or not.
+    ///
+    /// These are three words for each entry and twelve for each row, and one, of 32 bits each where that is wide
+    /// enough: two for each entry and one for each row for the lists of neighbours, ten lists of a word for each row,
+    /// and the transpose of a jumbled matrix. A call that follows asks for none.
+    ///
+    /// # Errors
+    ///
+    /// A refused request for memory; or the words of a matrix, with the fifth more that `order` takes, could be more
+    /// than `isize::MAX`.
+    pub fn new(alloc: A, rows: usize, entries: usize) -> Result<Workspace<A>, AllocError>
+        ensures rows { IfOk result (λ w. w.rows ≡ rows) }
+        ensures entries { IfOk result (λ w. w.entries ≡ entries) }
+    {
+        if most_words(rows, entries).is_none() {
+            return Err(AllocError);
+        }
+        let widths = widths_for(alloc, rows, entries)?;
+        Ok(Workspace {
+            rows,
+            entries,
+            widths,
+        })
+    }
+
+    /// Orders as `order` and, where there are marks, as `order_holding`.
+    fn order_marked<I: PrimInt>(
+        &mut self,
+        n: I,
+        a_p: &[I],
+        a_i: &[I],
+        control: &Control,
+        hold: Option<&[bool]>,
+        p: &mut [I],
+        p_inv: &mut [I],
+    ) -> Result<Info, Refusal>
+        requires fits { I.fits (I.value n) }
+        ensures ordering { IfOk result (λ info. IsOrderingHolding (option_copied hold.entry) (I.value n)
+            control.now.dense control.now.aggressive (map I.value a_p.now) (map I.value a_i.now) (map I.value p.new)
+            (map I.value p_inv.new) info) }
+        ensures inside { IfOk result (λ info. FitsIn (I.value n) (map I.value a_p.now) self.old.rows self.old.entries) }
+        ensures refusal { IfErr result (IsWithinRefusal (option_copied hold.entry) (I.value n) (map I.value a_p.now)
+            (map I.value a_i.now) (map I.value p.old) (map I.value p_inv.old) self.old.rows self.old.entries) }
+        ensures kept { IfErr result (λ e. (p.new ≡ p.old) × (p_inv.new ≡ p_inv.old) × (self.new ≡ self.old)) }
+        ensures made { (self.new.rows ≡ self.old.rows) × (self.new.entries ≡ self.old.entries) }
+    {
+        let (size, status) = fitting_rows(n, a_p, a_i, hold, p, p_inv, self.rows, self.entries)?;
+        let mut info = Info::new(size);
+        if size == 0 {
+            return Ok(info);
+        }
+        let Some(jumbled) = jumbled_of(&status) else {
+            unreachable!()
+        };
+        info.status = status;
+        self.widths
+            .order(a_p, a_i, jumbled, control, hold, p, p_inv, &mut info);
+        Ok(info)
+    }
+
+    /// Orders the rows of a square matrix by the pattern of `A + A'`, as [`crate::order`] does, with no request for
+    /// memory; writes the permutation into `p` and its inverse into `p_inv`, and returns the record.
+    ///
+    /// `p` and `p_inv` have `n` places each. The answer does not depend on what the workspace ordered before. The words
+    /// of the lists are as many as `order` takes, where the workspace has so many, and else all; the count of
+    /// compactions, `n_cmp_a`, is that of so many words.
+    ///
+    /// # Errors
+    ///
+    /// * `Invalid` exactly where `n` is not 0 and the input is no column form, or `p` or `p_inv` has not `n` places.
+    /// * `TooLarge` exactly where the call is valid, and the matrix has more rows or entries than the workspace was made
+    ///   for.
+    ///
+    /// No other refusal. After one, `p`, `p_inv` and the workspace are as before.
+    ///
+    /// Source: AMD user guide; Amestoy, Davis and Duff 1996 and 2004.
+    pub fn order<I: PrimInt>(
+        &mut self,
+        n: I,
+        a_p: &[I],
+        a_i: &[I],
+        control: &Control,
+        p: &mut [I],
+        p_inv: &mut [I],
+    ) -> Result<Info, Refusal>
+        // A number of a primitive type is always in range.
+        requires fits { I.fits (I.value n) }
+        ensures ordering { IfOk result (λ info. IsOrdering (I.value n) control.now.dense control.now.aggressive
+            (map I.value a_p.now) (map I.value a_i.now) (map I.value p.new) (map I.value p_inv.new) info) }
+        ensures inside { IfOk result (λ info. FitsIn (I.value n) (map I.value a_p.now) self.old.rows self.old.entries) }
+        ensures refusal { IfErr result (IsWithinRefusal None (I.value n) (map I.value a_p.now) (map I.value a_i.now)
+            (map I.value p.old) (map I.value p_inv.old) self.old.rows self.old.entries) }
+        ensures kept { IfErr result (λ e. (p.new ≡ p.old) × (p_inv.new ≡ p_inv.old) × (self.new ≡ self.old)) }
+        ensures made { (self.new.rows ≡ self.old.rows) × (self.new.entries ≡ self.old.entries) }
+    {
+        self.order_marked(n, a_p, a_i, control, None, p, p_inv)
+    }
+
+    /// Orders as [`Workspace::order`] does, with the rows marked in `hold` held last beside the dense ones, as
+    /// [`crate::order_holding`] does.
+    ///
+    /// # Errors
+    ///
+    /// As `order`; and `Invalid` also where `n` is not 0 and `hold` has not one mark for each of the `n` rows.
+    ///
+    /// Source: AMD user guide; Amestoy, Davis and Duff 1996 and 2004.
+    pub fn order_holding<I: PrimInt>(
+        &mut self,
+        n: I,
+        a_p: &[I],
+        a_i: &[I],
+        control: &Control,
+        hold: &[bool],
+        p: &mut [I],
+        p_inv: &mut [I],
+    ) -> Result<Info, Refusal>
+        // A number of a primitive type is always in range.
+        requires fits { I.fits (I.value n) }
+        ensures ordering { IfOk result (λ info. IsOrderingHolding (Some hold.now) (I.value n) control.now.dense
+            control.now.aggressive (map I.value a_p.now) (map I.value a_i.now) (map I.value p.new)
+            (map I.value p_inv.new) info) }
+        ensures inside { IfOk result (λ info. FitsIn (I.value n) (map I.value a_p.now) self.old.rows self.old.entries) }
+        ensures refusal { IfErr result (IsWithinRefusal (Some hold.now) (I.value n) (map I.value a_p.now)
+            (map I.value a_i.now) (map I.value p.old) (map I.value p_inv.old) self.old.rows self.old.entries) }
+        ensures kept { IfErr result (λ e. (p.new ≡ p.old) × (p_inv.new ≡ p_inv.old) × (self.new ≡ self.old)) }
+        ensures made { (self.new.rows ≡ self.old.rows) × (self.new.entries ≡ self.old.entries) }
+    {
+        self.order_marked(n, a_p, a_i, control, Some(hold), p, p_inv)
+    }
+}
