@@ -16,11 +16,13 @@ mod factors;
 mod memory;
 mod reading;
 mod stages;
+mod within;
 
 use crate::factors::{Factored, analyze_often, columns_often};
 use crate::memory::{Taken, most_taken};
 use crate::reading::read_file;
 use crate::stages::{Staged, stages_often};
+use crate::within::order_within_often;
 use amd::{Control, Info, Status, order};
 use amd_cases::matrix::BinaryMatrix;
 use amd_types::index::Index;
@@ -34,10 +36,10 @@ use std::time::{Duration, Instant};
 
 /// What the calls returned, which is the same each time, and how long each took.
 #[derive(Drop)]
-struct Outcome<I> {
-    p: Vec<I>,
-    info: Info,
-    times: Vec<Duration>,
+pub struct Outcome<I> {
+    pub p: Vec<I>,
+    pub info: Info,
+    pub times: Vec<Duration>,
 }
 
 /// Orders a matrix by the default control some times. It is compiled apart from its caller, so that no other loop takes
@@ -199,7 +201,10 @@ fn request_of(words: &[String]) -> Option<Request<'_>> {
     };
     let repeats: usize = repeats.parse().ok()?;
     let is_kind = matches!(kind, "i32" | "i64" | "isize");
-    let is_call = matches!(call, "order" | "columns" | "analyze" | "stages" | "peak");
+    let is_call = matches!(
+        call,
+        "order" | "within" | "columns" | "analyze" | "stages" | "peak"
+    );
     if !is_kind || !is_call || repeats == 0 {
         return None;
     }
@@ -227,6 +232,10 @@ fn time_file<R: Runtime + Alloc<A = Global>, I: PrimInt>(
         "analyze" => {
             let factored = analyze_often(rt, &matrix, repeats)?;
             print_factored(rt, kind, name, "analyze", factored)
+        }
+        "within" => {
+            let outcome = order_within_often(rt, &matrix, repeats)?;
+            print_outcome(rt, kind, name, outcome)
         }
         "stages" => {
             let staged = stages_often(rt, &matrix, repeats)?;
@@ -256,7 +265,7 @@ fn main(rt: HostRuntime) -> Result<ExitCode> {
     let words: Vec<String> = env::args(&rt)?.collect(rt.alloc())?;
     let Some(request) = request_of(&words) else {
         eprintln!(rt;
-            "usage: amd_bench FILE i32|i64|isize REPEATS [order|columns|analyze|stages|peak]"
+            "usage: amd_bench FILE i32|i64|isize REPEATS [order|within|columns|analyze|stages|peak]"
         )?;
         return Ok(ExitCode::from(2));
     };

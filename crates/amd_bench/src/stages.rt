@@ -21,13 +21,14 @@ use amd::{Control, Info, Status};
 use amd_cases::matrix::BinaryMatrix;
 use amd_engine::amd_1::holds;
 use amd_engine::ended::list_rows;
-use amd_engine::fresh::fresh_lists;
+use amd_engine::fresh::{fill_lists, memory_for, room_for};
 use amd_engine::running::run_growing;
 use amd_types::dense::dense_threshold;
 use amd_types::index::Index;
-use amd_types::internal::{known_count, to_count};
+use amd_types::internal::{count_at, known_count, to_count};
 use amd_words::{Cell, Signed, Unsigned, Word};
-use amd_workspace::laying::{Laid, lay};
+use amd_workspace::laying::lay;
+use amd_workspace::lists::{Lists, Memory};
 use anyhow::{Context, Result, bail};
 use num_traits::PrimInt;
 use std::alloc::Global;
@@ -123,20 +124,25 @@ fn time_rounds<R: time::Clock + Alloc<A = Global>, I: Index, S: Signed, P: Signe
     requires narrow { AreWideEnough S.MOST P.MOST U.MOST (length len.old) room }
 {
     let control = Control::default();
-    let threshold = dense_threshold(len.len(), &control);
-    let mut fresh = fresh_lists(rt.alloc(), len.len())?;
+    let size = len.len();
+    let threshold = dense_threshold(size, &control);
+    let mut degree = Vec::with_capacity(rt.alloc(), size)?;
+    let mut lists = Lists::with_room(rt.alloc(), size)?;
+    let mut p = room_for(rt.alloc(), size)?;
+    let mut p_inv = room_for(rt.alloc(), size)?;
+    fill_lists(size, &mut degree, &mut lists);
     clock.end(rt, "lists");
     run_growing(
         iw,
         pe,
         len,
-        &mut fresh.e_len,
-        &mut fresh.nv,
-        &mut fresh.degree,
-        &mut fresh.w,
-        &mut fresh.head,
-        &mut fresh.sides,
-        &mut fresh.hash,
+        &mut lists.e_len,
+        &mut lists.nv,
+        &mut degree,
+        &mut lists.w,
+        &mut lists.head,
+        &mut lists.sides,
+        &mut lists.hash,
         free,
         2,
         &control,
@@ -147,17 +153,17 @@ fn time_rounds<R: time::Clock + Alloc<A = Global>, I: Index, S: Signed, P: Signe
     clock.end(rt, "rounds");
     list_rows(
         pe,
-        &mut fresh.e_len,
-        &mut fresh.nv,
-        &mut fresh.degree,
-        &mut fresh.w,
-        &mut fresh.head,
-        &mut fresh.hash,
-        &mut fresh.p,
-        &mut fresh.p_inv,
+        &mut lists.e_len,
+        &mut lists.nv,
+        &mut degree,
+        &mut lists.w,
+        &mut lists.head,
+        &mut lists.hash,
+        &mut p,
+        &mut p_inv,
     );
     clock.end(rt, "listing");
-    Ok(fresh.p)
+    Ok(p)
 }
 
 /// Lays the lists of rows of known degrees, eliminates and lists, in words of these widths.
@@ -189,16 +195,20 @@ fn time_elimination<
     requires narrow { AreWideEnough S.MOST P.MOST U.MOST (length degrees.now) room }
 {
     let size = degrees.len();
-    let mut laid: Laid<S, P, U, Global> = lay(rt.alloc(), size, a_p, a_i, degrees, room)?;
+    if count_at(a_p, size) > U::MOST {
+        bail!("out of memory");
+    }
+    let mut memory: Memory<S, P, U, Global> = memory_for(rt.alloc(), degrees, room)?;
+    let free = lay(size, a_p, a_i, room, &mut memory);
     clock.end(rt, "lay");
     time_rounds(
         rt,
         clock,
         n,
-        &mut laid.pe,
-        &mut laid.iw,
-        &mut laid.len,
-        laid.free,
+        &mut memory.pe,
+        &mut memory.words.iw,
+        &mut memory.len,
+        free,
         room,
     )
 }

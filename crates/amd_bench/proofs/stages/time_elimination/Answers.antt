@@ -1,19 +1,33 @@
 use Rattle.std.proofs.Common.{arith, ℕ, ℤ, List, pos, map, length, refl, ap, sym, ◌∙◌}
+use Rattle.amd_edges.proofs.Forms.{pointer_read}
 use Rattle.amd_model.specs.Quotient.{starting_list}
 use Rattle.amd_model.specs.Input.Pattern.{graph_of, is_pair}
-use Rattle.amd_engine.proofs.LentPattern.{LaysPattern, lent_pattern}
+use Rattle.amd_engine.proofs.LentPattern.{LaysPattern, degrees_fit, lent_pattern}
 use Rattle.amd_bench.proofs.stages.time_elimination.Given.{Over}
 use Rattle.amd_bench.proofs.stages.time_elimination.Goals.{After-deref_mut-2}
 use Rattle.amd_bench.proofs.stages.time_elimination.Goals as goal
 
 -- the lent workspace has the lists of the matrix
 lent : (g : Over) (c : After-deref_mut-2 g) → LaysPattern (length c.args.degrees.now) (map g.I.Index.value c.args.a_p.now)
-    (map g.I.Index.value c.args.a_i.now) c.in_ok-laid.laid.iw.items c.deref_mut.result.now c.deref_mut-2.result.now
-    c.in_ok-laid.laid.free
-lent g c =
-    lent_pattern (map g.I.Index.value c.args.a_p.now) (map g.I.Index.value c.args.a_i.now) c.args.degrees.now c.in_ok-laid.laid.free
-    c.requires.degrees c.in_ok-laid.ensures.degrees c.in_ok-laid.ensures.laid c.in_ok-laid.ensures.lists refl
+    (map g.I.Index.value c.args.a_i.now) c.lay-free.new.memory.words.iw.items c.deref_mut.result.now c.deref_mut-2.result.now
+    c.lay-free.result
+lent g c = let e = c.lay-free.ensures in
+    lent_pattern (length c.args.degrees.now) (map g.I.Index.value c.args.a_p.now) (map g.I.Index.value c.args.a_i.now)
+    c.args.degrees.now c.lay-free.result c.requires.degrees (e.degrees ∙ c.in_ok-memory.ensures.degrees) e.laid e.lists refl
     c.deref_mut.ensures.value c.deref_mut-2.ensures.value
+
+pub count_at-requires-clause-fits : goal.count_at-requires-clause-fits
+count_at-requires-clause-fits g c = (pointer_read g.I.Index.value c.args.a_p.now c.args.a_i.now (length c.args.degrees.now)
+    c.requires.form (length c.args.degrees.now) (omega arith) (omega (arith, c.well_formed))).1
+
+pub memory_for-requires : goal.memory_for-requires
+memory_for-requires g c = let n : ℕ = length c.args.degrees.now in let wide = c.requires.narrow.3 in record {
+  fits = degrees_fit n (map g.I.Index.value c.args.a_p.now) (map g.I.Index.value c.args.a_i.now) c.args.degrees.now g.U.Unsigned.MOST
+      c.requires.degrees (omega (arith, wide));
+}
+
+pub lay-free-requires-clause-degrees : goal.lay-free-requires-clause-degrees
+lay-free-requires-clause-degrees g c = rw c.in_ok-memory.ensures.degrees c.requires.degrees
 
 pub time_rounds-requires-clause-size : goal.time_rounds-requires-clause-size
 time_rounds-requires-clause-size g c =
@@ -35,7 +49,11 @@ time_rounds-requires-clause-graph g c =
 pub time_rounds-requires-clause-room : goal.time_rounds-requires-clause-room
 time_rounds-requires-clause-room g c =
     let size = (lent g (goal.at.time_rounds-requires-clause-room g c).After-deref_mut-2).size in
-    let long = c.in_ok-laid.ensures.long in let end = long.0 in (omega (arith, end, size), long.1, c.in_ok-laid.ensures.capacity)
+    let long = c.lay-free.ensures.long in let end = long.0 in (
+      omega (arith, end, size),
+      long.1,
+      (c.lay-free.ensures.room _ _ c.in_ok-memory.ensures.room).words,
+    )
 
 pub time_rounds-requires-clause-narrow : goal.time_rounds-requires-clause-narrow
 time_rounds-requires-clause-narrow g c =

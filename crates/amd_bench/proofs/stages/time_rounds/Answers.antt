@@ -10,15 +10,15 @@ pub list_rows-requires-clause-over : goal.list_rows-requires-clause-over
 list_rows-requires-clause-over g c =
     let n : ℕ = length c.args.len.now in
     let none : length (replicate n n) ≡ n = length-replicate n n in
-    let l = c.in_ok-fresh.fresh in let fresh = c.in_ok-fresh.ensures.fresh in
+    let l = c.fill_lists.new.lists in let d = c.fill_lists.new.degree in let fresh = c.fill_lists.ensures.fresh in
     let new = c.run_growing.new in let over = c.run_growing.ensures.over in
     over_named over over.words.0 refl
     (c.deref_mut-8.ensures.value ∙ take_at new.e_len (drop (length new.e_len) l.e_len.items) l.e_len.len
     (over.words.1 ∙ sym (l.e_len.ok.0 ∙ fresh.words.0)))
     (c.deref_mut-9.ensures.value ∙ take_at new.nv (drop (length new.nv) l.nv.items) l.nv.len
     (over.words.2 ∙ sym (l.nv.ok.0 ∙ fresh.words.1)))
-    (c.deref_mut-10.ensures.value ∙ take_at new.degree (drop (length new.degree) l.degree.items) l.degree.len
-    (over.words.3 ∙ sym (l.degree.ok.0 ∙ fresh.figures.0)))
+    (c.deref_mut-10.ensures.value ∙ take_at new.degree (drop (length new.degree) d.items) d.len
+    (over.words.3 ∙ sym (d.ok.0 ∙ fresh.figures.0)))
     (c.deref_mut-11.ensures.value ∙ take_at new.w (drop (length new.w) l.w.items) l.w.len
     (over.counters ∙ sym (l.w.ok.0 ∙ fresh.figures.1)))
     (c.deref_mut-12.ensures.value ∙ take_at new.head (drop (length new.head) l.head.items) l.head.len

@@ -1,7 +1,7 @@
 use Rattle.std.proofs.Common.{map, arith}
 use Rattle.std.proofs.lemmas.List.{length-map}
 use Rattle.amd_input.proofs.PatternLemmas.{input_fits}
-use Rattle.amd.proofs.Ready.{IsReady, ready}
+use Rattle.amd_bench.proofs.Ready.{IsReady, ready}
 use Rattle.amd_bench.proofs.stages.time_sorted.Given.{Over}
 use Rattle.amd_bench.proofs.stages.time_sorted.Goals.{After-deref}
 use Rattle.amd_bench.proofs.stages.time_sorted.Goals as goal
