@@ -5,6 +5,7 @@ import { dirname, join } from "node:path";
 import { createInterface } from "node:readline";
 import test from "node:test";
 import { fileURLToPath, pathToFileURL } from "node:url";
+import { Worker } from "node:worker_threads";
 
 const top = join(dirname(fileURLToPath(import.meta.url)), "../../..");
 const folder = process.env.RIMOPAKU_JS;
@@ -131,6 +132,49 @@ test("memory that is too small is refused, and nothing is written", async () => 
   assert.ok(lent > 0 && lent < 65536);
 });
 
+test("a host that refuses memory is told by a name, and the next call is as before", () => {
+  const { Instance } = WebAssembly;
+  const { grow } = WebAssembly.Memory.prototype;
+  function refuse() {
+    throw new RangeError("no memory");
+  }
+  const calls = [() => order(5, P, I), () => orderHolding(5, P, I, [1]), () => counts(5, P, I, natural(5)), () => columns(5, P, I, natural(5))];
+  const refused = (fault) => fault instanceof OutOfMemory && fault.name === "OutOfMemory";
+  try {
+    WebAssembly.Instance = refuse;
+    for (const call of calls) assert.throws(call, refused);
+    WebAssembly.Instance = Instance;
+    WebAssembly.Memory.prototype.grow = refuse;
+    for (const call of calls) assert.throws(call, refused);
+  } finally {
+    Object.assign(WebAssembly, { Instance });
+    WebAssembly.Memory.prototype.grow = grow;
+  }
+  assert.deepEqual([...order(5, P, I).p], [0, 3, 2, 4, 1]);
+});
+
+// Each call has a memory of 24 MB; all together would have 2.4 GB.
+test("memory is given back", (t) => {
+  const n = 200000;
+  const [pointers, indices] = [Int32Array.from({ length: n + 1 }, (_, k) => k), natural(n)];
+  let most = 0;
+  for (let k = 0; k < 100; k++) {
+    order(n, pointers, indices);
+    most = Math.max(most, process.memoryUsage().rss);
+  }
+  t.diagnostic(`${Math.round(most / 1e6)} MB at most`);
+  assert.ok(most < 1e9);
+});
+
+test("in a worker", async () => {
+  const source = `import(${JSON.stringify(pathToFileURL(join(folder, "index.js")).href)}).then(({ order }) =>
+    require("node:worker_threads").parentPort.postMessage(order(5, [${P}], [${I}])))`;
+  const worker = new Worker(source, { eval: true });
+  const told = await new Promise((resolve, reject) => worker.once("message", resolve).once("error", reject));
+  await worker.terminate();
+  assert.deepEqual([...told.p], [0, 3, 2, 4, 1]);
+});
+
 test("the drawn cases of the other bindings, byte for byte", async () => {
   const stored = readFileSync(join(top, "crates/amd_replay/stdout"), "utf8");
   assert.equal(await replayed(rimopaku), stored);
@@ -144,8 +188,7 @@ test("the drawn cases by the module for memories of 64 bits", async (t) => {
     t.skip("no memories of 64 bits here (node --experimental-wasm-memory64)");
     return;
   }
-  const { callsOf } = await load("calls.js");
-  assert.equal(await replayed(callsOf(module)), readFileSync(join(top, "crates/amd_replay/stdout"), "utf8"));
+  assert.equal(await replayed(rimopaku.callsOf(module)), readFileSync(join(top, "crates/amd_replay/stdout"), "utf8"));
 });
 
 /** What the calls answer to the stored cases, in the format of the program amd_replay. */
