@@ -1,0 +1,27 @@
+/* The C library of this repository, as bindings call it: by its header, from the archives in prebuilt/ or another folder. */
+#include <rimopaku.h>
+#include "peer.h"
+
+static struct rimopaku_parameters parameters;
+
+static uint64_t order(const struct matrix *m, const char *kind, int64_t *p) {
+    int64_t n = m->n, entries = m->pointers[n];
+    int32_t *pointers = (int32_t *)room(n + 1, 4), *found = (int32_t *)room(n, 4), *inverse = (int32_t *)room(n, 4);
+    struct rimopaku_statistics told;
+    uint64_t start, time;
+    if (strcmp(kind, "i32")) exit(2);
+    for (int64_t k = 0; k <= n; k++) pointers[k] = m->pointers[k];
+    start = now();
+    if (rimopaku_order_i32(n, pointers, n + 1, m->rows, entries, &parameters, found, n, inverse, n, &told) < 0) exit(1);
+    time = now() - start;
+    for (int64_t k = 0; k < n; k++) p[k] = found[k];
+    free(pointers);
+    free(found);
+    free(inverse);
+    return time;
+}
+
+int main(int count, char **words) {
+    rimopaku_defaults(&parameters);
+    return time_orderings("library", "phash", count, words, order);
+}
