@@ -33,11 +33,20 @@ function joined(files) {
   return script;
 }
 
+/** The contracts of the calls as their source has them, without the bodies. */
+function contracts() {
+  const text = readFileSync(join(here, "../../../crates/amd_bare/src/int32.rt"), "utf8");
+  const found = [...text.matchAll(/^((?:\/\/\/.*\n)+)#\[unsafe\(no_mangle\)\]\n(pub extern "C" fn [^{]*\n    ensures \{[^}]*\})\n\{$/gm)];
+  if (found.length !== 4) throw new Error("the contracts of the four calls are not found");
+  return found.map(([, words, contract]) => words + contract).join("\n\n").replaceAll("&", "&amp;").replaceAll("<", "&lt;");
+}
+
 const version = JSON.parse(readFileSync(join(here, "../package.json"), "utf8")).version;
 const parts = {
   "<!-- STYLE -->": readFileSync(join(here, "style.css"), "utf8"),
   "<!-- WORKER -->": joined(WORKER),
   "<!-- MAIN -->": joined(MAIN),
+  "<!-- CONTRACTS -->": contracts(),
   "Version VERSION": `Version ${version}`,
 };
 let html = readFileSync(join(here, "page.html"), "utf8");

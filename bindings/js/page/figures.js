@@ -53,19 +53,20 @@ export function fillTable(table, summary) {
   table.tBodies[0].replaceChildren(...rows);
 }
 
-/** Bars for the entries and the flops of each order, as long as the numbers. */
+/** Bars for each figure, as long as the numbers. The table says the same in words. */
 export function fillBars(place, summary) {
-  const columns = COLUMNS.filter((column) => column.key !== "bound" && column.of(summary));
-  const groups = [ROWS[0], ROWS[2]].map((row) => {
+  const columns = COLUMNS.filter((column) => column.of(summary));
+  const groups = ROWS.map((row) => {
     const values = columns.map((column) => row.of(column.of(summary), summary));
     const most = Math.max(...values, 1);
     const group = document.createElement("div");
     group.append(element("h3", row.name));
     columns.forEach((column, k) => {
       const bar = Object.assign(document.createElement("div"), { className: `bar ${column.key}` });
+      Object.assign(bar.dataset, { figure: row.key, order: column.key });
       const stripe = document.createElement("i");
       stripe.style.width = `${(100 * values[k]) / most}%`;
-      bar.append(element("span", column.name.replace(", exact", "")), stripe);
+      bar.append(element("span", column.name), stripe);
       group.append(bar);
     });
     return group;

@@ -7,7 +7,7 @@ import { View, fitted } from "./view.js";
 
 const part = (id) => document.getElementById(id);
 const NAMES = { natural: "Natural order", reversed: "Reversed order", amd: "AMD", own: "Your permutation" };
-const WORDS = { diagonal: "on the diagonal", entry: "an entry", fill: "fill", empty: "empty", unknown: "no entry" };
+const WORDS = { diagonal: "on the diagonal", entry: "an entry", fill: "fill", later: "fill of a later step", empty: "empty", unknown: "no entry" };
 
 const page = { summary: undefined, options: undefined, isStepping: false, language: "c", turn: 0 };
 
@@ -18,8 +18,9 @@ const client = new Client(part("worker").textContent, (stage, done) => {
 });
 const view = new View(
   [...document.querySelectorAll("#pictures .frame")],
-  (key, box, side) => client.ask("draw", { key, box, side }),
+  (key, box, side, step) => client.ask("draw", { key, box, side, step }),
   (place) => tellPlace(place),
+  (fault) => fault instanceof Cancelled || blameFault(fault),
 );
 
 const say = (text) => (part("message").textContent = text);
@@ -34,6 +35,8 @@ function blame(text) {
   part("fault").hidden = text === undefined;
 }
 
+const blameFault = (fault) => blame(`${fault.message[0].toUpperCase()}${fault.message.slice(1)}.`);
+
 /** Runs a task that a person began; what it ends with is told. */
 async function run(work) {
   const turn = ++page.turn;
@@ -43,7 +46,7 @@ async function run(work) {
     await work();
   } catch (fault) {
     if (!(fault instanceof Cancelled)) {
-      blame(`${fault.message[0].toUpperCase()}${fault.message.slice(1)}.`);
+      blameFault(fault);
       say(page.summary && !part("opened").hidden ? "The matrix of before is still open." : "Choose a file or a sample.");
     }
   } finally {
@@ -87,7 +90,6 @@ async function firstOrder() {
   fillChoices();
   [part("left").value, part("right").value] = ["natural", "amd"];
   view.open(summary.n, ["natural", "amd"]);
-  view.mark(undefined);
   showAll();
   say(told);
   client.ask("count", { key: "reversed" }).then((figures) => {
@@ -98,15 +100,24 @@ async function firstOrder() {
   }, () => {});
 }
 
-function opened(name, told) {
-  page.summary = { name, ...told, orders: {} };
+/** Goes back to the first step, and to pictures of the whole factor. */
+function stepOff() {
   page.isStepping = false;
   part("step").value = 0;
+  part("step-off").hidden = true;
+  view.mark(undefined);
+}
+
+function opened(name, told) {
+  view.close();
+  page.summary = { name, ...told, orders: {} };
+  stepOff();
   part("hold").value = "";
   part("opened").hidden = true;
 }
 
 function showOwn(figures) {
+  stepOff();
   page.summary.orders.own = figures;
   fillChoices();
   part("right").value = "own";
@@ -178,7 +189,7 @@ async function tellPlace(place) {
   const keys = view.panels.map((panel) => panel.key);
   const asked = (page.asked = {});
   try {
-    const told = await client.ask("at", { keys, ...place });
+    const told = await client.ask("at", { keys, step: view.marks?.place, ...place });
     if (asked !== page.asked) return;
     const sides = told.map(({ kind, row, column }, k) => `${k === 0 ? "left" : "right"} ${WORDS[kind]} (row ${row}, column ${column} of the file)`);
     part("where").textContent = `Place ${place.row}, ${place.column}: ${sides.join("; ")}.`;
@@ -214,7 +225,7 @@ async function showTree() {
     });
     context.stroke();
     context.globalAlpha = 1;
-    const radius = tree.x.length < 300 ? 3 : 1.5;
+    const radius = radiusIn(tree);
     for (let k = 0; k < tree.x.length; k++) {
       context.beginPath();
       context.arc(atX(tree.x[k]), atY(tree.y[k]), radius, 0, 7);
@@ -223,6 +234,8 @@ async function showTree() {
   }
   showStep();
 }
+
+const radiusIn = (tree) => (tree.x.length < 300 ? 3 : 1.5);
 
 function drawPixels(context, pixels, width, height, margin) {
   const most = Math.log1p(pixels.reduce((a, b) => Math.max(a, b), 1));
@@ -237,14 +250,21 @@ function drawPixels(context, pixels, width, height, margin) {
   context.globalAlpha = 1;
 }
 
-/** The path of the step's row to its root, over the tree. */
-function drawPath(path) {
+/** The path of the step's row to its root, over the tree, where the rows of the steps before it are pale if it is small. */
+function drawPath(path, eliminated) {
   const { width, height, context } = fitted(part("tree-over"));
   context.clearRect(0, 0, width, height);
   const { tree } = page;
-  if (!tree) return;
+  if (!tree || !(path[0] < tree.x.length)) return;
   const [atX, atY] = [(x) => tree.margin + x * (width - 2 * tree.margin - 1), (y) => tree.margin + y * (height - 2 * tree.margin - 1)];
-  context.strokeStyle = context.fillStyle = getComputedStyle(document.documentElement).getPropertyValue("--front").trim();
+  const style = getComputedStyle(document.documentElement);
+  context.fillStyle = style.getPropertyValue("--line").trim();
+  for (let k = 0; k < (tree.pixels ? 0 : eliminated); k++) {
+    context.beginPath();
+    context.arc(atX(tree.x[k]), atY(tree.y[k]), radiusIn(tree) + 0.5, 0, 7);
+    context.fill();
+  }
+  context.strokeStyle = context.fillStyle = style.getPropertyValue("--front").trim();
   context.lineWidth = 2;
   context.beginPath();
   path.forEach((node, k) => context[k === 0 ? "moveTo" : "lineTo"](atX(tree.x[node]), atY(tree.y[node])));
@@ -256,22 +276,39 @@ function drawPath(path) {
 
 const percent = (some, all) => `${all === 0 ? 100 : ((100 * some) / all).toFixed(1)}%`;
 
+/** Tells the step of the slider. One question at a time: where the slider moves meanwhile, it is asked again at the end. */
 async function showStep() {
+  const { summary } = page;
+  if (summary.n === 0 || page.isAskingStep) return;
+  page.isAskingStep = true;
+  const [place, key] = [Number(part("step").value), part("right").value];
+  const wanted = { place, key, isShown: page.isStepping };
+  const told = await client.ask("step", wanted).catch(() => undefined);
+  page.isAskingStep = false;
+  if (summary !== page.summary) return page.summary && showStep();
+  if (place !== Number(part("step").value) || key !== part("right").value || wanted.isShown !== page.isStepping) return showStep();
+  if (told) tellStep(told, wanted);
+}
+
+function tellStep(told, { place, key, isShown }) {
   const { n, orders } = page.summary;
-  if (n === 0) return;
-  const place = Number(part("step").value);
-  const key = part("right").value;
-  const told = await client.ask("step", { key, place }).catch(() => undefined);
-  if (!told || place !== Number(part("step").value) || key !== part("right").value) return;
-  // The pictures stay clear until the slider is used.
-  view.mark(page.isStepping ? { place, front: told.front } : undefined);
-  drawPath(told.path);
+  part("step-off").hidden = !isShown;
+  // The pictures show the whole factor until the slider is used.
+  view.mark(isShown ? { place, front: told.front } : undefined);
+  drawPath(told.path, isShown ? place : 0);
   const { lnz, nMultSubsLdl } = orders[key];
   const rows = told.size === 1 ? "1 row" : `${shown(told.size)} rows`;
   const then = told.parent < 0 ? "It is a root of the tree." : `Its parent is step ${told.parent}.`;
   part("step-told").textContent = `Step ${place} of ${shown(n)}: row ${told.row} of the file, whose front has ${rows} below it. ${then} `
     + `Behind it are ${percent(place, n)} of the rows, ${percent(told.entries, lnz)} of the entries and ${percent(told.work, nMultSubsLdl)} `
-    + `of the multiply-subtracts; ${shown(n - place)} rows remain.`;
+    + `of the multiply-subtracts; ${shown(n - place)} rows remain${remainingIn(told, isShown)}.`;
+}
+
+/** What remains at a step, in words. */
+function remainingIn({ remaining }, isShown) {
+  if (!isShown) return "";
+  if (!remaining) return ", whose entries are too many to draw";
+  return `, with ${shown(remaining.entries)} entries below the diagonal, of which ${shown(remaining.fill)} are fill`;
 }
 
 function showCode() {
@@ -323,7 +360,7 @@ function listen() {
   });
   for (const id of ["left", "right"]) {
     part(id).addEventListener("change", () => {
-      part("step").value = 0;
+      stepOff();
       showAll();
     });
   }
@@ -340,8 +377,14 @@ function listen() {
     page.isStepping = true;
     showStep();
   });
+  part("step-off").addEventListener("click", () => {
+    stepOff();
+    part("step").focus();
+    showStep();
+  });
   for (const button of document.querySelectorAll("[data-format]")) button.addEventListener("click", () => download(button.dataset.format));
   listenToTabs();
+  part("to-contracts").addEventListener("click", () => (part("contracts").open = true));
   matchMedia("(prefers-color-scheme: dark)").addEventListener("change", () => {
     view.repaint();
     if (page.summary) showTree();

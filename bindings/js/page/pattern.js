@@ -42,11 +42,12 @@ function lowerBound(list, from, to, least) {
 
 /** Squares of the matrix as pixels: the square part that begins at (left, top) and has `size` rows, in side by side pixels. */
 class Raster {
-  constructor(box, side) {
-    this.box = box;
-    this.side = side;
+  constructor(n, box, side) {
+    Object.assign(this, { box, side });
     this.entries = new Float32Array(side * side);
     this.fill = new Float32Array(side * side);
+    this.across = this.places(box.left, n);
+    this.down = this.places(box.top, n);
   }
 
   /** The pixels of rows or columns, from `start` on; those outside have -1. */
@@ -62,68 +63,192 @@ class Raster {
   }
 }
 
-/**
- * Counts the entries and the fill in each pixel of a box. `order` has p, pInv and, where the factor was written, pointers and
- * rows; of the pattern both triangles are counted, and the diagonal.
- */
-export function counted(pattern, order, box, side) {
-  const raster = new Raster(box, side);
-  const { n } = pattern;
-  const across = raster.places(box.left, n);
-  const down = raster.places(box.top, n);
-  const put = (into, row, column, sign) => {
-    const [y, x] = [down.pixels[row], across.pixels[column]];
-    if (y >= 0 && x >= 0) into[y * side + x] += sign;
-  };
+/** The entries of A + A'. Those of the columns before `step` are taken off the fill, to which the factor's columns are added. */
+function addEntries({ entries, fill, side, across, down }, pattern, order, step) {
   for (let k = across.first; k < across.last; k++) {
-    const j = order.p[k];
     const x = across.pixels[k];
     if (x < 0) continue;
-    if (pattern.diagonal[j]) put(raster.entries, k, k, 1);
+    const j = order.p[k];
+    if (pattern.diagonal[j] && down.pixels[k] >= 0) entries[down.pixels[k] * side + x] += 1;
     for (let at = pattern.pointers[j]; at < pattern.pointers[j + 1]; at++) {
-      const y = down.pixels[order.pInv[pattern.indices[at]]];
+      const row = order.pInv[pattern.indices[at]];
+      const y = down.pixels[row];
       if (y < 0) continue;
-      raster.entries[y * side + x] += 1;
-      raster.fill[y * side + x] -= 1;
+      entries[y * side + x] += 1;
+      if (k < step || row < step) fill[y * side + x] -= 1;
     }
   }
+}
+
+/** The factor's columns before `step`, as columns below the diagonal or, mirrored, as rows above it. */
+function addFactor({ fill, side, across, down }, order, step, isMirrored) {
+  const [own, other] = isMirrored ? [down, across] : [across, down];
+  const [ownStride, otherStride] = isMirrored ? [side, 1] : [1, side];
+  for (let k = own.first; k < Math.min(own.last, step); k++) {
+    if (own.pixels[k] < 0) continue;
+    const base = own.pixels[k] * ownStride;
+    const end = order.pointers[k + 1];
+    for (let at = lowerBound(order.rows, order.pointers[k], end, other.first); at < end && order.rows[at] < other.last; at++) {
+      const pixel = other.pixels[order.rows[at]];
+      if (pixel >= 0) fill[base + pixel * otherStride] += 1;
+    }
+  }
+}
+
+/** The factor's columns before `step` by themselves, below the diagonal. */
+function addedFactor(raster, order, step) {
+  const fill = new Float32Array(raster.fill.length);
+  addFactor({ ...raster, fill }, order, step, false);
+  return fill;
+}
+
+/** Adds counts and their mirror image, of a square about the diagonal: so the factor is read once. */
+function addMirrored(fill, side, added) {
+  for (let at = 0; at < added.length; at++) {
+    if (added[at] === 0) continue;
+    const x = at % side;
+    fill[at] += added[at];
+    fill[x * side + (at - x) / side] += added[at];
+  }
+}
+
+/**
+ * Counts the entries and the fill in each pixel of a box. `order` has p, pInv and, where the factor was written, pointers and
+ * rows; of the pattern both triangles are counted, and the diagonal. With `elements`, of elementsAt, the rows from their step on
+ * have the fill of the rows before it alone, if that is not too much to count.
+ */
+export function counted(pattern, order, box, side, elements) {
+  const raster = new Raster(pattern.n, box, side);
+  const step = elements ? elements.step : pattern.n;
+  addEntries(raster, pattern, order, step);
   if (!order.rows) {
     raster.fill.fill(0);
     return raster;
   }
-  // The factor below the diagonal, and its mirror image; the entries of the matrix among them were taken off above.
-  for (let k = across.first; k < across.last; k++) {
-    const x = across.pixels[k];
-    if (x < 0) continue;
-    const end = order.pointers[k + 1];
-    for (let at = lowerBound(order.rows, order.pointers[k], end, down.first); at < end && order.rows[at] < down.last; at++) {
-      const y = down.pixels[order.rows[at]];
-      if (y >= 0) raster.fill[y * side + x] += 1;
-    }
+  const { fill, across, down } = raster;
+  if (box.left === box.top) {
+    addMirrored(fill, side, addedFactor(raster, order, step));
+  } else {
+    addFactor(raster, order, step, false);
+    addFactor(raster, order, step, true);
   }
-  for (let k = down.first; k < down.last; k++) {
-    const y = down.pixels[k];
-    if (y < 0) continue;
-    const end = order.pointers[k + 1];
-    for (let at = lowerBound(order.rows, order.pointers[k], end, across.first); at < end && order.rows[at] < across.last; at++) {
-      const x = across.pixels[order.rows[at]];
-      if (x >= 0) raster.fill[y * side + x] += 1;
-    }
+  if (elements) {
+    visitFill(pattern, order, elements, across, (row, column) => {
+      const [y, x] = [down.pixels[row], across.pixels[column]];
+      if (y >= 0 && x >= 0) fill[y * side + x] += 1;
+    });
   }
   return raster;
 }
 
-/** What stands at a place of the matrix in an order: "diagonal", "entry", "fill", "empty", or "unknown" without the factor. */
-export function kindAt(pattern, order, row, column) {
+// Visits of a clique's rows that a picture may take: they take half a second.
+const MOST_VISITS = 3e8;
+
+/** Whether two columns of a factor have the same rows. */
+function areAlike({ pointers, rows }, a, b) {
+  const size = pointers[a + 1] - pointers[a];
+  if (pointers[b + 1] - pointers[b] !== size) return false;
+  for (let k = 0; k < size; k++) if (rows[pointers[a] + k] !== rows[pointers[b] + k]) return false;
+  return true;
+}
+
+/** The columns before `step` whose parents are not before it, those with the same rows once. */
+function livingAt(order, step) {
+  const { parent, pointers, rows } = order;
+  const alike = new Map();
+  const living = [];
+  for (let k = 0; k < step; k++) {
+    if (parent[k] < step) continue;
+    const [first, end] = [pointers[k], pointers[k + 1]];
+    const key = (rows[first] * 31 + rows[end - 1]) * 31 + (end - first);
+    if (alike.has(key) && areAlike(order, alike.get(key), k)) continue;
+    alike.set(key, k);
+    living.push(k);
+  }
+  return living;
+}
+
+/**
+ * The elements when the rows before `step` are eliminated, listed by row. What remains of the matrix is its own entries and a
+ * clique for each element: the rows of a column whose parent remains, which hold those of all columns below it in the tree.
+ * Source: Duff and Reid, "The multifrontal solution of indefinite sparse symmetric linear equations" (1983).
+ */
+export function elementsAt(order, step) {
+  const { pointers, rows } = order;
+  const n = order.p.length;
+  const starts = new Int32Array(n + 1);
+  const living = livingAt(order, step);
+  for (const k of living) for (let at = pointers[k]; at < pointers[k + 1]; at++) starts[rows[at] + 1] += 1;
+  for (let i = 0; i < n; i++) starts[i + 1] += starts[i];
+  const next = starts.slice(0, n);
+  const list = new Int32Array(starts[n]);
+  for (const k of living) for (let at = pointers[k]; at < pointers[k + 1]; at++) list[next[rows[at]]++] = k;
+  return { step, starts, list, seen: new Int32Array(n).fill(-1) };
+}
+
+/** How many rows are visited for the fill of these columns. */
+function visitsOf({ pointers }, { step, starts, list }, { first, last }) {
+  let visits = 0;
+  for (let at = starts[Math.min(Math.max(first, step), last)]; at < starts[last]; at++) visits += pointers[list[at] + 1] - pointers[list[at]];
+  return visits;
+}
+
+/** Visits each fill (row, column) that remains, once; false where it is too much. The columns are those from `first` to `last`. */
+export function visitFill(pattern, order, elements, { first, last }, visit) {
+  if (visitsOf(order, elements, { first, last }) > MOST_VISITS) return false;
+  const { step, starts, list, seen } = elements;
+  seen.fill(-1);
+  for (let j = Math.max(first, step); j < last; j++) {
+    seen[j] = j;
+    const own = order.p[j];
+    for (let at = pattern.pointers[own]; at < pattern.pointers[own + 1]; at++) seen[order.pInv[pattern.indices[at]]] = j;
+    for (let k = starts[j]; k < starts[j + 1]; k++) {
+      const end = order.pointers[list[k] + 1];
+      for (let at = order.pointers[list[k]]; at < end; at++) {
+        const i = order.rows[at];
+        if (seen[i] === j) continue;
+        seen[i] = j;
+        visit(i, j);
+      }
+    }
+  }
+  return true;
+}
+
+/** How many entries the rows from the step on have below the diagonal, and how many of them are fill; or nothing. */
+export function remainingAt(pattern, order, elements) {
+  const { step } = elements;
+  let [entries, fill] = [0, 0];
+  const isCounted = visitFill(pattern, order, elements, { first: step, last: pattern.n }, () => (fill += 1));
+  if (!isCounted) return undefined;
+  for (let k = step; k < pattern.n; k++) {
+    const j = order.p[k];
+    for (let at = pattern.pointers[j]; at < pattern.pointers[j + 1]; at++) if (order.pInv[pattern.indices[at]] > k) entries += 1;
+  }
+  return { entries: entries + fill / 2, fill: fill / 2 };
+}
+
+/**
+ * What stands at a place of the matrix in an order: "diagonal", "entry", "fill", "empty", or "unknown" without the factor. With
+ * `elements` a fill of a later step is "later".
+ */
+export function kindAt(pattern, order, row, column, elements) {
   if (row === column) return "diagonal";
   const [i, j] = [order.p[row], order.p[column]];
   const at = lowerBound(pattern.indices, pattern.pointers[j], pattern.pointers[j + 1], i);
   if (at < pattern.pointers[j + 1] && pattern.indices[at] === i) return "entry";
   if (!order.rows) return "unknown";
   const [low, high] = [Math.min(row, column), Math.max(row, column)];
-  const end = order.pointers[low + 1];
-  const found = lowerBound(order.rows, order.pointers[low], end, high);
-  return found < end && order.rows[found] === high ? "fill" : "empty";
+  if (!hasRow(order, low, high)) return "empty";
+  if (!elements || low < elements.step) return "fill";
+  const holding = elements.list.subarray(elements.starts[low], elements.starts[low + 1]);
+  return holding.some((k) => hasRow(order, k, high)) ? "fill" : "later";
+}
+
+/** Whether a column of a factor has a row. */
+function hasRow({ pointers, rows }, column, row) {
+  const found = lowerBound(rows, pointers[column], pointers[column + 1], row);
+  return found < pointers[column + 1] && rows[found] === row;
 }
 
 /** Where the nodes of a forest are drawn: leaves side by side, a parent amid its children, roots on top; both from 0 to 1. */

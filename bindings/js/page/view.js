@@ -39,13 +39,17 @@ export function fitted(canvas) {
 }
 
 export class View {
-  /** `ask(key, box, side)` answers with the counts of a box; `tellPlace(place)` is told the place under the pointer. */
-  constructor(panels, ask, tellPlace) {
+  /**
+   * `ask(key, box, side, step)` answers with the counts of a box; `tellPlace(place)` is told the place under the pointer,
+   * and `tellFault(fault)` why a picture is not drawn.
+   */
+  constructor(panels, ask, tellPlace, tellFault) {
     this.panels = panels.map((frame) => ({
       plot: frame.querySelector(".plot"), over: frame.querySelector(".over"), key: undefined, shown: undefined, isAsking: false,
     }));
     this.ask = ask;
     this.tellPlace = tellPlace;
+    this.tellFault = tellFault;
     this.marks = undefined;
     this.withFill = true;
     for (const panel of this.panels) this.listen(panel.plot);
@@ -53,11 +57,17 @@ export class View {
     for (const panel of this.panels) observer.observe(panel.plot);
   }
 
-  /** Shows a matrix with n rows, all of it. */
+  /** Shows a matrix with n rows, all of it. One without rows has empty pictures. */
   open(n, keys) {
     this.n = n;
     keys.forEach((key, k) => Object.assign(this.panels[k], { key, shown: undefined }));
+    if (n === 0) for (const { key, plot } of this.panels) Object.assign(plot.dataset, { entries: 0, fill: 0, shown: `${key} 0`, step: "" });
     this.whole();
+  }
+
+  /** Shows no matrix. */
+  close() {
+    Object.assign(this, { n: 0, marks: undefined, pointed: undefined });
   }
 
   whole() {
@@ -84,10 +94,11 @@ export class View {
 
   /** Draws what is known at once, and asks for the rest. */
   refresh() {
-    if (!this.n) return;
     for (const panel of this.panels) {
+      // A finger that drags the whole matrix would move nothing: so it scrolls the page.
+      panel.plot.classList.toggle("whole", !this.n || this.box.size >= this.n);
       this.draw(panel);
-      this.fetch(panel);
+      if (this.n) this.fetch(panel);
     }
   }
 
@@ -102,17 +113,20 @@ export class View {
     const [x, y] = [Math.floor(left), Math.floor(top)];
     const count = Math.ceil(size) + 1;
     const asked = isNear ? { box: { left: x, top: y, size: count }, side: count } : { box: { left, top, size }, side: width };
-    const wanted = JSON.stringify([panel.key, asked]);
+    const step = this.stepOf(panel);
+    const wanted = JSON.stringify([panel.key, asked, step]);
     if (panel.shown?.wanted === wanted) return;
     panel.isAsking = true;
     try {
-      const counts = await this.ask(panel.key, asked.box, asked.side);
+      const counts = await this.ask(panel.key, asked.box, asked.side, step);
       panel.shown = { wanted, counts, key: panel.key, ...asked };
       panel.image = undefined;
       const sum = (list) => list.reduce((total, count) => total + count, 0);
-      Object.assign(panel.plot.dataset, { entries: sum(counts.entries), fill: sum(counts.fill), shown: `${panel.key} ${asked.box.size}` });
-    } catch {
-      return; // a cancelled task; the next one asks anew
+      const told = { entries: sum(counts.entries), fill: sum(counts.fill), shown: `${panel.key} ${asked.box.size}`, step: step ?? "" };
+      Object.assign(panel.plot.dataset, told);
+    } catch (fault) {
+      this.tellFault(fault); // that of a cancelled task too; the next one asks anew
+      return;
     } finally {
       panel.isAsking = false;
     }
@@ -129,7 +143,7 @@ export class View {
   draw(panel) {
     const { width, height, context } = fitted(panel.plot);
     context.clearRect(0, 0, width, height);
-    if (!panel.shown || panel.shown.key !== panel.key) return;
+    if (!panel.shown || panel.shown.key !== panel.key) return this.drawOver(panel);
     panel.image ??= painted(panel.shown.counts, panel.shown.side, this.withFill);
     const { box } = panel.shown;
     const scale = width / this.box.size;
@@ -140,12 +154,12 @@ export class View {
 
   /** The step of the elimination, and the place under the pointer. */
   drawOver(panel) {
-    if (!this.n) return;
     const { width, height, context } = fitted(panel.over);
+    context.clearRect(0, 0, width, height);
+    if (!this.n) return;
     const style = getComputedStyle(document.documentElement);
     const scale = width / this.box.size;
     const at = (place, start) => (place - start) * scale;
-    context.clearRect(0, 0, width, height);
     if (this.marks && panel === this.panels[1]) {
       const { place, front } = this.marks;
       const [x, y] = [at(place, this.box.left), at(place, this.box.top)];
@@ -173,9 +187,16 @@ export class View {
     }
   }
 
+  /** Shows a step of the elimination on the right, or the whole factor again. */
   mark(marks) {
     this.marks = marks;
     this.drawOver(this.panels[1]);
+    if (this.n) this.fetch(this.panels[1]);
+  }
+
+  /** The step that a picture shows: the rows from it on have the fill of the rows before it alone. */
+  stepOf(panel) {
+    return panel === this.panels[1] ? this.marks?.place : undefined;
   }
 
   point(place) {

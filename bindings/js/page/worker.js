@@ -3,14 +3,14 @@
 import { bytes } from "./bytes.js";
 import { NotPermutation, OutOfMemory, callsOf } from "./calls.js";
 import { FileFault, looksLikePermutation, readMatrix, readPermutation } from "./matrix.js";
-import { counted, kindAt, symmetrized, treeLayout, treeRaster } from "./pattern.js";
+import { counted, elementsAt, kindAt, remainingAt, symmetrized, treeLayout, treeRaster } from "./pattern.js";
 import { SAMPLES } from "./samples.js";
 
 // A factor with more entries is counted, and not drawn: that many take half a second to count into pixels.
 const MOST_DRAWN = 60_000_000;
 
 let calls;
-const state = { matrix: undefined, pattern: undefined, orders: {}, layouts: {} };
+const state = { matrix: undefined, pattern: undefined, orders: {}, layouts: {}, elements: undefined };
 
 const tell = (id, message, transfer = []) => postMessage({ id, ...message }, transfer);
 const progress = (id, stage, part) => tell(id, { kind: "progress", stage, part });
@@ -56,6 +56,7 @@ const figuresOf = (order) => ({ ...order.needs, isDrawn: isDrawn(order), info: o
 function keep(key, p, pInv, info) {
   state.orders[key] = measured(p, pInv, info);
   delete state.layouts[key];
+  state.elements = undefined;
   return figuresOf(state.orders[key]);
 }
 
@@ -64,8 +65,16 @@ function identity(n, isReversed) {
 }
 
 function open(matrix) {
-  Object.assign(state, { matrix, pattern: undefined, orders: {}, layouts: {} });
+  Object.assign(state, { matrix, pattern: undefined, orders: {}, layouts: {}, elements: undefined });
   return { n: matrix.n, entries: matrix.indices.length };
+}
+
+/** The elements of a step, the last of which are kept; nothing without a step, or where the factor is not written. */
+function elementsOf(key, step) {
+  const order = drawnOrder(key);
+  if (step === undefined || !order.rows) return undefined;
+  if (state.elements?.key !== key || state.elements.step !== step) state.elements = { key, ...elementsAt(order, step) };
+  return state.elements;
 }
 
 /** The pattern of A + A', which is made when it is first drawn. */
@@ -111,22 +120,24 @@ const tasks = {
     return keep("own", p, inverseOf(p));
   },
 
-  draw(id, { key, box, side }) {
-    const raster = counted(patternOf(), drawnOrder(key), box, side);
+  draw(id, { key, box, side, step }) {
+    const raster = counted(patternOf(), drawnOrder(key), box, side, elementsOf(key, step));
     return { entries: raster.entries, fill: raster.fill, transfer: [raster.entries.buffer, raster.fill.buffer] };
   },
 
-  at(id, { keys, row, column }) {
-    return keys.map((key) => ({
-      kind: kindAt(patternOf(), drawnOrder(key), row, column),
+  /** What stands at a place on both sides; a step is that of the second one. */
+  at(id, { keys, row, column, step }) {
+    return keys.map((key, side) => ({
+      kind: kindAt(patternOf(), drawnOrder(key), row, column, side === 1 ? elementsOf(key, step) : undefined),
       row: state.orders[key].p[row],
       column: state.orders[key].p[column],
     }));
   },
 
-  /** One step of the elimination: what was done before it, and the rows of its front. */
-  step(id, { key, place }) {
-    const { sizes, rows, pointers, p, parent } = drawnOrder(key);
+  /** One step of the elimination: what was done before it, the rows of its front, and, where it is shown, what remains. */
+  step(id, { key, place, isShown }) {
+    const order = drawnOrder(key);
+    const { sizes, rows, pointers, p, parent } = order;
     let [entries, work] = [0, 0];
     for (let k = 0; k < place; k++) {
       entries += sizes[k];
@@ -135,7 +146,9 @@ const tasks = {
     const path = [];
     for (let node = place; node >= 0 && path.length < 100000; node = parent[node]) path.push(node);
     const front = rows ? rows.slice(pointers[place], pointers[place + 1]) : new Int32Array(0);
-    return { row: p[place], size: sizes[place], parent: parent[place], entries, work, front, path: Int32Array.from(path) };
+    const elements = isShown ? elementsOf(key, place) : undefined;
+    const remaining = elements && remainingAt(patternOf(), order, elements);
+    return { row: p[place], size: sizes[place], parent: parent[place], entries, work, front, path: Int32Array.from(path), remaining };
   },
 
   tree(id, { key, width, height }) {
