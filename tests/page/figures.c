@@ -82,7 +82,7 @@ int main(int argc, char **argv)
     count("amd", a, p);
     for (k = 0; k < n; k++)
         sum = (sum ^ (unsigned)p[k]) * 1099511628211ULL;
-    printf(", \"bound\": {\"lnz\": %.0f, \"nMultSubsLdl\": %.0f, \"nMultSubsLu\": %.0f, \"dMax\": %.0f}, \"pairs\": %.0f, \"sum\": \"%llu\"}\n",
-           info[AMD_LNZ], info[AMD_NMULTSUBS_LDL], info[AMD_NMULTSUBS_LU], info[AMD_DMAX], info[AMD_NZ_A_PLUS_AT], sum);
+    printf(", \"bound\": {\"lnz\": %.0f, \"nMultSubsLdl\": %.0f, \"nMultSubsLu\": %.0f, \"dMax\": %.0f}, \"pairs\": %.0f, \"n\": %d, \"sum\": \"%llu\"}\n",
+           info[AMD_LNZ], info[AMD_NMULTSUBS_LDL], info[AMD_NMULTSUBS_LU], info[AMD_DMAX], info[AMD_NZ_A_PLUS_AT], n, sum);
     return 0;
 }

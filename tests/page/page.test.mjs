@@ -1,5 +1,6 @@
-// Tests the page RIMOPAKU_PAGE in chromium, from file://, as a person would use it. FIGURES is the program of figures.c, or empty;
-// COMMAND is the command rimopaku, or empty; SHOTS a folder for pictures of the page, or empty.
+// Tests the page RIMOPAKU_PAGE in a browser, from file://, as a person would use it. BROWSER is chromium or firefox, and PROGRAM its
+// name; FIGURES is the program of figures.c, or empty; COMMAND is the command rimopaku, or empty; SHOTS a folder for pictures of the page, or
+// empty; RIMOPAKU_JS is the folder of the package.
 import assert from "node:assert/strict";
 import { execFileSync } from "node:child_process";
 import { mkdtempSync, readFileSync, readdirSync, rmSync, writeFileSync } from "node:fs";
@@ -9,17 +10,22 @@ import test, { after, before } from "node:test";
 import { pathToFileURL } from "node:url";
 import { gzipSync } from "node:zlib";
 import { SAMPLES } from "../../bindings/js/page/samples.js";
-import { Browser, pause } from "./browser.mjs";
+import { pause } from "./browser.mjs";
+import { Chromium } from "./chromium.mjs";
+import { countFrom, eliminate, tableOf } from "./elimination.mjs";
 import { fileOf } from "./files.mjs";
+import { Firefox } from "./firefox.mjs";
+import { serve } from "./server.mjs";
 
 const url = pathToFileURL(process.env.RIMOPAKU_PAGE).href;
-const { FIGURES, COMMAND, SHOTS } = process.env;
+const { FIGURES, COMMAND, SHOTS, PROGRAM, RIMOPAKU_JS } = process.env;
+const isFirefox = process.env.BROWSER === "firefox";
 const folder = mkdtempSync(join(tmpdir(), "rimopaku-files-"));
 const downloads = join(folder, "downloads");
 let browser;
 
 before(async () => {
-  browser = await Browser.start(process.env.CHROMIUM || "chromium");
+  browser = await (isFirefox ? Firefox : Chromium).start(PROGRAM);
   await browser.open(url, downloads);
 });
 after(async () => {
@@ -85,28 +91,54 @@ function fileOfSample(key) {
 
 /** What SuiteSparse says of a file, as the table has it. */
 function expected(path) {
-  const { natural, reversed, amd, bound, pairs, sum } = JSON.parse(execFileSync(FIGURES, [path], { encoding: "utf8" }));
-  return { orders: { natural, reversed, amd, bound }, pairs, sum };
+  const { natural, reversed, amd, bound, pairs, sum, n } = JSON.parse(execFileSync(FIGURES, [path], { encoding: "utf8" }));
+  return { orders: { natural, reversed, amd, bound }, pairs, sum, n };
 }
 
-function compare(told, { orders, pairs }) {
+function compare(told, { orders, pairs, n }) {
   for (const [key, { lnz, nMultSubsLdl, nMultSubsLu, dMax }] of Object.entries(orders)) {
     assert.equal(told[key].lnz, lnz, `${key} lnz`);
     assert.equal(told[key].filled, lnz - pairs / 2, `${key} fill`);
     assert.equal(told[key].flops, lnz + 2 * nMultSubsLdl, `${key} flops`);
     assert.equal(told[key].nMultSubsLu, nMultSubsLu, `${key} LU`);
     assert.equal(told[key].dMax, dMax, `${key} front`);
+    assert.equal(told[key].memory, lnz + n, `${key} memory`);
   }
 }
 
-/** The figures that the command `rimopaku` tells of the same file. */
-function compareWithCommand(told, path) {
-  const options = { encoding: "utf8", stdio: ["ignore", "pipe", "ignore"] };
-  const json = JSON.parse(execFileSync(COMMAND, ["order", path, "--compare", "--json"], options));
-  for (const [key, name] of [["natural", "as_it_stands"], ["amd", "ordered"], ["bound", "at_most"]]) {
-    assert.equal(told[key].lnz, json[name].entries_of_l, `${name} lnz`);
-    assert.equal(told[key].nMultSubsLu, json[name].multiply_subtracts_lu, `${name} LU`);
-    assert.equal(told[key].dMax, json[name].largest_column, `${name} front`);
+const COMMAND_NAMES = { natural: "as_it_stands", amd: "ordered", bound: "at_most" };
+
+/** The figures and the order that the command `rimopaku` tells of the same file; `others` are keys with orders of their own. */
+function compareWithCommand(told, path, options = [], others = {}) {
+  const run = (more) => {
+    const words = ["order", path, "--compare", "--json", ...options, ...more];
+    return JSON.parse(execFileSync(COMMAND, words, { encoding: "utf8", stdio: ["ignore", "pipe", "ignore"] }));
+  };
+  const compareOne = (key, figures) => {
+    assert.equal(told[key].lnz, figures.entries_of_l, `${key} lnz`);
+    assert.equal(told[key].flops, figures.entries_of_l + 2 * figures.multiply_subtracts_ldl, `${key} flops`);
+    assert.equal(told[key].nMultSubsLu, figures.multiply_subtracts_lu, `${key} LU`);
+    assert.equal(told[key].dMax, figures.largest_column, `${key} front`);
+    if ("fill" in figures) assert.equal(told[key].filled, figures.fill, `${key} fill`);
+  };
+  const json = run([]);
+  for (const [key, name] of Object.entries(COMMAND_NAMES)) compareOne(key, json[name]);
+  for (const [key, p] of Object.entries(others)) {
+    const list = join(folder, "order-for-the-command.txt");
+    writeFileSync(list, p.map((row) => `${row + 1}\n`).join(""));
+    compareOne(key, run(["--with", list]).with);
+  }
+  return json.permutation.map((row) => row - 1);
+}
+
+/** Each figure of the table has a bar, as long as the number beside the greatest one of its row. */
+async function barsAre(told) {
+  const bars = await browser.value(`[...document.querySelectorAll("#bars .bar")].map((bar) => [
+    bar.dataset.figure, bar.dataset.order, Number.parseFloat(bar.querySelector("i").style.width)])`);
+  assert.equal(bars.length, Object.keys(told).length * Object.keys(told.amd).length);
+  for (const [figure, order, width] of bars) {
+    const most = Math.max(...Object.values(told).map((figures) => figures[figure]), 1);
+    assert.ok(Math.abs(width - (100 * told[order][figure]) / most) < 0.01, `${figure} ${order}`);
   }
 }
 
@@ -135,19 +167,30 @@ async function downloaded(format) {
 
 async function shoot(name, width, height, { dark = false, mobile = false, clip = undefined } = {}) {
   if (!SHOTS) return;
-  const metrics = { width, height, deviceScaleFactor: mobile ? 2 : 1, mobile };
-  await browser.send("Emulation.setDeviceMetricsOverride", metrics);
-  await browser.send("Emulation.setEmulatedMedia", { features: [{ name: "prefers-color-scheme", value: dark ? "dark" : "light" }] });
+  await browser.look({ width, height, dark, mobile });
   // As high as the page, so that nothing moves while the picture is taken.
   await pause(200);
   const whole = await browser.value("document.documentElement.scrollHeight");
-  await browser.send("Emulation.setDeviceMetricsOverride", { ...metrics, height: whole });
+  await browser.look({ width, height: whole, dark, mobile });
   await pause(1000);
   await settled();
   writeFileSync(join(SHOTS, `${name}.png`), await browser.picture(clip));
-  await browser.send("Emulation.clearDeviceMetricsOverride");
-  await browser.send("Emulation.setEmulatedMedia", { features: [] });
+  await browser.lookAsBefore();
 }
+
+/** Where the parts of something are in the window: from 0 to 1 across and down. */
+async function placesIn(selector) {
+  const box = await browser.value(`(() => {
+    const it = document.querySelector(${JSON.stringify(selector)});
+    it.scrollIntoView({ block: "center", behavior: "instant" });
+    const { x, y, width, height } = it.getBoundingClientRect();
+    return { x, y, width, height };
+  })()`);
+  return (x, y) => [box.x + x * box.width, box.y + y * box.height];
+}
+
+/** The order that is on the right, from its file. */
+const orderOnTheRight = async () => (await downloaded("text")).trim().split("\n").map((row) => Number(row) - 1);
 
 for (const { key, make } of SAMPLES.filter((sample) => sample.key !== "million")) {
   test(`the sample ${key}`, async () => {
@@ -165,6 +208,7 @@ for (const { key, make } of SAMPLES.filter((sample) => sample.key !== "million")
       assert.ok((await drawn(`.plot[data-panel="${panel}"]`)) > 0.001);
     }
     assert.ok((await drawn("#tree")) > 0.001);
+    await barsAre(told);
     await shoot(`sample-${key}`, 1280, 1000);
   });
 }
@@ -189,8 +233,10 @@ test("a dropped file, plain and compressed, has the figures of SuiteSparse and o
   await browser.until("document.getElementById('message').textContent.startsWith('truss.mtx')");
   await settled();
   const plain = await figures();
+  const n = plain.amd.memory - plain.amd.lnz;
+  const reversed = Array.from({ length: n }, (_, k) => n - 1 - k);
   if (FIGURES) compare(plain, expected(path));
-  if (COMMAND) compareWithCommand(plain, path);
+  if (COMMAND) assert.deepEqual(compareWithCommand(plain, path, [], { reversed }), await orderOnTheRight());
   writeFileSync(`${path}.gz`, gzipSync(readFileSync(path)));
   await browser.give("#file", `${path}.gz`);
   await browser.until("document.getElementById('message').textContent.startsWith('truss.mtx.gz')");
@@ -238,19 +284,61 @@ test("a broken file is refused with the line", async () => {
   assert.match(await text("#fault"), /gzip/);
 });
 
-test("a permutation of the person's own", async () => {
-  await pick("arrow");
-  const path = join(folder, "own.txt");
-  writeFileSync(path, Array.from({ length: 100 }, (_, k) => 99 - k).join("\n"));
-  await browser.give("#file", path);
-  await browser.until("document.getElementById('right').value === 'own'");
-  await settled();
+/** A drawn order of n rows. */
+function drawnOrder(n) {
+  const p = Array.from({ length: n }, (_, k) => k);
+  let state = 20;
+  for (let k = n - 1; k > 0; k--) {
+    state = (state * 1103515245 + 12345) % 2 ** 31;
+    const other = state % (k + 1);
+    [p[k], p[other]] = [p[other], p[k]];
+  }
+  return p;
+}
+
+test("a permutation of the person's own, in each form", async () => {
+  await pick("truss");
+  const n = 183;
+  const p = drawnOrder(n);
+  const forms = {
+    "own.txt": p.map((row) => `${row + 1}\n`).join(""),
+    "own-from-0.txt": p.join("\n"),
+    "own.mtx": `%%MatrixMarket matrix array integer general\n% a note\n${n} 1\n${p.map((row) => `${row + 1}\n`).join("")}`,
+    "own.py": `p = [${p.join(", ")}]\n`,
+    "own.jl": `p = [${p.map((row) => row + 1).join(", ")}]\n`,
+    "own.csv": p.map((row) => row + 1).join(","),
+  };
+  for (const [name, content] of Object.entries(forms)) {
+    const path = join(folder, name);
+    writeFileSync(path, content);
+    await set("#right", "amd");
+    await ending(() => browser.give("#file", path));
+    await browser.until("document.getElementById('right').value === 'own'");
+    await settled();
+    assert.deepEqual(await orderOnTheRight(), p, name);
+  }
   const told = await figures();
-  assert.equal(told.own.lnz, told.reversed.lnz);
-  writeFileSync(path, Array.from({ length: 100 }, (_, k) => (k === 40 ? 7 : k + 1)).join("\n"));
-  await browser.give("#file", path);
-  await browser.until("!document.getElementById('fault').hidden");
-  assert.match(await text("#fault"), /^Line 41: /);
+  if (COMMAND) compareWithCommand(told, fileOfSample("truss"), [], { own: p });
+  await barsAre(told);
+});
+
+test("a wrong permutation is refused with the line", async () => {
+  await pick("arrow");
+  const lines = Array.from({ length: 100 }, (_, k) => k + 1);
+  const wrong = [
+    [lines.map((row) => (row === 41 ? 7 : row)), /^Line 41: 7 stands there twice/],
+    [lines.slice(1), /^The permutation has 99 numbers, and the matrix 100 rows/],
+    [[...lines, 5], /^Line 101: there are more numbers than the 100 rows/],
+    [lines.map((row) => (row === 3 ? 101 : row)), /^Line 3: 101 is no row/],
+    [lines.map((row) => (row === 3 ? 0 : row)), /^Line 100: 100 is no row/],
+  ];
+  for (const [rows, message] of wrong) {
+    const path = join(folder, "wrong.txt");
+    writeFileSync(path, rows.join("\n"));
+    await ending(() => browser.give("#file", path));
+    assert.match(await text("#fault"), message);
+  }
+  assert.equal((await figures()).own, undefined);
 });
 
 test("parameters change the order and the calls", async () => {
@@ -265,8 +353,11 @@ test("parameters change the order and the calls", async () => {
   }
   const after = await figures();
   assert.notEqual(after.amd.lnz, before.amd.lnz);
-  const p = (await downloaded("text")).trim().split("\n").map((row) => Number(row) - 1);
+  const p = await orderOnTheRight();
   assert.deepEqual(p.slice(-11), [0, 1, 2, 3, 4, 5, 6, 7, 8, 9, 40]);
+  const held = join(folder, "held.txt");
+  writeFileSync(held, [1, 2, 3, 4, 5, 6, 7, 8, 9, 10, 41].join("\n"));
+  if (COMMAND) assert.deepEqual(compareWithCommand(after, fileOfSample("network"), ["--hold", held]), p);
   await set("#hold", "7-");
   await browser.until("!document.getElementById('fault').hidden");
   await set("#hold", "");
@@ -277,6 +368,16 @@ test("parameters change the order and the calls", async () => {
     await click(`#tab-${tab}`);
     assert.match(await text("#code"), tab === "c" ? /parameters\.dense = 1000/ : /dense/);
   }
+  if (COMMAND) assert.deepEqual(compareWithCommand(await figures(), fileOfSample("network"), ["--dense", "1"]), await orderOnTheRight());
+  await set("#aggressive", false);
+  await browser.until("document.getElementById('code').textContent.includes('aggressive')");
+  await settled();
+  const others = ["--dense", "1", "--no-aggressive"];
+  if (COMMAND) assert.deepEqual(compareWithCommand(await figures(), fileOfSample("network"), others), await orderOnTheRight());
+  // The picture is that of the order of these parameters.
+  await browser.until(`Number(document.querySelectorAll(".plot")[1].dataset.fill) === ${
+    2 * (await figures()).amd.lnz - (SAMPLES.find(({ key }) => key === "network").make().indices.length - 1500)}`);
+  await set("#aggressive", true);
   await set("#dense", "10");
   await settled();
   await browser.until(`!document.getElementById('code').textContent.includes('1000')`);
@@ -291,46 +392,197 @@ test("zoom, drag and the keyboard move both pictures", async () => {
   await click("#closer");
   await browser.until(`${shownRows(0)} < 1000 && ${shownRows(1)} < 1000`);
   assert.ok((await counts(1)).entries < whole.entries);
-  const key = (name) => browser.value(`document.querySelector(".plot").dispatchEvent(
-    new KeyboardEvent("keydown", { key: "${name}", bubbles: true }))`);
   const before = await size();
-  await key("+");
+  await browser.value("document.querySelector('.plot').focus()");
+  await browser.press("+");
   await browser.until(`${shownRows(0)} < ${before}`);
-  await key("0");
+  await browser.press("0");
   await browser.until(`${shownRows(1)} === 1600`);
   assert.deepEqual(await counts(1), whole);
-  const box = await browser.value(`(({ x, y, width, height }) => ({ x, y, width, height }))(
-    document.querySelector(".plot").getBoundingClientRect())`);
-  const mouse = (type, x, y, more = {}) =>
-    browser.send("Input.dispatchMouseEvent", { type, x: box.x + x * box.width, y: box.y + y * box.height, ...more });
-  await mouse("mouseMoved", 0.5, 0.5);
+  const at = await placesIn(".plot");
+  await browser.move([at(0.4, 0.4), at(0.505, 0.505)]);
   await browser.until("document.getElementById('where').textContent.startsWith('Place 8')");
-  assert.match(await text("#where"), /diagonal/);
-  await mouse("mouseWheel", 0.25, 0.25, { deltaX: 0, deltaY: -240 });
-  await browser.until(`${shownRows(1)} < 1600`);
+  assert.match(await text("#where"), /^Place 80\d, 80\d: left on the diagonal \(row 80\d, column 80\d of the file\); right on the diagonal/);
+  await browser.wheel(at(0.25, 0.25), -240);
+  await browser.until(`${shownRows(0)} === 800 && ${shownRows(1)} === 800`);
+  // A drag by a quarter of the picture moves both by 200 rows.
+  const left = () => browser.value("document.getElementById('where').textContent");
+  await browser.move([at(0.1, 0.1), at(0.11, 0.11)]);
+  await browser.until("/^Place \\d/.test(document.getElementById('where').textContent)");
+  const placeOf = async () => Number(/^Place (\d+)/.exec(await left())[1]);
+  const first = await placeOf();
+  await browser.move([at(0.6, 0.6), at(0.5, 0.5), at(0.35, 0.35)], true);
+  await browser.move([at(0.12, 0.12), at(0.11, 0.11)]);
+  await browser.until(`document.getElementById('where').textContent.startsWith('Place ${first + 200}')
+    || document.getElementById('where').textContent.startsWith('Place ${first + 199}')
+    || document.getElementById('where').textContent.startsWith('Place ${first + 201}')`);
 });
 
-test("the steps of the elimination", async () => {
-  await pick("cube");
-  const told = await figures();
-  const last = 13 ** 3 - 1;
-  await set("#step", String(last), "input");
-  await browser.until(`document.getElementById('step-told').textContent.startsWith('Step ${last} ')`);
+/** Moves the slider, and waits until the picture on the right is that of the step. */
+async function step(place) {
+  await set("#step", String(place), "input");
+  await browser.until(`document.getElementById('step-told').textContent.startsWith('Step ${place} ')`);
+  await browser.until(`document.querySelectorAll(".plot")[1].dataset.step === "${place}"`);
+}
+
+test("the steps of the elimination: the first ones, some between, and the last", async () => {
+  await pick("truss");
+  const { n, pointers, indices } = SAMPLES.find(({ key }) => key === "truss").make();
+  const p = await orderOnTheRight();
+  const table = tableOf({ n, pointers, indices }, p);
+  let done = 0;
+  for (const place of [0, 1, 2, 50, 100, 150, 170, n - 1]) {
+    for (; done < place; done++) eliminate(table, n, done);
+    await step(place);
+    // Entries and fill so far, each twice, and the diagonal.
+    const [entries, fill] = [countFrom(table, n, 1), countFrom(table, n, 2)];
+    assert.deepEqual(await counts(1), { entries: entries + n, fill });
+    const front = table.subarray(place * n + place + 1, (place + 1) * n).reduce((sum, it) => sum + (it > 0 ? 1 : 0), 0);
+    const remaining = [countFrom(table, n, 1, place) / 2, countFrom(table, n, 2, place) / 2];
+    const words = `row ${p[place]} of the file, whose front has ${front} row.*; ${n - place} rows remain, `
+      + `with ${remaining[0] + remaining[1]} entries below the diagonal, of which ${remaining[1]} are fill\\.$`;
+    assert.match(await text("#step-told"), new RegExp(words));
+    assert.ok((await drawn(".panels figure:nth-child(2) .over")) > 0.01);
+    assert.ok((await drawn("#tree-over")) > 0.0001);
+  }
   assert.match(await text("#step-told"), /front has 0 rows.*root of the tree.*100\.0% of the entries/);
-  assert.ok(told.amd.lnz > 0);
-  await set("#step", String(Math.floor(last * 0.8)), "input");
-  await browser.until(`document.getElementById('step-told').textContent.startsWith('Step ${Math.floor(last * 0.8)} ')`);
-  assert.ok((await drawn(".panels figure:nth-child(2) .over")) > 0.01);
+  await click("#step-off");
+  await browser.until(`document.querySelectorAll(".plot")[1].dataset.step === ""`);
+  const told = await figures();
+  assert.deepEqual(await counts(1), { entries: indices.length, fill: 2 * told.amd.lnz - (indices.length - n) });
+  assert.equal(await drawn(".panels figure:nth-child(2) .over"), 0);
+});
+
+test("the slider by the keyboard", async () => {
+  await pick("cube");
+  await browser.value("document.getElementById('step').focus()");
+  await browser.press("ArrowRight");
+  await browser.press("ArrowRight");
+  await browser.until(`document.getElementById('step-told').textContent.startsWith('Step 2 ')`);
+  await browser.until(`document.querySelectorAll(".plot")[1].dataset.step === "2"`);
+  await pick("arrow");
+  assert.equal(await browser.value(`document.querySelectorAll(".plot")[1].dataset.step`), "");
+});
+
+const SMALL = {
+  "one.mtx": ["%%MatrixMarket matrix coordinate pattern general\n1 1 1\n1 1\n", 1, 0],
+  "one-empty.mtx": ["%%MatrixMarket matrix coordinate pattern general\n1 1 0\n", 1, 0],
+  "none.mtx": ["%%MatrixMarket matrix coordinate pattern general\n0 0 0\n", 0, 0],
+  "two.mtx": ["%%MatrixMarket matrix coordinate complex hermitian\n2 2 1\n2 1 1 -1\n", 2, 1],
+  "dense.mtx": ["%%MatrixMarket matrix array real general\n2 2\n1\n2\n0\n1\n", 2, 1],
+  "empty-rows.mtx": ["%%MatrixMarket matrix coordinate integer skew-symmetric\n5 5 1\n4 2 3\n", 5, 1],
+};
+test("matrices of few rows", async () => {
+  for (const [name, [content, n, lnz]] of Object.entries(SMALL)) {
+    const path = join(folder, name);
+    writeFileSync(path, content);
+    await ending(() => browser.give("#file", path));
+    assert.equal(await browser.value("document.getElementById('fault').hidden"), true, name);
+    await settled();
+    const told = await figures();
+    assert.deepEqual([told.amd.lnz, told.amd.memory, told.natural.lnz, told.reversed.lnz], [lnz, n + lnz, lnz, lnz], name);
+    if (COMMAND && n > 0) compareWithCommand(told, path);
+    assert.equal((await downloaded("mtx")).trim().split("\n").length, 2 + n, name);
+    if (n > 1) await step(n - 1);
+  }
+});
+
+test("a file that is really dropped", async () => {
+  await pick("arrow");
+  const content = "%%MatrixMarket matrix coordinate pattern general\n3 3 2\n2 1\n3 2\n";
+  await ending(() => browser.value(`(() => {
+    const data = new DataTransfer();
+    data.items.add(new File([${JSON.stringify(content)}], "dropped.mtx"));
+    for (const type of ["dragenter", "dragover", "drop"]) {
+      document.body.dispatchEvent(new DragEvent(type, { dataTransfer: data, bubbles: true, cancelable: true }));
+    }
+  })()`));
+  assert.match(await text("#message"), /^dropped\.mtx: 3 rows/);
+  assert.equal((await figures()).amd.lnz, 2);
+});
+
+test("by the keyboard alone", async () => {
+  await pick("arrow");
+  await browser.value("document.activeElement.blur()");
+  await browser.value("getSelection().removeAllRanges()");
+  await browser.open(url, downloads);
+  const met = [];
+  const name = `(({ id, className, dataset, tagName }) => id || dataset.key || dataset.format || className.split(" ")[0] || tagName)(document.activeElement)`;
+  for (let k = 0; k < 60; k++) {
+    await browser.press("Tab");
+    const now = await browser.value(name);
+    met.push(now);
+    if (now === "cube") {
+      await ending(() => browser.press("Enter"));
+      await settled();
+    }
+    if (now === "tab-c") {
+      await browser.press("ArrowRight");
+      await browser.until("document.activeElement.id === 'tab-rust' && document.getElementById('code').textContent.includes('amd::order')");
+    }
+    if (now === "to-contracts") break;
+  }
+  const wanted = ["file", "arrow", "cube", "million", "left", "plot", "right", "plot", "fill", "closer", "farther", "whole", "dense", "aggressive",
+    "hold", "step", "text", "mtx", "python", "julia", "tab-c", "code", "to-contracts"];
+  for (const [k, it] of wanted.entries()) assert.ok(met.includes(it), `${it} (${k}) is not met: ${met}`);
+  await browser.press("Enter");
+  await browser.until("document.getElementById('contracts').open");
+  assert.match(await text("#contracts"), /rimopaku_order_within_i32[^]*ensures[^]*OrdersInto[^]*ColumnsInto[^]*CountsInto/);
+});
+
+test("what a screen reader is told has names", { skip: isFirefox && "Marionette tells no tree of accessibility" }, async () => {
+  await pick("cube");
+  await step(5);
+  const parts = await browser.parts();
+  const named = ["button", "combobox", "checkbox", "slider", "textbox", "spinbutton", "image", "img", "tab", "tabpanel", "table", "progressbar", "region", "group"];
+  assert.deepEqual(parts.filter(({ role, name }) => named.includes(role) && name === "" && role !== "group"), []);
+  const names = parts.map(({ role, name }) => `${role}: ${name}`);
+  for (const it of ["combobox: Left", "combobox: Right", "slider: Step", "checkbox: Show the fill", "button: Zoom in", "tab: Rust"]) {
+    assert.ok(names.includes(it), `${it} in ${names.join("; ")}`);
+  }
+  assert.ok(parts.some(({ role, name }) => /^im(g|age)$/.test(role) && /^AMD: the pattern of Cube/.test(name)));
+  assert.ok(parts.some(({ role, name }) => /^im(g|age)$/.test(role) && /^Elimination tree: [\d,]+ leaves/.test(name)));
+  await click("#step-off");
+});
+
+test("on a phone", { skip: isFirefox && "Firefox's window is no phone" }, async () => {
+  for (const width of [320, 390]) {
+    await browser.look({ width, height: 800, mobile: true });
+    await pick("cube");
+    assert.ok((await browser.value("document.documentElement.scrollWidth")) <= width, `wider than ${width}`);
+    // One finger on the whole matrix scrolls the page; two zoom; and then one drags.
+    const at = await placesIn(".plot");
+    const top = () => browser.value("scrollY");
+    const before = await top();
+    await browser.touch([[at(0.5, 0.6)], [at(0.5, 0.5)], [at(0.5, 0.4)], [at(0.5, 0.2)]]);
+    await browser.until(`scrollY > ${before}`);
+    await pause(1500); // the page still glides
+    const there = await placesIn(".plot");
+    await browser.touch([
+      [there(0.45, 0.5), there(0.55, 0.5)], [there(0.4, 0.5), there(0.6, 0.5)], [there(0.3, 0.5), there(0.7, 0.5)], [there(0.2, 0.5), there(0.8, 0.5)],
+    ]);
+    await browser.until(`${shownRows(0)} < 1500 && ${shownRows(1)} === ${shownRows(0)}`);
+    const [scrolled, seen] = [await top(), await counts(1)];
+    await browser.touch([[there(0.6, 0.6)], [there(0.5, 0.5)], [there(0.3, 0.3)]]);
+    await browser.until(`Number(document.querySelectorAll(".plot")[1].dataset.fill) !== ${seen.fill}`);
+    assert.equal(await top(), scrolled);
+  }
+  await browser.lookAsBefore();
 });
 
 test("the looks, light, dark and on a phone", { skip: !SHOTS }, async () => {
   await pick("cube");
   await shoot("light", 1280, 1000);
+  if (isFirefox) return shoot("dark", 1280, 1000, { dark: true });
   // What the README shows.
   await shoot("page", 1280, 1000, { clip: { x: 0, y: 0, width: 1265, height: 1020, scale: 1 } });
   await shoot("dark", 1280, 1000, { dark: true });
   await shoot("phone", 390, 844, { mobile: true });
   await shoot("phone-dark", 390, 844, { mobile: true, dark: true });
+  await step(1200);
+  await shoot("step", 1280, 1000);
+  await shoot("step-dark", 1280, 1000, { dark: true });
+  await shoot("step-phone", 390, 844, { mobile: true });
 });
 
 test("a task is cancelled, and another one follows", async () => {
@@ -352,19 +604,43 @@ test("a million rows from a file", async (t) => {
   await browser.until("document.getElementById('message').textContent.startsWith('million.mtx')", 120);
   await browser.until("document.body.dataset.busy === 'false'", 120);
   const numbers = Date.now() - started;
-  t.diagnostic(`the figures after ${numbers} ms; ${await text("#message")}`);
+  await browser.until(`["natural 1000000", "amd 1000000"].every((it, k) => document.querySelectorAll(".plot")[k].dataset.shown === it)`, 120);
+  const pictures = Date.now() - started;
+  t.diagnostic(`the figures after ${numbers} ms, the pictures after ${pictures} ms; ${await text("#message")}`);
   await settled(120);
-  t.diagnostic(`the pictures after ${Date.now() - started} ms`);
   const told = await figures();
   if (FIGURES) compare(told, expected(path));
   assert.equal((await counts(1)).entries, 4996000);
   assert.equal((await counts(1)).fill, 2 * told.amd.lnz - 3996000);
   await shoot("million", 1280, 1000);
+  const stepped = Date.now();
+  await step(900000);
+  t.diagnostic(`a step after ${Date.now() - stepped} ms`);
+  assert.match(await text("#step-told"), /100,000 rows remain, with [\d,]+ entries below the diagonal, of which [\d,]+ are fill\.$/);
+  await shoot("million-step", 1280, 1000);
   const most = Number(process.env.MOST_MILLISECONDS ?? 5000);
-  assert.ok(numbers <= most, `${numbers} ms are more than ${most}`);
+  assert.ok(pictures <= most, `${pictures} ms are more than ${most}`);
 });
 
-test("no request to any host, and no fault in the log", () => {
-  assert.deepEqual(browser.requests.filter((it) => !/^(file|blob|data):/.test(it)), []);
+const asked = async () => {
+  await browser.note?.();
+  return browser.requests.filter((it) => !/^(file|blob|data|about):/.test(it));
+};
+
+test("no request to any host, and no fault in the log", async () => {
+  assert.deepEqual(await asked(), []);
   assert.deepEqual(browser.faults, []);
+});
+
+// It also shows that what a page asks for is noted.
+test("the package in a page and in a worker of a browser", async () => {
+  const server = await serve(RIMOPAKU_JS);
+  try {
+    await browser.open(server.url);
+    for (const it of ["page", "worker"]) await browser.until(`document.documentElement.dataset.${it} === "0 3 2 4 1"`);
+    const noted = await asked();
+    for (const it of ["index.js", "calls.js", "worker.js"]) assert.ok(noted.includes(server.url + it), it);
+  } finally {
+    server.stop();
+  }
 });
