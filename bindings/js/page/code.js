@@ -30,12 +30,12 @@ function inC({ dense, aggressive, hold }) {
 
 function inRust({ dense, aggressive, hold }) {
   const control = isPlain({ dense, aggressive })
-    ? "Control::default()"
-    : `Control { dense: ${Number.isInteger(dense) ? `${dense}.0` : dense}, aggressive: ${aggressive} }`;
+    ? "amd::Control::default()"
+    : `amd::Control { dense: ${Number.isInteger(dense) ? `${dense}.0` : dense}, aggressive: ${aggressive} }`;
   const dependency = '// amd = { package = "rimopaku-amd", version = "1" }';
   if (hold.length === 0) return `${dependency}\nlet (p, p_inv, info) = amd::order(n, &a_p, &a_i, &${control})?;`;
   return `${dependency}\n// hold: n bool, true for the rows ${written(hold)}\n`
-    + `let ordering = amd::order_holding(n, &a_p, &a_i, &${control}, &hold)?;`;
+    + `let (p, p_inv, info) = amd::order_holding(n, &a_p, &a_i, &${control}, &hold)?;`;
 }
 
 function keywords({ dense, aggressive, hold }, write) {

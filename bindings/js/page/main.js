@@ -129,7 +129,7 @@ function showOwn(figures) {
 
 const openFile = (file) => run(async () => {
   say("Reading ...");
-  const told = await client.ask("open", { file, name: file.name });
+  const told = await client.ask("open", { file });
   press(undefined);
   if (told.own) return showOwn(told.own);
   opened(file.name, told.summary);

@@ -15,13 +15,15 @@ const state = { matrix: undefined, pattern: undefined, orders: {}, layouts: {}, 
 const tell = (id, message, transfer = []) => postMessage({ id, ...message }, transfer);
 const progress = (id, stage, part) => tell(id, { kind: "progress", stage, part });
 
-async function bytesOf(file, name) {
-  if (!/\.gz$/i.test(name)) return new Uint8Array(await file.arrayBuffer());
+/** The bytes of a file, unpacked where it begins as gzip does. */
+async function bytesOf(file) {
+  const [first, second] = new Uint8Array(await file.slice(0, 2).arrayBuffer());
+  if (first !== 0x1f || second !== 0x8b) return new Uint8Array(await file.arrayBuffer());
   try {
     const plain = file.stream().pipeThrough(new DecompressionStream("gzip"));
     return new Uint8Array(await new Response(plain).arrayBuffer());
   } catch {
-    throw new FileFault(0, "this is no gzip file, or it is cut off");
+    throw new FileFault(0, "the gzip file is broken, or it is cut off");
   }
 }
 
@@ -90,9 +92,9 @@ function ordered(options) {
 }
 
 const tasks = {
-  async open(id, { file, name }) {
+  async open(id, { file }) {
     progress(id, "reading", 0);
-    const data = await bytesOf(file, name);
+    const data = await bytesOf(file);
     if (state.matrix && looksLikePermutation(data)) return { own: tasks.own(id, { data }) };
     return { summary: open(readMatrix(data, (part) => progress(id, "reading", part / 2))) };
   },
