@@ -612,12 +612,22 @@ test("a million rows from a file", async (t) => {
   if (FIGURES) compare(told, expected(path));
   assert.equal((await counts(1)).entries, 4996000);
   assert.equal((await counts(1)).fill, 2 * told.amd.lnz - 3996000);
+  // The factor of the natural order has 10^9 entries: it is drawn and not written.
+  assert.deepEqual(await counts(0), { entries: 4996000, fill: 2 * told.natural.lnz - 3996000 });
   await shoot("million", 1280, 1000);
   const stepped = Date.now();
   await step(900000);
   t.diagnostic(`a step after ${Date.now() - stepped} ms`);
   assert.match(await text("#step-told"), /100,000 rows remain, with [\d,]+ entries below the diagonal, of which [\d,]+ are fill\.$/);
   await shoot("million-step", 1280, 1000);
+  await set("#right", "natural");
+  await settled();
+  await step(500000);
+  // The rows before it, and a clique of 1000 rows; the grid has 1998000 pairs.
+  assert.match(await text("#step-told"), /whose front has 1,000 rows below it.*; 500,000 rows remain, with/);
+  const at = await placesIn(".plot");
+  await browser.move([at(0.5, 0.5), at(0.5, 0.502)]);
+  await browser.until("document.getElementById('where').textContent.startsWith('Place 50')");
   const most = Number(process.env.MOST_MILLISECONDS ?? 5000);
   assert.ok(pictures <= most, `${pictures} ms are more than ${most}`);
 });

@@ -7,7 +7,7 @@ import { View, fitted } from "./view.js";
 
 const part = (id) => document.getElementById(id);
 const NAMES = { natural: "Natural order", reversed: "Reversed order", amd: "AMD", own: "Your permutation" };
-const WORDS = { diagonal: "on the diagonal", entry: "an entry", fill: "fill", later: "fill of a later step", empty: "empty", unknown: "no entry" };
+const WORDS = { diagonal: "on the diagonal", entry: "an entry", fill: "fill", later: "fill of a later step", empty: "empty" };
 
 const page = { summary: undefined, options: undefined, isStepping: false, language: "c", turn: 0 };
 
@@ -176,7 +176,7 @@ function showPanels() {
   [part("left"), part("right")].forEach((select, k) => {
     const figures = page.summary.orders[select.value];
     view.panels[k].key = select.value;
-    const note = figures.isDrawn ? `${shown(figures.lnz)} entries` : `${shown(figures.lnz)} entries: too many to draw the fill`;
+    const note = `${shown(figures.lnz)} entries`;
     document.querySelector(`.note[data-panel="${k}"]`).textContent = note;
     view.panels[k].plot.setAttribute("aria-label", `${NAMES[select.value]}: the pattern of ${page.summary.name} and ${note} of its factor`);
   });

@@ -44,22 +44,25 @@ function lowerBound(list, from, to, least) {
 class Raster {
   constructor(n, box, side) {
     Object.assign(this, { box, side });
-    this.entries = new Float32Array(side * side);
-    this.fill = new Float32Array(side * side);
+    this.entries = new Float64Array(side * side);
+    this.fill = new Float64Array(side * side);
     this.across = this.places(box.left, n);
     this.down = this.places(box.top, n);
   }
 
-  /** The pixels of rows or columns, from `start` on; those outside have -1. */
+  /** The pixels of rows or columns, from `start` on, and the last row or column of each pixel; those outside have -1. */
   places(start, n) {
     const pixels = new Int32Array(n).fill(-1);
+    const ends = new Int32Array(this.side);
     const first = Math.max(0, Math.floor(start));
     const last = Math.min(n, Math.ceil(start + this.box.size));
     for (let k = first; k < last; k++) {
       const pixel = Math.floor(((k + 0.5 - start) * this.side) / this.box.size);
-      if (pixel >= 0 && pixel < this.side) pixels[k] = pixel;
+      if (pixel < 0 || pixel >= this.side) continue;
+      pixels[k] = pixel;
+      ends[pixel] = k;
     }
-    return { pixels, first, last };
+    return { pixels, ends, first, last };
   }
 }
 
@@ -95,10 +98,66 @@ function addFactor({ fill, side, across, down }, order, step, isMirrored) {
   }
 }
 
+/** For each node of a tree the last one of its chain, in which each is the parent of the one before it. */
+function chainEnds(parent) {
+  const ends = new Int32Array(parent.length);
+  for (let k = parent.length - 1; k >= 0; k--) ends[k] = parent[k] === k + 1 ? ends[k + 1] : k;
+  return ends;
+}
+
+/**
+ * Visits the columns of a row of the factor, as runs: the ways from its entries up the tree to the row, each chain at once. The
+ * chains that were met are marked with the row. Source: J. W. H. Liu, "A compact row storage scheme for Cholesky factors using
+ * elimination trees" (1986).
+ */
+function visitRow(pattern, order, { ends, low, met }, row, visit) {
+  const own = order.p[row];
+  for (let at = pattern.pointers[own]; at < pattern.pointers[own + 1]; at++) {
+    let node = order.pInv[pattern.indices[at]];
+    while (node >= 0 && node < row) {
+      const end = ends[node];
+      const isMet = met[end] === row;
+      if (isMet && node >= low[end]) break;
+      visit(node, isMet ? low[end] - 1 : Math.min(end, row - 1));
+      met[end] = row;
+      low[end] = node;
+      if (isMet) break;
+      node = order.parent[end];
+    }
+  }
+}
+
+/** The same as addFactor, of a factor whose columns are not written: row by row. */
+function addRows({ fill, side, across, down }, pattern, order, step, isMirrored) {
+  const [own, other] = isMirrored ? [across, down] : [down, across];
+  const [ownStride, otherStride] = isMirrored ? [1, side] : [side, 1];
+  const n = order.p.length;
+  const chains = { ends: chainEnds(order.parent), low: new Int32Array(n), met: new Int32Array(n).fill(-1) };
+  const last = Math.min(other.last, step) - 1;
+  for (let i = own.first; i < own.last; i++) {
+    if (own.pixels[i] < 0) continue;
+    const base = own.pixels[i] * ownStride;
+    visitRow(pattern, order, chains, i, (from, to) => {
+      const end = Math.min(to, last);
+      for (let k = Math.max(from, other.first), next; k <= end; k = next) {
+        const pixel = other.pixels[k];
+        next = pixel < 0 ? k + 1 : Math.min(other.ends[pixel], end) + 1;
+        if (pixel >= 0) fill[base + pixel * otherStride] += next - k;
+      }
+    });
+  }
+}
+
+/** The factor before `step`, below the diagonal or mirrored. */
+function addHalf(raster, pattern, order, step, isMirrored) {
+  if (order.rows) addFactor(raster, order, step, isMirrored);
+  else addRows(raster, pattern, order, step, isMirrored);
+}
+
 /** The factor's columns before `step` by themselves, below the diagonal. */
-function addedFactor(raster, order, step) {
-  const fill = new Float32Array(raster.fill.length);
-  addFactor({ ...raster, fill }, order, step, false);
+function addedHalf(raster, pattern, order, step) {
+  const fill = new Float64Array(raster.fill.length);
+  addHalf({ ...raster, fill }, pattern, order, step, false);
   return fill;
 }
 
@@ -113,24 +172,20 @@ function addMirrored(fill, side, added) {
 }
 
 /**
- * Counts the entries and the fill in each pixel of a box. `order` has p, pInv and, where the factor was written, pointers and
- * rows; of the pattern both triangles are counted, and the diagonal. With `elements`, of elementsAt, the rows from their step on
+ * Counts the entries and the fill in each pixel of a box. `order` has p, pInv, parent and, where the factor was written,
+ * pointers and rows; of the pattern both triangles are counted, and the diagonal. With `elements`, of elementsAt, the rows from their step on
  * have the fill of the rows before it alone, if that is not too much to count.
  */
 export function counted(pattern, order, box, side, elements) {
   const raster = new Raster(pattern.n, box, side);
   const step = elements ? elements.step : pattern.n;
   addEntries(raster, pattern, order, step);
-  if (!order.rows) {
-    raster.fill.fill(0);
-    return raster;
-  }
   const { fill, across, down } = raster;
   if (box.left === box.top) {
-    addMirrored(fill, side, addedFactor(raster, order, step));
+    addMirrored(fill, side, addedHalf(raster, pattern, order, step));
   } else {
-    addFactor(raster, order, step, false);
-    addFactor(raster, order, step, true);
+    addHalf(raster, pattern, order, step, false);
+    addHalf(raster, pattern, order, step, true);
   }
   if (elements) {
     visitFill(pattern, order, elements, across, (row, column) => {
@@ -144,50 +199,76 @@ export function counted(pattern, order, box, side, elements) {
 // Visits of a clique's rows that a picture may take: they take half a second.
 const MOST_VISITS = 3e8;
 
-/** Whether two columns of a factor have the same rows. */
-function areAlike({ pointers, rows }, a, b) {
-  const size = pointers[a + 1] - pointers[a];
-  if (pointers[b + 1] - pointers[b] !== size) return false;
-  for (let k = 0; k < size; k++) if (rows[pointers[a] + k] !== rows[pointers[b] + k]) return false;
-  return true;
+/** For each row before `step` the last one before it on the way to its root. */
+function rootsBefore(parent, step) {
+  const root = new Int32Array(step);
+  for (let k = step - 1; k >= 0; k--) root[k] = parent[k] < 0 || parent[k] >= step ? k : root[parent[k]];
+  return root;
 }
 
-/** The columns before `step` whose parents are not before it, those with the same rows once. */
-function livingAt(order, step) {
-  const { parent, pointers, rows } = order;
+/** The rows from `step` on that are joined to each root's tree, in lists that may have a row several times. */
+function bordersAt(pattern, order, step) {
+  const root = rootsBefore(order.parent, step);
+  const starts = new Int32Array(step + 1);
+  const visit = (meet) => {
+    for (let k = 0; k < step; k++) {
+      const j = order.p[k];
+      for (let at = pattern.pointers[j]; at < pattern.pointers[j + 1]; at++) {
+        const i = order.pInv[pattern.indices[at]];
+        if (i >= step) meet(root[k], i);
+      }
+    }
+  };
+  visit((element) => (starts[element + 1] += 1));
+  for (let k = 0; k < step; k++) starts[k + 1] += starts[k];
+  const next = starts.slice(0, step);
+  const lists = new Int32Array(starts[step]);
+  visit((element, i) => (lists[next[element]++] = i));
+  return { starts, lists };
+}
+
+/** Such lists with each row once and rising, each list once, and none that is empty: as pointers and rows. */
+function distinctLists({ starts, lists }) {
+  const rows = new Int32Array(lists.length);
+  const pointers = [0];
   const alike = new Map();
-  const living = [];
-  for (let k = 0; k < step; k++) {
-    if (parent[k] < step) continue;
-    const [first, end] = [pointers[k], pointers[k + 1]];
-    const key = (rows[first] * 31 + rows[end - 1]) * 31 + (end - first);
-    if (alike.has(key) && areAlike(order, alike.get(key), k)) continue;
-    alike.set(key, k);
-    living.push(k);
+  const isSame = (from, to, other) => {
+    for (let k = from; k < to; k++) if (rows[k] !== rows[pointers[other] + k - from]) return false;
+    return pointers[other + 1] - pointers[other] === to - from;
+  };
+  for (let element = 0; element + 1 < starts.length; element++) {
+    const from = pointers.at(-1);
+    let to = from;
+    for (const i of lists.subarray(starts[element], starts[element + 1]).sort()) if (to === from || rows[to - 1] !== i) rows[to++] = i;
+    if (to === from) continue;
+    const key = (rows[from] * 31 + rows[to - 1]) * 31 + (to - from);
+    if (alike.has(key) && isSame(from, to, alike.get(key))) continue;
+    alike.set(key, pointers.length - 1);
+    pointers.push(to);
   }
-  return living;
+  return { pointers: Int32Array.from(pointers), rows };
 }
 
 /**
- * The elements when the rows before `step` are eliminated, listed by row. What remains of the matrix is its own entries and a
- * clique for each element: the rows of a column whose parent remains, which hold those of all columns below it in the tree.
+ * The elements when the rows before `step` are eliminated, as lists of rows, and listed by row. What remains of the matrix is its
+ * own entries and a clique for each element: the rows that are joined to one tree of eliminated rows.
  * Source: Duff and Reid, "The multifrontal solution of indefinite sparse symmetric linear equations" (1983).
  */
-export function elementsAt(order, step) {
-  const { pointers, rows } = order;
+export function elementsAt(pattern, order, step) {
   const n = order.p.length;
+  const { pointers, rows } = distinctLists(bordersAt(pattern, order, step));
   const starts = new Int32Array(n + 1);
-  const living = livingAt(order, step);
-  for (const k of living) for (let at = pointers[k]; at < pointers[k + 1]; at++) starts[rows[at] + 1] += 1;
+  const count = pointers.length - 1;
+  for (let at = 0; at < pointers[count]; at++) starts[rows[at] + 1] += 1;
   for (let i = 0; i < n; i++) starts[i + 1] += starts[i];
   const next = starts.slice(0, n);
   const list = new Int32Array(starts[n]);
-  for (const k of living) for (let at = pointers[k]; at < pointers[k + 1]; at++) list[next[rows[at]]++] = k;
-  return { step, starts, list, seen: new Int32Array(n).fill(-1) };
+  for (let k = 0; k < count; k++) for (let at = pointers[k]; at < pointers[k + 1]; at++) list[next[rows[at]]++] = k;
+  return { step, pointers, rows, starts, list, seen: new Int32Array(n).fill(-1) };
 }
 
 /** How many rows are visited for the fill of these columns. */
-function visitsOf({ pointers }, { step, starts, list }, { first, last }) {
+function visitsOf({ step, pointers, starts, list }, { first, last }) {
   let visits = 0;
   for (let at = starts[Math.min(Math.max(first, step), last)]; at < starts[last]; at++) visits += pointers[list[at] + 1] - pointers[list[at]];
   return visits;
@@ -195,17 +276,16 @@ function visitsOf({ pointers }, { step, starts, list }, { first, last }) {
 
 /** Visits each fill (row, column) that remains, once; false where it is too much. The columns are those from `first` to `last`. */
 export function visitFill(pattern, order, elements, { first, last }, visit) {
-  if (visitsOf(order, elements, { first, last }) > MOST_VISITS) return false;
-  const { step, starts, list, seen } = elements;
+  if (visitsOf(elements, { first, last }) > MOST_VISITS) return false;
+  const { step, pointers, rows, starts, list, seen } = elements;
   seen.fill(-1);
   for (let j = Math.max(first, step); j < last; j++) {
     seen[j] = j;
     const own = order.p[j];
     for (let at = pattern.pointers[own]; at < pattern.pointers[own + 1]; at++) seen[order.pInv[pattern.indices[at]]] = j;
     for (let k = starts[j]; k < starts[j + 1]; k++) {
-      const end = order.pointers[list[k] + 1];
-      for (let at = order.pointers[list[k]]; at < end; at++) {
-        const i = order.rows[at];
+      for (let at = pointers[list[k]]; at < pointers[list[k] + 1]; at++) {
+        const i = rows[at];
         if (seen[i] === j) continue;
         seen[i] = j;
         visit(i, j);
@@ -229,23 +309,43 @@ export function remainingAt(pattern, order, elements) {
 }
 
 /**
- * What stands at a place of the matrix in an order: "diagonal", "entry", "fill", "empty", or "unknown" without the factor. With
- * `elements` a fill of a later step is "later".
+ * What stands at a place of the matrix in an order: "diagonal", "entry", "fill" or "empty". With `elements` a fill of a later step
+ * is "later".
  */
 export function kindAt(pattern, order, row, column, elements) {
   if (row === column) return "diagonal";
   const [i, j] = [order.p[row], order.p[column]];
   const at = lowerBound(pattern.indices, pattern.pointers[j], pattern.pointers[j + 1], i);
   if (at < pattern.pointers[j + 1] && pattern.indices[at] === i) return "entry";
-  if (!order.rows) return "unknown";
   const [low, high] = [Math.min(row, column), Math.max(row, column)];
-  if (!hasRow(order, low, high)) return "empty";
+  if (!(order.rows ? hasRow(order, low, high) : isReached(pattern, order, low, high))) return "empty";
   if (!elements || low < elements.step) return "fill";
   const holding = elements.list.subarray(elements.starts[low], elements.starts[low + 1]);
-  return holding.some((k) => hasRow(order, k, high)) ? "fill" : "later";
+  return holding.some((k) => hasRow(elements, k, high)) ? "fill" : "later";
 }
 
-/** Whether a column of a factor has a row. */
+/** Whether a row of the factor has a column: whether this is on the way up from one of its entries. Source: Liu 1986. */
+function isReached(pattern, order, column, row) {
+  const own = order.p[row];
+  for (let at = pattern.pointers[own]; at < pattern.pointers[own + 1]; at++) {
+    let node = order.pInv[pattern.indices[at]];
+    while (node >= 0 && node < column) node = order.parent[node];
+    if (node === column) return true;
+  }
+  return false;
+}
+
+/** The rows of the column of the step: those of its entries and of its elements. */
+export function frontAt(pattern, order, elements) {
+  const { step, pointers, rows, starts, list } = elements;
+  const own = order.p[step];
+  const front = new Set();
+  for (let at = pattern.pointers[own]; at < pattern.pointers[own + 1]; at++) front.add(order.pInv[pattern.indices[at]]);
+  for (let k = starts[step]; k < starts[step + 1]; k++) for (const i of rows.subarray(pointers[list[k]], pointers[list[k] + 1])) front.add(i);
+  return Int32Array.from([...front].filter((i) => i > step)).sort();
+}
+
+/** Whether one list has a row. */
 function hasRow({ pointers, rows }, column, row) {
   const found = lowerBound(rows, pointers[column], pointers[column + 1], row);
   return found < pointers[column + 1] && rows[found] === row;

@@ -3,11 +3,11 @@
 import { bytes } from "./bytes.js";
 import { NotPermutation, OutOfMemory, callsOf } from "./calls.js";
 import { FileFault, looksLikePermutation, readMatrix, readPermutation } from "./matrix.js";
-import { counted, elementsAt, kindAt, remainingAt, symmetrized, treeLayout, treeRaster } from "./pattern.js";
+import { counted, elementsAt, frontAt, kindAt, remainingAt, symmetrized, treeLayout, treeRaster } from "./pattern.js";
 import { SAMPLES } from "./samples.js";
 
-// A factor with more entries is counted, and not drawn: that many take half a second to count into pixels.
-const MOST_DRAWN = 60_000_000;
+// A factor with more entries is not written: it is drawn row by row from its tree.
+const MOST_WRITTEN = 60_000_000;
 
 let calls;
 const state = { matrix: undefined, pattern: undefined, orders: {}, layouts: {}, elements: undefined };
@@ -37,7 +37,7 @@ function measured(p, pInv, info) {
 /** The same with the pattern of the factor, which is written when it is first drawn, if it is small enough. */
 function drawnOrder(key) {
   const order = state.orders[key];
-  if (order.rows === undefined && isDrawn(order)) {
+  if (order.rows === undefined && order.needs.lnz <= MOST_WRITTEN) {
     const { n, pointers, indices } = state.matrix;
     const factor = calls.columns(n, pointers, indices, order.p, { room: order.needs.lnz });
     Object.assign(order, { pointers: factor.pointers, rows: factor.rows });
@@ -45,15 +45,13 @@ function drawnOrder(key) {
   return order;
 }
 
-const isDrawn = (order) => order.needs.lnz <= MOST_DRAWN;
-
 function inverseOf(p) {
   const inverse = new Int32Array(p.length);
   for (let k = 0; k < p.length; k++) inverse[p[k]] = k;
   return inverse;
 }
 
-const figuresOf = (order) => ({ ...order.needs, isDrawn: isDrawn(order), info: order.info });
+const figuresOf = (order) => ({ ...order.needs, info: order.info });
 
 function keep(key, p, pInv, info) {
   state.orders[key] = measured(p, pInv, info);
@@ -71,11 +69,12 @@ function open(matrix) {
   return { n: matrix.n, entries: matrix.indices.length };
 }
 
-/** The elements of a step, the last of which are kept; nothing without a step, or where the factor is not written. */
+/** The elements of a step, the last of which are kept; nothing without a step. */
 function elementsOf(key, step) {
-  const order = drawnOrder(key);
-  if (step === undefined || !order.rows) return undefined;
-  if (state.elements?.key !== key || state.elements.step !== step) state.elements = { key, ...elementsAt(order, step) };
+  if (step === undefined) return undefined;
+  if (state.elements?.key !== key || state.elements.step !== step) {
+    state.elements = { key, ...elementsAt(patternOf(), state.orders[key], step) };
+  }
   return state.elements;
 }
 
@@ -138,8 +137,8 @@ const tasks = {
 
   /** One step of the elimination: what was done before it, the rows of its front, and, where it is shown, what remains. */
   step(id, { key, place, isShown }) {
-    const order = drawnOrder(key);
-    const { sizes, rows, pointers, p, parent } = order;
+    const order = state.orders[key];
+    const { sizes, p, parent } = order;
     let [entries, work] = [0, 0];
     for (let k = 0; k < place; k++) {
       entries += sizes[k];
@@ -147,8 +146,8 @@ const tasks = {
     }
     const path = [];
     for (let node = place; node >= 0 && path.length < 100000; node = parent[node]) path.push(node);
-    const front = rows ? rows.slice(pointers[place], pointers[place + 1]) : new Int32Array(0);
     const elements = isShown ? elementsOf(key, place) : undefined;
+    const front = elements ? frontAt(patternOf(), order, elements) : new Int32Array(0);
     const remaining = elements && remainingAt(patternOf(), order, elements);
     return { row: p[place], size: sizes[place], parent: parent[place], entries, work, front, path: Int32Array.from(path), remaining };
   },
