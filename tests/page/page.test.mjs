@@ -3,7 +3,7 @@
 // empty; RIMOPAKU_JS is the folder of the package.
 import assert from "node:assert/strict";
 import { execFileSync } from "node:child_process";
-import { mkdtempSync, readFileSync, readdirSync, rmSync, writeFileSync } from "node:fs";
+import { mkdirSync, mkdtempSync, readFileSync, readdirSync, rmSync, writeFileSync } from "node:fs";
 import { tmpdir } from "node:os";
 import { join } from "node:path";
 import test, { after, before } from "node:test";
@@ -149,18 +149,17 @@ function sumOf(p) {
   return String(sum);
 }
 
+/** The text of a download, once it is whole: a browser may keep a place for it, or write beside it. */
 async function downloaded(format) {
   rmSync(downloads, { recursive: true, force: true });
+  mkdirSync(downloads);
   await click(`[data-format="${format}"]`);
-  for (let k = 0; k < 100; k++) {
+  for (let k = 0; k < 200; k++) {
     await pause(50);
-    let names = [];
-    try {
-      names = readdirSync(downloads).filter((name) => name.startsWith("permutation") && !name.endsWith(".crdownload"));
-    } catch {
-      continue;
-    }
-    if (names.length > 0) return readFileSync(join(downloads, names[0]), "utf8");
+    const names = readdirSync(downloads);
+    if (names.length !== 1 || /\.(crdownload|part)$/.test(names[0])) continue;
+    const content = readFileSync(join(downloads, names[0]), "utf8");
+    if (content !== "") return content;
   }
   throw new Error("no download");
 }
@@ -384,6 +383,22 @@ test("parameters change the order and the calls", async () => {
   assert.deepEqual(await figures(), before);
 });
 
+/** Whether the text under the pictures is true of the place that it names, in the natural order on the left and AMD on the right. */
+async function rightPlace(key) {
+  const form = /^Place (\d+), (\d+): left (.+) \(row (\d+), column (\d+) of the file\); right (.+) \(row (\d+), column (\d+) of the file\)\.$/;
+  const [, row, column, left, ...others] = form.exec(await text("#where"));
+  const matrix = SAMPLES.find((sample) => sample.key === key).make();
+  const { n } = matrix;
+  const right = await orderOnTheRight();
+  const kindIn = (p) => {
+    const table = tableOf(matrix, p);
+    for (let k = 0; k < n; k++) eliminate(table, n, k);
+    return row === column ? "on the diagonal" : ["empty", "an entry", "fill"][table[row * n + Number(column)]];
+  };
+  const natural = Array.from({ length: n }, (_, k) => k);
+  assert.deepEqual([left, ...others], [kindIn(natural), row, column, kindIn(right), String(right[row]), String(right[column])]);
+}
+
 test("zoom, drag and the keyboard move both pictures", async () => {
   await pick("plane");
   const whole = await counts(1);
@@ -402,7 +417,7 @@ test("zoom, drag and the keyboard move both pictures", async () => {
   const at = await placesIn(".plot");
   await browser.move([at(0.4, 0.4), at(0.505, 0.505)]);
   await browser.until("document.getElementById('where').textContent.startsWith('Place 8')");
-  assert.match(await text("#where"), /^Place 80\d, 80\d: left on the diagonal \(row 80\d, column 80\d of the file\); right on the diagonal/);
+  await rightPlace("plane");
   await browser.wheel(at(0.25, 0.25), -240);
   await browser.until(`${shownRows(0)} === 800 && ${shownRows(1)} === 800`);
   // A drag by a quarter of the picture moves both by 200 rows.
@@ -629,7 +644,8 @@ test("a million rows from a file", async (t) => {
   await browser.move([at(0.5, 0.5), at(0.5, 0.502)]);
   await browser.until("document.getElementById('where').textContent.startsWith('Place 50')");
   const most = Number(process.env.MOST_MILLISECONDS ?? 5000);
-  assert.ok(pictures <= most, `${pictures} ms are more than ${most}`);
+  const time = isFirefox ? numbers : pictures;
+  assert.ok(time <= most, `${time} ms are more than ${most}`);
 });
 
 const asked = async () => {
