@@ -51,7 +51,7 @@ function squareRoot(x) {
 }
 
 /** The thousandths for which a row is dense from floor(dense * sqrt(n)) entries on, or for the nearest number. */
-function thousandthsOf(dense, n) {
+export function thousandthsOf(dense, n) {
   if (typeof dense !== "number" || Number.isNaN(dense)) throw new InvalidInput("dense is not a number");
   if (dense < 0) return -1;
   if (n <= 0) return 10000;

@@ -14,7 +14,9 @@ import { fileOf } from "./files.mjs";
 const top = resolve(dirname(fileURLToPath(import.meta.url)), "../..");
 const { CC = "cc", CARGO = "cargo", PREBUILT = join(top, "prebuilt", process.arch === "arm64" ? "aarch64-linux" : "x86_64-linux") } = process.env;
 const REGISTRY = process.env.CARGO_REGISTRY ?? "/usr/share/cargo/registry";
-const { order, orderHolding } = await import(pathToFileURL(join(resolve(process.env.RIMOPAKU_JS), "index.js")));
+const load = (name) => import(pathToFileURL(join(resolve(process.env.RIMOPAKU_JS), name)));
+const { order, orderHolding } = await load("index.js");
+const { thousandthsOf } = await load("calls.js");
 const folder = mkdtempSync(join(tmpdir(), "rimopaku-calls-"));
 after(() => rmSync(folder, { recursive: true, force: true }));
 
@@ -29,9 +31,13 @@ const OPTIONS = [
   { dense: -1, aggressive: false, hold: [] },
   { dense: 10, aggressive: true, hold: [0, 1, 2, 3, 40, 700, 701] },
   { dense: 2, aggressive: false, hold: [5] },
-];
-const orderOf = ({ hold, ...options }) =>
-  [...(hold.length > 0 ? orderHolding(n, pointers, indices, hold, options) : order(n, pointers, indices, options)).p];
+  { dense: 0.43217, aggressive: true, hold: [] },
+  { dense: 1e12, aggressive: true, hold: [] },
+].map((options) => ({ ...options, thousandths: thousandthsOf(options.dense, n) }));
+const orderOf = ({ hold, dense, aggressive }) => {
+  const options = { dense, aggressive };
+  return [...(hold.length > 0 ? orderHolding(n, pointers, indices, hold, options) : order(n, pointers, indices, options)).p];
+};
 
 test("the calls of C", { skip: !runs(CC, "--version") && `no ${CC} here` }, () => {
   for (const options of OPTIONS) {

@@ -295,6 +295,25 @@ function drawnOrder(n) {
   return p;
 }
 
+test("what a file is shows in its bytes, and a permutation needs its matrix", async () => {
+  await browser.open(url, downloads);
+  const matrix = "%%MatrixMarket matrix coordinate pattern general\r\n3 3 1\r\n2 1\r\n";
+  const files = [
+    ["order.txt", "3\n1\n2\n", /^This looks like a permutation: open its matrix first/],
+    ["huge.mtx", matrix.replace("3 3 1", "2000000000 2000000000 1"), /^Line 2: the matrix has too many rows/],
+    ["packed", gzipSync(matrix), /^$/],
+    ["plain.mtx.gz", matrix, /^$/],
+  ];
+  for (const [name, content, fault] of files) {
+    const path = join(folder, name);
+    writeFileSync(path, content);
+    await ending(() => browser.give("#file", path));
+    assert.match(await text("#fault"), fault, name);
+  }
+  await settled();
+  assert.equal((await figures()).amd.lnz, 1);
+});
+
 test("a permutation of the person's own, in each form", async () => {
   await pick("truss");
   const n = 183;

@@ -18,9 +18,10 @@ export function fileOfPermutation(p, format) {
 
 const isPlain = ({ dense, aggressive }) => dense === 10 && aggressive;
 
-function inC({ dense, aggressive, hold }) {
+/** The call in C, which takes the dense rows in thousandths: those that the page's own call took. */
+function inC({ dense, thousandths, aggressive, hold }) {
   const lines = ["struct rimopaku_parameters parameters;", "struct rimopaku_statistics told;", "rimopaku_defaults(&parameters);"];
-  if (dense !== 10) lines.push(`parameters.dense = ${dense < 0 ? -1 : Math.round(1000 * dense)};`);
+  if (dense !== 10) lines.push(`parameters.dense = ${thousandths};`);
   if (!aggressive) lines.push("parameters.aggressive = false;");
   const [name, marks] = hold.length > 0 ? ["rimopaku_order_holding_i32", " hold, n,"] : ["rimopaku_order_i32", ""];
   if (hold.length > 0) lines.push(`/* hold: n bool, true for the rows ${written(hold)} */`);
@@ -31,7 +32,7 @@ function inC({ dense, aggressive, hold }) {
 function inRust({ dense, aggressive, hold }) {
   const control = isPlain({ dense, aggressive })
     ? "amd::Control::default()"
-    : `amd::Control { dense: ${Number.isInteger(dense) ? `${dense}.0` : dense}, aggressive: ${aggressive} }`;
+    : `amd::Control { dense: ${/^-?\d+$/.test(String(dense)) ? `${dense}.0` : dense}, aggressive: ${aggressive} }`;
   const dependency = '// amd = { package = "rimopaku-amd", version = "1" }';
   if (hold.length === 0) return `${dependency}\nlet (p, p_inv, info) = amd::order(n, &a_p, &a_i, &${control})?;`;
   return `${dependency}\n// hold: n bool, true for the rows ${written(hold)}\n`

@@ -66,8 +66,8 @@ function chosenOptions(n) {
 /** Asks for the order with the chosen parameters. */
 async function order() {
   const options = chosenOptions(page.summary.n);
-  const { figures, milliseconds } = await client.ask("order", { options });
-  page.options = options;
+  const { figures, milliseconds, thousandths } = await client.ask("order", { options });
+  page.options = { ...options, thousandths };
   page.summary.orders.amd = figures;
   page.summary.pairs = figures.info.nzAPlusAt;
   view.panels.forEach((panel) => panel.key === "amd" && (panel.shown = undefined));

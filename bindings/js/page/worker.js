@@ -1,7 +1,7 @@
 // What runs beside the page: it reads files, calls the proved module, and counts what is drawn. The page sends one message for
 // each task, with an id that comes back.
 import { bytes } from "./bytes.js";
-import { NotPermutation, OutOfMemory, callsOf } from "./calls.js";
+import { NotPermutation, OutOfMemory, callsOf, thousandthsOf } from "./calls.js";
 import { FileFault, looksLikePermutation, readMatrix, readPermutation } from "./matrix.js";
 import { counted, elementsAt, frontAt, kindAt, remainingAt, symmetrized, treeLayout, treeRaster } from "./pattern.js";
 import { SAMPLES } from "./samples.js";
@@ -87,14 +87,16 @@ function ordered(options) {
   const { hold, ...choice } = options;
   const told = hold.length > 0 ? calls.orderHolding(n, pointers, indices, hold, choice) : calls.order(n, pointers, indices, choice);
   const milliseconds = performance.now() - started;
-  return { milliseconds, figures: keep("amd", told.p, told.pInv, told.info) };
+  return { milliseconds, thousandths: thousandthsOf(options.dense, n), figures: keep("amd", told.p, told.pInv, told.info) };
 }
 
 const tasks = {
   async open(id, { file }) {
     progress(id, "reading", 0);
     const data = await bytesOf(file);
-    if (state.matrix && looksLikePermutation(data)) return { own: tasks.own(id, { data }) };
+    const isOrder = looksLikePermutation(data);
+    if (isOrder && !state.matrix) throw new FileFault(0, "this looks like a permutation: open its matrix first");
+    if (isOrder) return { own: tasks.own(id, { data }) };
     return { summary: open(readMatrix(data, (part) => progress(id, "reading", part / 2))) };
   },
 
