@@ -50,7 +50,10 @@ function squareRoot(x) {
   return root;
 }
 
-/** The thousandths for which a row is dense from floor(dense * sqrt(n)) entries on, or for the nearest number. */
+/**
+ * The thousandths for which a row is dense from floor(dense * sqrt(n)) entries on, or for the nearest number: 1000 * dense rounded, where
+ * these are such. A row never has n entries, so that more than n of them are as good as n.
+ */
 export function thousandthsOf(dense, n) {
   if (typeof dense !== "number" || Number.isNaN(dense)) throw new InvalidInput("dense is not a number");
   if (dense < 0) return -1;
@@ -58,6 +61,9 @@ export function thousandthsOf(dense, n) {
   const rows = BigInt(n);
   const threshold = (t) => squareRoot((t * t * rows) / 1000000n);
   const wanted = BigInt(Math.floor(Math.min(dense * Math.sqrt(n), n)));
+  const plain = Math.min(Math.round(1000 * dense), 2 ** 31 - 1);
+  const plainly = threshold(BigInt(plain));
+  if (plainly === wanted || (wanted === rows && plainly > rows)) return plain;
   const square = (wanted * wanted * 1000000n + rows - 1n) / rows;
   const above = square > 0n ? squareRoot(square - 1n) + 1n : 0n;
   const below = above > 0n ? above - 1n : 0n;
