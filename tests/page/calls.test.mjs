@@ -1,5 +1,6 @@
-// Tests the calls that the page shows for C, Python, Rust and JavaScript, and the files that it writes: each is run as it stands, and gives
-// the order of the package in the folder RIMOPAKU_JS. PREBUILT is a folder with the archives of the C library. CC, PYTHON and CARGO name the programs.
+// Tests the calls that the page shows for C, Python, Rust and JavaScript, and the files that it writes: each is run as it stands,
+// and gives the order of the package in the folder RIMOPAKU_JS. PREBUILT is a folder with the archives of the C library. CC, PYTHON
+// and CARGO name the programs.
 import assert from "node:assert/strict";
 import { execFileSync, spawnSync } from "node:child_process";
 import { copyFileSync, mkdirSync, mkdtempSync, rmSync, writeFileSync } from "node:fs";
@@ -12,7 +13,8 @@ import { SAMPLES } from "../../bindings/js/page/samples.js";
 import { fileOf } from "./files.mjs";
 
 const top = resolve(dirname(fileURLToPath(import.meta.url)), "../..");
-const { CC = "cc", CARGO = "cargo", PREBUILT = join(top, "prebuilt", process.arch === "arm64" ? "aarch64-linux" : "x86_64-linux") } = process.env;
+const machine = process.arch === "arm64" ? "aarch64" : "x86_64";
+const { CC = "cc", CARGO = "cargo", PREBUILT = join(top, "prebuilt", `${machine}-linux`) } = process.env;
 const REGISTRY = process.env.CARGO_REGISTRY ?? "/usr/share/cargo/registry";
 const load = (name) => import(pathToFileURL(join(resolve(process.env.RIMOPAKU_JS), name)));
 const { order, orderHolding } = await load("index.js");
@@ -57,13 +59,14 @@ int main(void)
     const [file, program] = [join(folder, "call.c"), join(folder, "call")];
     writeFileSync(file, source);
     const archives = ["libamd_c.a", "liblibc_c.a"].map((it) => join(PREBUILT, it));
-    execFileSync(CC, ["-std=c99", "-Wall", "-Wextra", "-Werror", "-Wno-declaration-after-statement", `-I${top}/include`, file, ...archives, "-o", program]);
+    execFileSync(CC, ["-std=c99", "-Wall", "-Wextra", "-Werror", `-I${top}/include`, file, ...archives, "-o", program]);
     assert.deepEqual(execFileSync(program, { encoding: "utf8" }).trim().split(" ").map(Number), orderOf(options));
   }
 });
 
 test("the calls of Python", { skip: !PYTHON && "no Python with scipy here" }, () => {
-  const env = { ...process.env, PYTHONPATH: join(top, "bindings/python"), PYTHONDONTWRITEBYTECODE: "1", RIMOPAKU_LIBRARY: join(PREBUILT, "librimopaku.so.1") };
+  const own = { PYTHONPATH: join(top, "bindings/python"), RIMOPAKU_LIBRARY: join(PREBUILT, "librimopaku.so.1") };
+  const env = { ...process.env, ...own, PYTHONDONTWRITEBYTECODE: "1" };
   for (const options of OPTIONS) {
     const told = execFileSync(PYTHON, ["-c", `${CODE.python(options)}\nprint(list(map(int, p)))`], { encoding: "utf8", cwd: folder, env });
     assert.deepEqual(JSON.parse(told), orderOf(options));
@@ -80,18 +83,20 @@ test("the calls of JavaScript", async () => {
   }
 });
 
-const cargo = (at, ...words) => execFileSync(CARGO, [...words, "-q", "--offline", "--config", 'source.crates-io.replace-with="local"', "--config",
-  `source.local.directory="${REGISTRY}"`], { encoding: "utf8", cwd: at, env: { ...process.env, RIMOPAKU_LIB_DIR: PREBUILT } });
+const OFFLINE = ["-q", "--offline", "--config", 'source.crates-io.replace-with="local"', "--config", `source.local.directory="${REGISTRY}"`];
+const cargo = (at, ...words) => execFileSync(CARGO, [...words, ...OFFLINE], { encoding: "utf8", cwd: at, env: { ...process.env, RIMOPAKU_LIB_DIR: PREBUILT } });
 
 test("the calls of Rust", { skip: !(runs(CARGO, "--version") && runs("ls", REGISTRY)) && `no ${CARGO} or no ${REGISTRY} here` }, () => {
   const crate = join(folder, "crate");
   mkdirSync(join(crate, "src"), { recursive: true });
   const dependency = /^\/\/ (amd = \{ package = "rimopaku-amd", version = "1)" \}$/m.exec(CODE.rust(OPTIONS[0]))[1];
   const path = JSON.stringify(join(top, "bindings/rust"));
-  writeFileSync(join(crate, "Cargo.toml"), `[package]\nname = "call"\nversion = "0.1.0"\nedition = "2021"\n[dependencies]\n${dependency}", path = ${path} }\n`);
+  const head = '[package]\nname = "call"\nversion = "0.1.0"\nedition = "2021"\n[dependencies]\n';
+  writeFileSync(join(crate, "Cargo.toml"), `${head}${dependency}", path = ${path} }\n`);
   const functions = OPTIONS.map((options, k) => `fn call_${k}(n: i32, a_p: &[i32], a_i: &[i32]) -> Result<(), amd::${options.hold.length > 0 ? "Fault" : "Status"}> {
     let (a_p, a_i) = (a_p.to_vec(), a_i.to_vec());
-    ${options.hold.length > 0 ? `let mut hold = vec![false; n as usize];\n${options.hold.map((row) => `hold[${row}] = true;`).join(" ")}` : ""}
+    ${options.hold.length > 0 ? "let mut hold = vec![false; n as usize];" : ""}
+    ${options.hold.map((row) => `hold[${row}] = true;`).join(" ")}
     ${CODE.rust(options)}
     println!("{p:?}");
     Ok(())

@@ -7,7 +7,7 @@ import { Browser, pause } from "./browser.mjs";
 const FLAGS = ["--headless=new", "--no-sandbox", "--disable-gpu", "--no-first-run", "--disable-background-networking",
   "--disable-component-update", "--disable-sync", "--disable-dev-shm-usage", "--remote-debugging-port=0", "--window-size=1280,1000"];
 // Keys that the tests press: the code of the key, and what it types.
-const KEYS = { Tab: [9], Enter: [13, "\r"], " ": [32, " "], Home: [36], ArrowLeft: [37], ArrowRight: [39], "+": [187, "+"], "-": [189, "-"], 0: [48, "0"] };
+const KEYS = { Tab: [9], Enter: [13, "\r"], ArrowLeft: [37], ArrowRight: [39], "+": [187, "+"], 0: [48, "0"] };
 
 export class Chromium extends Browser {
   static async start(program) {
