@@ -50,14 +50,20 @@ function squareRoot(x) {
   return root;
 }
 
-/** The thousandths for which a row is dense from floor(dense * sqrt(n)) entries on, or for the nearest number. */
-function thousandthsOf(dense, n) {
+/**
+ * The thousandths for which a row is dense from floor(dense * sqrt(n)) entries on, or for the nearest number: 1000 * dense rounded, where
+ * these are such. A row never has n entries, so that more than n of them are as good as n.
+ */
+export function thousandthsOf(dense, n) {
   if (typeof dense !== "number" || Number.isNaN(dense)) throw new InvalidInput("dense is not a number");
   if (dense < 0) return -1;
   if (n <= 0) return 10000;
   const rows = BigInt(n);
   const threshold = (t) => squareRoot((t * t * rows) / 1000000n);
   const wanted = BigInt(Math.floor(Math.min(dense * Math.sqrt(n), n)));
+  const plain = Math.min(Math.round(1000 * dense), 2 ** 31 - 1);
+  const plainly = threshold(BigInt(plain));
+  if (plainly === wanted || (wanted === rows && plainly > rows)) return plain;
   const square = (wanted * wanted * 1000000n + rows - 1n) / rows;
   const above = square > 0n ? squareRoot(square - 1n) + 1n : 0n;
   const below = above > 0n ? above - 1n : 0n;
@@ -90,13 +96,7 @@ class Call {
   grow(bytes) {
     const memory = this.exports.memory;
     const pages = Math.ceil((this.top + bytes - memory.buffer.byteLength) / PAGE);
-    if (pages <= 0) return;
-    try {
-      growBy(memory, pages);
-    } catch (refused) {
-      if (refused instanceof RangeError) throw new OutOfMemory(`${bytes} bytes were refused`);
-      throw refused;
-    }
+    if (pages > 0) growBy(memory, pages);
   }
 
   take(bytes) {
@@ -167,19 +167,28 @@ function fail(status, what) {
 const firstGuess = (n, entries) => 96 * n + 24 * entries + 4 * PAGE;
 const MOST_BYTES = 2 ** 32 - 2 * PAGE;
 
+/** What `run` returns. Where the host refuses it an instance, a memory or an array, the fault has the name of this package. */
+function refusable(bytes, run) {
+  try {
+    return run();
+  } catch (refused) {
+    if (refused instanceof RangeError) throw new OutOfMemory(`${bytes} bytes were refused: ${refused.message}`);
+    throw refused;
+  }
+}
+
 /** Runs `once` with more and more memory, until it is enough. It returns a status and what is read in its call. */
 function withMemory(module, placed, n, entries, once) {
   for (let lent = firstGuess(Math.max(n, 0), entries); ; lent *= 2) {
     const bytes = Math.min(placed + lent, MOST_BYTES);
     if (bytes < placed + PAGE) throw new OutOfMemory(`${placed} bytes of arrays are more than 4 GB`);
-    const call = new Call(module, bytes);
-    const { status, result } = once(call);
+    const { status, result } = refusable(bytes, () => once(new Call(module, bytes)));
     if (status !== -1) return { status, result };
     if (bytes === MOST_BYTES) return { status, result };
   }
 }
 
-/** The calls of a compiled module. */
+/** The calls of a compiled module: that of the package, or rimopaku64.wasm where the host has memories of 64 bits. */
 export function callsOf(module) {
   function ordering(n, pointers, indices, hold, options = {}) {
     const rows = numberOfRows(n);

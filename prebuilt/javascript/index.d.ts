@@ -94,3 +94,14 @@ export function counts(n: number, pointers: Integers, indices: Integers, p: Inte
 
 /** The entries of the factor in the order p. With `room`, at most so many; without it as many as there are. */
 export function columns(n: number, pointers: Integers, indices: Integers, p: Integers, options?: { room?: number }): Factor;
+
+/** The four calls. */
+export interface Calls {
+  order: typeof order;
+  orderHolding: typeof orderHolding;
+  counts: typeof counts;
+  columns: typeof columns;
+}
+
+/** The calls of a compiled WebAssembly.Module: of rimopaku64.wasm, where the host has memories of 64 bits. */
+export function callsOf(module: object): Calls;

@@ -2,5 +2,5 @@
 import { bytes } from "./bytes.js";
 import { callsOf } from "./calls.js";
 
-export { InvalidInput, NotPermutation, OutOfMemory, RimopakuError, RoomTooSmall } from "./calls.js";
+export { InvalidInput, NotPermutation, OutOfMemory, RimopakuError, RoomTooSmall, callsOf } from "./calls.js";
 export const { order, orderHolding, counts, columns } = callsOf(await WebAssembly.compile(bytes()));
