@@ -1,9 +1,10 @@
 /* amd.c: SuiteSparse's AMD as symbols, over the library rimopaku: for programs and libraries that were compiled with SuiteSparse's amd.h,
  * among them CHOLMOD, UMFPACK and KLU. bindings/c/build makes libamd.so and libamd.a of it.
  *
- * amd_order, amd_valid, amd_defaults, amd_control, amd_info and amd_version come from include/drop_in/amd.h. Here are amd_2, amd_1 and what
- * UMFPACK calls besides, in both widths. What they compute is computed by the proved calls of rimopaku.h; this file turns their arguments
- * round. amd_post_tree alone walks the caller's links itself: they come without a length, so that nothing could test them. */
+ * amd_order, amd_valid, amd_defaults, amd_control, amd_info and amd_version come from include/drop_in/amd.h. Here are
+ * amd_2, amd_1 and what UMFPACK calls besides, in both widths, and what Fortran calls. What they compute is computed by the
+ * proved calls of rimopaku.h; this file turns their arguments round. amd_post_tree alone walks the caller's links itself:
+ * they come without a length, so that nothing could test them. */
 
 /* A status of 64 bits is right for callers of both versions: those of SuiteSparse 7 read its lower half. */
 #define RIMOPAKU_AMD_LONG_STATUS int64_t
@@ -76,3 +77,12 @@ static bool has_memory(size_t n, size_t each, size_t more)
 #define NAME(name) amd_l_##name
 #define SHORT_NAME(name) amd_l##name
 #include "amd_width.h"
+#undef INT
+#undef WIDTH
+#undef CALL
+#undef NAME
+#undef SHORT_NAME
+
+#if RIMOPAKU_SUITESPARSE >= 7
+#include "amd_fortran.h"
+#endif

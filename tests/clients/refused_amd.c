@@ -14,6 +14,9 @@ void amd_1(int n, const int Ap[], const int Ai[], int P[], int Pinv[], int Len[]
 void amd_preprocess(int n, const int Ap[], const int Ai[], int Rp[], int Ri[], int W[], int Flag[]);
 void amd_postorder(int nn, int Parent[], int Npiv[], int Fsize[], int Order[], int Child[], int Sibling[], int Stack[]);
 
+void amd_(const int *N, int PE[], int IW[], int LEN[], const int *IWLEN, int *PFREE, int NV[], int NEXT[], int LAST[], int HEAD[],
+          int ELEN[], int DEGREE[], int *NCMPA, int W[], const int *IOVFLO);
+
 void *__real_malloc(size_t size);
 void *__real_realloc(void *block, size_t size);
 void __real_free(void *block);
@@ -88,6 +91,23 @@ static int lists_apart(int met)
     return permutes() && (info[AMD_STATUS] == AMD_OUT_OF_MEMORY) == met;
 }
 
+/* The same by the Fortran routine, from 1 on. It has no status, so a refusal leaves a permutation as well. */
+static int lists_of_fortran(int met)
+{
+    int n = ROWS, words = WORDS, end = lay(0) + 1, compactions = -1, largest = INT32_MAX;
+    (void)met;
+    for (int k = 0; k < end - 1; k++)
+        lists[k]++;
+    for (int j = 0; j < n; j++)
+        begins[j]++;
+    amd_(&n, begins, lists, lengths, &words, &end, work[0], work[1], p, work[2], p_inv, work[3], &compactions, work[4], &largest);
+    for (int j = 0; j < n; j++) {
+        p[j]--;
+        p_inv[j]--;
+    }
+    return permutes() && compactions >= 0;
+}
+
 static int columns(int met)
 {
     lay(0);
@@ -158,6 +178,7 @@ int main(void)
     refuse_each("amd_order", order);
     refuse_each("amd_2, lists one after another", lists_packed);
     refuse_each("amd_2, lists apart", lists_apart);
+    refuse_each("amd_, the Fortran routine", lists_of_fortran);
     refuse_each("amd_1", columns);
     refuse_each("amd_aat", degrees);
     refuse_each("amd_preprocess", row_form);
