@@ -395,13 +395,6 @@ RIMOPAKU_AMD_LINKAGE void amd_l_defaults(double Control[])
     amd_defaults(Control);
 }
 
-/* With how many digits amd_control prints the dense row parameter: five, or six from SuiteSparse 7 on. */
-#if RIMOPAKU_SUITESPARSE >= 7
-#define RIMOPAKU_AMD_DENSE "%g"
-#else
-#define RIMOPAKU_AMD_DENSE "%.5g"
-#endif
-
 /* Prints Control, or the defaults. */
 static inline void rimopaku_amd_print_control(const double Control[], int size)
 {
@@ -409,11 +402,11 @@ static inline void rimopaku_amd_print_control(const double Control[], int size)
     double aggressive = Control != NULL ? Control[AMD_AGGRESSIVE] : AMD_DEFAULT_AGGRESSIVE;
 
     printf("\nAMD by rimopaku: approximate minimum degree ordering\n");
-    printf("    dense row parameter: " RIMOPAKU_AMD_DENSE "\n", dense);
+    printf("    dense row parameter: %g\n", dense);
     if (dense < 0)
         printf("    no rows treated as dense\n");
     else
-        printf("    (rows with more than max (" RIMOPAKU_AMD_DENSE " * sqrt (n), 16) entries are\n"
+        printf("    (rows with more than max (%g * sqrt (n), 16) entries are\n"
                "    considered \"dense\", and placed last in output permutation)\n", dense);
     printf("    aggressive absorption:  %s\n", aggressive != 0 ? "yes" : "no");
     printf("    size of AMD integer: %d\n\n", size);
