@@ -38,6 +38,7 @@ export class Browser {
     else this.socket.destroy();
     this.process.kill();
     await new Promise((resolve) => this.process.on("exit", resolve));
-    rmSync(this.folder, { recursive: true, force: true, maxRetries: 5 });
+    // Its other processes may still write there for a moment.
+    rmSync(this.folder, { recursive: true, force: true, maxRetries: 20, retryDelay: 100 });
   }
 }
