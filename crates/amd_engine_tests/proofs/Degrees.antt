@@ -1,12 +1,17 @@
 -- What `aat` answers of a sorted matrix is what the engines ask for.
-use Rattle.std.proofs.Common.{ℕ, ℤ, List, pos, ◌≡◌, ◌+◌, ◌≤◌, length, subst, sym, arith}
+use Rattle.std.proofs.Common.{ℕ, ℤ, List, pos, negsuc, ap, ◌≡◌, ◌+◌, ◌≤◌, length, subst, sym, arith}
 use Rattle.std.specs.Prelude.{unsigned_abs}
 use Rattle.amd_model.specs.Input.Columns.{IsColumnForm, IsSorted, IsInput, IsSortedInput}
 use Rattle.amd_model.specs.Input.Pattern.{graph_of}
 use Rattle.amd_edges.specs.Visits.{AreCounts, start_of}
 use Rattle.amd_input.specs.Degrees.{AreDegrees}
 use Rattle.amd_input.proofs.PatternLemmas.{input_form, input_sorted}
-use Rattle.amd.proofs.Ready.{size_of, counts_of, sums_are}
+use Rattle.amd.proofs.CountedDegrees.{counts_of, sums_are}
+
+-- there is a degree for each row
+size_of : (z : ℤ) (ap' ai : List ℤ) (degrees : List ℕ) → IsInput z z ap' ai → length degrees ≡ unsigned_abs z → z ≡ pos (length degrees)
+size_of (pos n) ap' ai degrees form size = ap pos (sym size)
+size_of (negsuc n) ap' ai degrees form size = absurd form
 
 module _ (z : ℤ) (ap' ai : List ℤ) (total : ℕ) (degrees : List ℕ) (form : IsInput z z ap' ai) (sorted : IsSortedInput z ap' ai)
     (h : AreDegrees (unsigned_abs z) ap' ai total degrees) where
