@@ -348,6 +348,7 @@ int main(int argc, char **argv)
     }
     try_large(200000, 3, 1);
     try_large(5000, 1430, 1); /* so many words that two blocks more are asked for */
+    try_large(6000, 1989, 1); /* nearly as many as they are asked for */
     try_large(6500, 2000, 0); /* and so many that they are not */
     try_large(3000, 2400, 0); /* mirrored pairs */
     printf("%ld matrices, %zu of %ld calls needed every byte, at most %zu were left\n", count, needed_all, 4 * count, most_left);
