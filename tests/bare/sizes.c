@@ -194,17 +194,22 @@ static int is_the_order(const struct matrix *a, const struct results *r)
     return is_inverse(a, r) && r->told.n == (size_t)a->n;
 }
 
-/* The rows backwards are eliminated on a square of bits: joined[k][j] says whether places k and j are. */
-static void eliminate(const struct matrix *a, unsigned char (*joined)[MOST_ROWS])
+/* A square of bits: joined[k][j] says whether places k and j are joined, with the rows backwards. */
+typedef unsigned char square[MOST_ROWS][MOST_ROWS];
+
+static void join_column(const struct matrix *a, int32_t column, square joined)
 {
-    memset(joined, 0, MOST_ROWS * MOST_ROWS);
-    for (int32_t column = 0; column < a->n; column++)
-        for (int32_t at = a->p[column]; at < a->p[column + 1]; at++)
-            joined[a->n - 1 - column][a->n - 1 - a->i[at]] = joined[a->n - 1 - a->i[at]][a->n - 1 - column] = 1;
-    for (int32_t k = 0; k < a->n; k++)
-        for (int32_t i = k + 1; i < a->n; i++)
-            for (int32_t j = k + 1; joined[k][i] && j < a->n; j++)
-                joined[i][j] |= joined[k][j];
+    int32_t last = a->n - 1;
+    for (int32_t at = a->p[column]; at < a->p[column + 1]; at++)
+        joined[last - column][last - a->i[at]] = joined[last - a->i[at]][last - column] = 1;
+}
+
+/* Joins what place k is joined with. */
+static void eliminate(int32_t n, int32_t k, square joined)
+{
+    for (int32_t i = k + 1; i < n; i++)
+        for (int32_t j = k + 1; joined[k][i] && j < n; j++)
+            joined[i][j] |= joined[k][j];
 }
 
 /* The column of place k: whether the counts and the columns have it. */
@@ -222,20 +227,24 @@ static int is_column(int32_t k, int32_t n, const unsigned char *joined, const st
 
 static int is_the_factor(const struct matrix *a, const struct results *r)
 {
-    static unsigned char joined[MOST_ROWS][MOST_ROWS];
-    eliminate(a, joined);
-    for (int32_t k = 0; k < a->n; k++)
+    static square joined;
+    memset(joined, 0, sizeof joined);
+    for (int32_t column = 0; column < a->n; column++)
+        join_column(a, column, joined);
+    for (int32_t k = 0; k < a->n; k++) {
+        eliminate(a->n, k, joined);
         if (!is_column(k, a->n, joined[k], r))
             return 0;
+    }
     return r->needs.lnz == (size_t)r->ptr[a->n];
 }
 
 /* ---- How many bytes a call needs. */
 
-typedef int call(const struct matrix *, size_t, struct results *);
+typedef int a_call(const struct matrix *, size_t, struct results *);
 
 /* The least number of bytes, a multiple of 16, with which the call succeeds; `enough` are. */
-static size_t least(call *call, const struct matrix *a, size_t enough)
+static size_t least(a_call *call, const struct matrix *a, size_t enough)
 {
     static struct results r;
     size_t below = 0, above = enough / 16 + 1;
@@ -250,7 +259,7 @@ static size_t least(call *call, const struct matrix *a, size_t enough)
 }
 
 /* With one unit less than the least number, with a half of it and with none the call refuses, and the results are as they were. */
-static void refuse(const char *name, call *call, const struct matrix *a, size_t bytes)
+static void refuse(const char *name, a_call *call, const struct matrix *a, size_t bytes)
 {
     static struct results before, r;
     size_t tried[] = {bytes - 16, bytes / 32 * 16, 0};
@@ -266,7 +275,7 @@ static void refuse(const char *name, call *call, const struct matrix *a, size_t 
 
 static size_t most_left, needed_all;
 
-static void try_call(const char *name, call *call, const struct matrix *a, size_t enough, int needs_all, struct results *r)
+static void try_call(const char *name, a_call *call, const struct matrix *a, size_t enough, int needs_all, struct results *r)
 {
     size_t bytes = least(call, a, enough);
     need(call(a, enough, r) >= 0, name, a->n, a->p[a->n]);
@@ -307,6 +316,17 @@ static void try_matrix(const struct matrix *a)
 
 /* ---- Larger ones, by their sizes alone: a band of entries in each column, from the last row up. */
 
+static void make_band(int32_t n, int32_t in_column, int32_t *p, int32_t *i)
+{
+    int32_t at = 0;
+    for (int32_t column = 0; column < n; column++) {
+        p[column] = at;
+        for (int32_t k = in_column; k > 0; k--)
+            i[at++] = (column + k) % n;
+    }
+    p[n] = at;
+}
+
 static void try_large(int32_t n, int32_t in_column, int needs_all)
 {
     size_t rows = (size_t)n, entries = rows * (size_t)in_column, bytes = rimopaku_order_bytes_i32(n, n * in_column);
@@ -317,11 +337,7 @@ static void try_large(int32_t n, int32_t in_column, int needs_all)
     int32_t status;
 
     need(p != NULL && i != NULL && order != NULL && inverse != NULL && memory != NULL, "no memory", n, 0);
-    for (int32_t column = 0, at = 0; column <= n; column++) {
-        p[column] = at;
-        for (int32_t k = 1; column < n && k <= in_column; k++)
-            i[at++] = (column + (in_column - k + 1)) % n;
-    }
+    make_band(n, in_column, p, i);
     block = rimopaku_block_in(memory, bytes + 15);
     need(block.size == bytes, "no block", n, 0);
     status = rimopaku_order_within_i32(block, n, p, rows + 1, i, entries, &defaults, order, rows, inverse, rows, &told);

@@ -82,18 +82,26 @@ static void tell(size_t number)
     call_system(WRITE, 1, (long)(text + at), (long)(sizeof text - at));
 }
 
-/* The stack below this function's own part is painted before, and what is painted no more was used. */
+#define PAINT 0xa5
+
+/* How many bytes at the lower end of the stack have the paint still. */
+static size_t painted(void)
+{
+    size_t count = 0;
+    while (count < STACK && own_stack[count] == PAINT)
+        count++;
+    return count;
+}
+
+/* The stack is painted before, but for the part near the frame of this function; what has no paint afterwards was used. */
 void begin(void)
 {
-    volatile unsigned char *stack = own_stack;
-    size_t free = (size_t)((unsigned char *)__builtin_frame_address(0) - own_stack) - 1024, untouched = 0;
+    size_t free = (size_t)((unsigned char *)__builtin_frame_address(0) - own_stack) - 1024, untouched;
     int status;
 
-    for (size_t k = 0; k < free; k++)
-        stack[k] = 0xa5;
+    memset(own_stack, PAINT, free);
     status = main();
-    while (untouched < free && stack[untouched] == 0xa5)
-        untouched++;
+    untouched = painted();
     tell(STACK - untouched);
     call_system(EXIT, status == 0 && untouched < STACK / 2 ? 254 : status, 0, 0);
     for (;;)

@@ -145,21 +145,32 @@ static void make_grid(void)
     }
 }
 
-/* The columns are as long as the counts tell, each parent is the first entry of its column, and the places follow each other. */
+/* Each row has a place, and each place a row. */
+static int grid_order(struct rimopaku_statistics *told)
+{
+    int32_t entries = grid_p[ROWS];
+    CHECK(entries == 2 * SIDE * (SIDE - 1));
+    CHECK(rimopaku_order_within_i32(lend(rimopaku_order_bytes_i32(ROWS, entries)), ROWS, grid_p, ROWS + 1, grid_i, (size_t)entries,
+                                    &defaults, order, ROWS, place, ROWS, told) == 0);
+    CHECK(told->nz_a_plus_at == 2 * (size_t)entries);
+    for (int32_t k = 0; k < ROWS; k++)
+        CHECK(order[k] >= 0 && order[k] < ROWS && place[order[k]] == k);
+    return 0;
+}
+
+/* The columns are as long as the counts tell, and each parent is the first entry of its column. */
 static int grid(void)
 {
     struct rimopaku_statistics told;
     struct rimopaku_needs needs;
     int32_t entries;
+    int line;
 
     make_grid();
     entries = grid_p[ROWS];
-    CHECK(entries == 2 * SIDE * (SIDE - 1));
-    CHECK(rimopaku_order_within_i32(lend(rimopaku_order_bytes_i32(ROWS, entries)), ROWS, grid_p, ROWS + 1, grid_i, (size_t)entries,
-                                    &defaults, order, ROWS, place, ROWS, &told) == 0);
-    CHECK(told.nz_a_plus_at == 2 * (size_t)entries);
-    for (int32_t k = 0; k < ROWS; k++)
-        CHECK(order[k] >= 0 && order[k] < ROWS && place[order[k]] == k);
+    line = grid_order(&told);
+    if (line != 0)
+        return line;
     CHECK(rimopaku_counts_within_i32(lend(rimopaku_counts_bytes_i32(ROWS, entries)), ROWS, grid_p, ROWS + 1, grid_i, (size_t)entries, order,
                                      ROWS, sizes, ROWS, parent, ROWS, &needs) == 0);
     CHECK(needs.lnz <= told.lnz && needs.lnz <= MOST_FACTOR && needs.d_max <= told.d_max);
@@ -171,16 +182,21 @@ static int grid(void)
     return 0;
 }
 
-/* A path, whose rows are eliminated one after another: each column has the next place alone, and the tree is as deep as it can be. */
-static int path(void)
+static void make_path(void)
 {
-    struct rimopaku_needs needs;
-
     for (int32_t row = 0; row < ROWS; row++) {
         grid_i[row] = row + 1;
         grid_p[row] = order[row] = row;
     }
     grid_p[ROWS] = ROWS - 1;
+}
+
+/* A path, whose rows are eliminated one after another: each column has the next place alone, and the tree is as deep as it can be. */
+static int path(void)
+{
+    struct rimopaku_needs needs;
+
+    make_path();
     CHECK(rimopaku_counts_within_i32(lend(rimopaku_counts_bytes_i32(ROWS, ROWS - 1)), ROWS, grid_p, ROWS + 1, grid_i, ROWS - 1, order, ROWS,
                                      sizes, ROWS, parent, ROWS, &needs) == 0);
     CHECK(needs.lnz == ROWS - 1 && needs.d_max == 2);
