@@ -162,11 +162,11 @@ fn analyzes_holding(rt: &impl Abort, heap: &Refusing<Global>) -> bool {
     }
 }
 
-/// The 17 requests before those for the columns are those of `order`.
+/// The 13 requests before those for the columns are those of `order`.
 #[test]
 fn each_request_of_the_analyses(rt: HostRuntime) {
     let analyzing = each_refused(rt.alloc(), |heap| analyzes(&rt, heap));
-    check!(&rt; analyzing == Ok(17 + REQUESTS));
+    check!(&rt; analyzing == Ok(13 + REQUESTS));
     let holding = each_refused(rt.alloc(), |heap| analyzes_holding(&rt, heap));
-    check!(&rt; holding == Ok(17 + REQUESTS));
+    check!(&rt; holding == Ok(13 + REQUESTS));
 }
