@@ -1,5 +1,6 @@
 // A runtime for tests: its input is a text, it keeps what is shown on standard output and told on standard error, its
-// output may fail, and its clock goes on by so many seconds whenever it is read. Files are those of the host.
+// output may fail, it may move no file, and its clock goes on by so many seconds whenever it is read. Files are those of
+// the host.
 
 use std::alloc::{Allocator, Global};
 use std::cell::{Cell, RefCell};
@@ -49,6 +50,8 @@ pub struct Desk<'a> {
     pub broken: bool,
     /// Whether standard error takes nothing.
     pub mute: bool,
+    /// Whether no file can be moved.
+    pub stuck: bool,
 }
 
 /// Appends bytes to a page.
@@ -183,6 +186,9 @@ impl Files for Desk<'_> {
     }
 
     fn rename(&self, from: &str, to: &str) -> io::Result<()> {
+        if self.stuck {
+            return Err(io::Error::from(ErrorKind::Other));
+        }
         self.host.rename(from, to)
     }
 

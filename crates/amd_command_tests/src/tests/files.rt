@@ -187,3 +187,22 @@ fn a_standard_error_that_takes_nothing(rt: HostRuntime) -> Result<(), Fail> {
     fs::remove_dir_all(&rt, folder)?;
     Ok(())
 }
+
+/// Where a file cannot be moved to its place nothing is left beside it, and one that was there is as it was.
+#[test]
+fn files_that_cannot_be_moved(rt: HostRuntime) -> Result<(), Fail> {
+    let folder = make_folder(&rt)?;
+    let folder = folder.as_str();
+    let path = within(&rt, folder, "order")?;
+    let path = path.as_str();
+    let words = ["order", "-", "--out", path];
+    let end = run_at_desk(&rt, &words, PATH, 0, Broken::Move)?;
+    check!(&rt; end.status == 1 && end.told.contains("/order: cannot be written: "));
+    check!(&rt; names_in(&rt, folder)? == 0);
+    fs::write(&rt, path, "old\n")?;
+    let end = run_at_desk(&rt, &words, PATH, 0, Broken::Move)?;
+    check!(&rt; end.status == 1 && has_text(&rt, path, "old\n"));
+    check!(&rt; names_in(&rt, folder)? == 1);
+    fs::remove_dir_all(&rt, folder)?;
+    Ok(())
+}

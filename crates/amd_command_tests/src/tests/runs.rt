@@ -72,7 +72,7 @@ pub struct Ended {
     pub told: String,
 }
 
-/// Which of the streams of a run takes nothing.
+/// Which of the streams of a run takes nothing, or whether no file can be moved.
 #[derive(Clone, Copy, PartialEq)]
 pub enum Broken {
     /// None.
@@ -81,9 +81,11 @@ pub enum Broken {
     Output,
     /// Standard error.
     Error,
+    /// No stream: a file cannot be moved.
+    Move,
 }
 
-/// Runs the command with a text as its input, with a clock that goes on by so many seconds, and with a stream that
+/// Runs the command with a text as its input, with a clock that goes on by so many seconds, and with what
 /// fails.
 pub fn run_at_desk(
     host: &HostRuntime,
@@ -102,6 +104,7 @@ pub fn run_at_desk(
         step,
         broken: broken == Broken::Output,
         mute: broken == Broken::Error,
+        stuck: broken == Broken::Move,
     };
     let status = run(&desk, &owned);
     Ok(Ended {
