@@ -7,6 +7,7 @@ mod demos;
 mod earlier;
 mod expansion;
 mod jumbled_texts;
+mod large;
 mod lengths;
 mod memory;
 mod numbers;
