@@ -207,7 +207,8 @@ int32_t rimopaku_preprocess_i64(int64_t n, const int64_t *a_p, size_t a_p_len, c
  * ascending order.
  *
  * Each length must be n. Returns RIMOPAKU_OK; or RIMOPAKU_INVALID exactly if a length is not n, or the lists are no forest: an element has
- * a negative front, or a parent that is neither -1 nor an element, or is above itself. After an error order is unchanged. */
+ * a negative front, or a parent that is neither -1 nor an element, or is above itself. The test of the lists takes memory: if the lengths
+ * are n, RIMOPAKU_OUT_OF_MEMORY may come in place of either. After an error order is unchanged. */
 int32_t rimopaku_postorder_i32(int32_t n, const int32_t *parent, size_t parent_len, const int32_t *nv, size_t nv_len,
                                const int32_t *f_size, size_t f_size_len, int32_t *order, size_t order_len);
 int32_t rimopaku_postorder_i64(int64_t n, const int64_t *parent, size_t parent_len, const int64_t *nv, size_t nv_len,

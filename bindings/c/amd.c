@@ -3,8 +3,9 @@
  *
  * amd_order, amd_valid, amd_defaults, amd_control, amd_info and amd_version come from include/drop_in/amd.h. Here are
  * amd_2, amd_1 and what UMFPACK calls besides, in both widths, and what Fortran calls. What they compute is computed by the
- * proved calls of rimopaku.h; this file turns their arguments round. amd_post_tree alone walks the caller's links itself:
- * they come without a length, so that nothing could test them. */
+ * proved calls of rimopaku.h; this file turns their arguments round. For amd_2 it also lays lists one after another, and
+ * compares what those calls tell of them with their lengths, since a caller's lists may be none. amd_post_tree alone walks
+ * the caller's links itself: they come without a length, so that nothing could test them. */
 
 /* A status of 64 bits is right for callers of both versions: those of SuiteSparse 7 read its lower half. */
 #define RIMOPAKU_AMD_LONG_STATUS int64_t

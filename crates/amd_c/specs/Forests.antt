@@ -54,8 +54,8 @@ abbrev pub HasForestPlaces : ℤ → List ℤ → List ℤ → List ℤ → List
 HasForestPlaces n parent nv f_size order = (n ≡ pos (length parent)) × (n ≡ pos (length nv)) ×
     (n ≡ pos (length f_size)) × (n ≡ pos (length order))
 
--- what a call with this status leaves in the array: the postorder of n places, or after a refusal what it was; `Invalid`
--- exactly where an array has not n places, or the lists are no forest
+-- what a call with this status leaves in the array: the postorder of a forest of n places, or after a refusal what it
+-- was; `Invalid` only where an array has not n places, or the lists are no forest; `OutOfMemory` only where each has
 abbrev pub LeavesPostorder : ℤ → List ℤ → List ℤ → List ℤ → List ℤ → List ℤ → Status → Type 0
 LeavesPostorder n parent nv f_size old new OK = HasForestPlaces n parent nv f_size old ×
     IsElementForest (unsigned_abs n) parent nv f_size × IsPostorderOf (tree_of (unsigned_abs n) parent nv f_size) new

@@ -94,6 +94,10 @@ pub fn analyze<I: PrimInt, A: Allocator + Copy>(
 /// `hold` has one mark for each of the `n` rows. The results have the lengths that [`analyze`] gives them. For `n = 0`
 /// they are as there, whatever the pointers and the marks are.
 ///
+/// Room for `info.lnz` entries is reserved, which counts all rows held last as one full block. Where they are many it
+/// is far more than the factor has: [`crate::analyze_counts_holding`] counts first, and [`crate::columns_into`] then
+/// takes just so many places.
+///
 /// # Errors
 ///
 /// `NotColumnForm` exactly where `order_holding` returns `Invalid`: `n` is not 0 and either the input is no column form
