@@ -252,6 +252,8 @@ fn grow<S: Signed, A: Allocator>(iw: &mut Vec<Word<S>, A>, free: usize, live: us
     ensures words { (more : List ℤ) × (iw.new.items ≡ iw.old.items ++ more) }
     ensures long { length iw.new.items ≤ room }
     ensures due { length iw.new.items < room → free + live ≤ length iw.new.items }
+    ensures few { length iw.new.items ≤ length iw.old.items + live }
+    ensures kept { free + live ≤ length iw.old.items → iw.new.items ≡ iw.old.items }
     ensures capacity { vec_capacity iw.old ≤ vec_capacity iw.new }
 {
     let words = iw.len();
