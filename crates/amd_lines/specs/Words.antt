@@ -1,9 +1,9 @@
 -- The words of a line, and the numbers that words spell.
 use Rattle.std.specs.Prelude.{◌≡◌, ◌≢◌, ◌<◌, ◌≤◌, ◌^◌, ℕ, ℤ, Bool, true, false, List, [], ◌∷◌, ◌++◌, length}
-use Rattle.std.specs.Prelude.{take, drop, slice_index, nat_lt, filter, FitsSigned}
+use Rattle.std.specs.Prelude.{take, drop, map, cond, ◌==◌, ◌||◌, slice_index, nat_lt, filter, FitsSigned}
 use Rattle.std.specs.Int.{w64, IsInRange}
 use Rattle.std.specs.Char.{is_ascii_whitespace}
-use Rattle.std.specs.Float.Parse.{completes_number}
+use Rattle.std.specs.Float.Parse.{completes_number, without_sign}
 use Rattle.std.specs.List.{slice_split}
 use Rattle.std.specs.Str.Parse.{IsNumeral, digits_value, without_leading_sign, signed_digits_value}
 
@@ -31,6 +31,14 @@ SpellsNumbers [] [] = Unit {0}
 SpellsNumbers (w ∷ ws) (z ∷ zs) = SpellsNumber w z × SpellsNumbers ws zs
 SpellsNumbers [] (z ∷ zs) = ⊥
 SpellsNumbers (w ∷ ws) [] = ⊥
+
+-- 'e' in the place of 'D' and 'd', with which Fortran begins the exponent of a double
+abbrev pub exponent_mark : ℕ → ℕ
+exponent_mark b = cond (b == 68 || b == 100) 101 b
+
+-- the word is a number in digits, with a 'D' where an 'e' may stand
+abbrev pub is_double_text : List ℕ → Bool
+is_double_text w = completes_number 0 (map exponent_mark (without_sign w))
 
 -- the first k bytes of a text are digits, and write the number
 pub record LeadsNumber (text : List ℕ) (k number : ℕ) : Type 0 where

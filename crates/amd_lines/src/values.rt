@@ -1,11 +1,12 @@
-// A float at the front of a line that is written in digits, looked at byte by byte. Called by `amd_market`.
+// A float that is written in digits, looked at byte by byte: at the front of a line, and a double as Fortran writes it.
+// Called by `amd_market`.
 
 ghost use Rattle.std.specs.Prelude.{◌≡◌, ◌<◌, ◌≤◌, ◌∷◌, ◌||◌, ◌==◌, true, cond, [], List, ℕ};
 ghost use Rattle.std.specs.Prelude.{length, take, slice_index, IfSome};
 ghost use Rattle.std.specs.Char.{is_ascii_whitespace};
 ghost use Rattle.std.specs.Float.Parse.{completes_number, float_scan_step, is_float_text};
 ghost use Rattle.std.specs.List.{position_or_len};
-ghost use Rattle.amd_lines.specs.Words.{words, HasDigits, Scanned, StaysInLine};
+ghost use Rattle.amd_lines.specs.Words.{words, HasDigits, Scanned, StaysInLine, exponent_mark, is_double_text};
 
 use crate::words::blanks_end;
 
@@ -142,4 +143,27 @@ pub fn behind_float(line: &[u8]) -> Option<&[u8]>
     let (_, body) = text.split_at(sign_len(text));
     let (_, rest) = body.split_at(float_len(body)?);
     Some(rest)
+}
+
+/// A byte, with `e` in the place of the `D` with which Fortran begins the exponent of a double, in either case.
+pub fn exponent_mark(byte: u8) -> u8
+    ensures { result ≡ exponent_mark byte }
+{
+    if byte == b'D' || byte == b'd' {
+        b'e'
+    } else {
+        byte
+    }
+}
+
+/// Whether a word is a number in digits, where a `D` may stand for the `e` before its exponent.
+pub fn is_double(word: &[u8]) -> bool
+    ensures { result ≡ is_double_text word.now }
+{
+    let (_, body) = word.split_at(sign_len(word));
+    let mut state = 0;
+    'bytes: for byte in body {
+        state = next_state(state, exponent_mark(*byte));
+    }
+    completes(state)
 }

@@ -1,7 +1,7 @@
 -- What the words of a card spell, and that others spell nothing.
-use Rattle.std.proofs.Common.{◌≡◌, ◌<◌, ◌∙◌, ℕ, suc, pos, Bool, true, false, List, [], ◌∷◌, ◌++◌, length, take, drop}
-use Rattle.std.proofs.Common.{refl, sym, ap, subst, cond, arith, Option, Some, None}
-use Rattle.std.specs.Prelude.{◌==◌, ◌||◌, All, MatchOption}
+use Rattle.std.proofs.Common.{◌≡◌, ◌<◌, ◌∙◌, ◌*◌, ℕ, zero, suc, pos, Bool, true, false, List, [], ◌∷◌, ◌++◌, length, take, drop}
+use Rattle.std.proofs.Common.{refl, sym, ap, subst, cond, arith, Option, Some, None, inl, inr}
+use Rattle.std.specs.Prelude.{◌==◌, ◌||◌, All, MatchOption, slice_index}
 use Rattle.std.specs.Char.{to_ascii_lowercase, digit_value}
 use Rattle.std.specs.Str.Parse.{AllDigits, without_leading_sign}
 use Rattle.std.proofs.lemmas.Bool.{eqb-true}
@@ -12,10 +12,12 @@ use Rattle.std.proofs.lemmas.List.Sums.{fails_before_first}
 use Rattle.std.specs.List.{position, position_or_len}
 use Rattle.amd_lines.specs.Words.{words, SpellsNumber}
 use Rattle.amd_market.specs.Boeing.{is_whole_letter, IsCount, SpellsCounts, SpellsSides, SpellsSizes, SpellsType}
-use Rattle.amd_market.specs.Boeing.{SpellsRepeat, SpellsFormat, SpellsKind, SpellsLayout}
+use Rattle.amd_market.specs.Boeing.{SpellsRepeat, SpellsWidth, SpellsGroup, AreGroups, SpellsFormat, SpellsKind, SpellsLayout}
+use Rattle.amd_market.specs.Boeing.{is_point, is_bracket, bare, pointed}
 use Rattle.amd_market.specs.Faults.{HasTypeFault, HasCardFault}
 use Rattle.amd_market.specs.declared.headers.Symmetry.{Symmetry}
 use Rattle.amd_market.specs.declared.formats.Layout.{Layout}
+use Rattle.amd_market.specs.declared.formats.Fields.{Fields}
 use Rattle.amd_market.specs.declared.faults.ReadFault.{ReadFault}
 use Rattle.amd_market.specs.declared.faults.ReadFault.TheVariants as fault
 
@@ -88,41 +90,73 @@ no-row-format line first second us vs one two none l h =
     let rest = same-rest (words line) _ us h.first first h.parts one in none _ _
     (subst (λ z. SpellsFormat z l.rows.per_line l.rows.width) (same-first us _ _ h.second second (sym rest) two) h.has_rows)
 
--- none of the bytes is the letter of whole numbers
-abbrev pub NoLetter : List ℕ → Type 0
-NoLetter [] = Unit {0}
-NoLetter (b ∷ bs) = (is_whole_letter b ≡ false) × NoLetter bs
+-- none of the bytes passes
+abbrev pub NoneOf : (ℕ → Bool) → List ℕ → Type 0
+NoneOf p [] = Unit {0}
+NoneOf p (b ∷ bs) = (p b ≡ false) × NoneOf p bs
 
-pub no-letter : (bs : List ℕ) → All (λ b. is_whole_letter b ≡ false) bs → NoLetter bs
-no-letter [] h = tt
-no-letter (b ∷ bs) h = (h 0 0 (omega arith), no-letter bs (λ i d l. h (suc i) d (omega (arith, l))))
+pub none-of : (p : ℕ → Bool) (bs : List ℕ) → All (λ b. p b ≡ false) bs → NoneOf p bs
+none-of p [] h = tt
+none-of p (b ∷ bs) h = (h 0 0 (omega arith), none-of p bs (λ i d l. h (suc i) d (omega (arith, l))))
 
-digit-none : (b : ℕ) → digit_value b < 10 → is_whole_letter b ≡ false
-digit-none b h = at (b == 105) (b == 73) refl refl
+all-none : (p : ℕ → Bool) (bs : List ℕ) → NoneOf p bs → All (λ b. p b ≡ false) bs
+all-none p [] h i d l = absurd (omega arith)
+all-none p (b ∷ bs) h zero d l = h.0
+all-none p (b ∷ bs) h (suc i) d l = all-none p bs h.1 i d (omega (arith, l))
+
+-- a number is written without bytes of a kind: neither digits nor signs are of it
+abbrev pub IsForeign : (ℕ → Bool) → Type 0
+IsForeign p = ((b : ℕ) → digit_value b < 10 → p b ≡ false) × (p 45 ≡ false) × (p 43 ≡ false)
+
+letter-foreign : IsForeign is_whole_letter
+letter-foreign = (none, refl, refl)
   where
-    at : (x y : Bool) → (b == 105) ≡ x → (b == 73) ≡ y → (x || y) ≡ false
-    at true y p q = let small = subst (λ z. digit_value z < 10) (eqb-true b 105 p) h in absurd (omega (arith, small))
-    at false true p q = let small = subst (λ z. digit_value z < 10) (eqb-true b 73 q) h in absurd (omega (arith, small))
-    at false false p q = refl
+    none : (b : ℕ) → digit_value b < 10 → is_whole_letter b ≡ false
+    none b h = at (b == 105) (b == 73) refl refl
+      where
+        at : (x y : Bool) → (b == 105) ≡ x → (b == 73) ≡ y → (x || y) ≡ false
+        at true y p q = let small = subst (λ z. digit_value z < 10) (eqb-true b 105 p) h in absurd (omega (arith, small))
+        at false true p q = let small = subst (λ z. digit_value z < 10) (eqb-true b 73 q) h in absurd (omega (arith, small))
+        at false false p q = refl
 
-digits-none : (bs : List ℕ) → AllDigits 10 bs → NoLetter bs
-digits-none [] h = tt
-digits-none (b ∷ bs) h = (digit-none b h.0, digits-none bs h.1)
+point-foreign : IsForeign is_point
+point-foreign = (none, refl, refl)
+  where
+    none : (b : ℕ) → digit_value b < 10 → is_point b ≡ false
+    none b h = at (b == 46) refl
+      where
+        at : (x : Bool) → (b == 46) ≡ x → x ≡ false
+        at true p = let small = subst (λ z. digit_value z < 10) (eqb-true b 46 p) h in absurd (omega (arith, small))
+        at false p = refl
 
--- a number has no letter, and so has the front of a format
-number-none : (w : List ℕ) → AllDigits 10 (without_leading_sign w) → NoLetter w
-number-none [] h = tt
-number-none (c ∷ cs) h = at (c == 45) (c == 43) refl refl h
+bracket-foreign : IsForeign is_bracket
+bracket-foreign = (none, refl, refl)
+  where
+    none : (b : ℕ) → digit_value b < 10 → is_bracket b ≡ false
+    none b h = at (b == 40) refl
+      where
+        at : (x : Bool) → (b == 40) ≡ x → x ≡ false
+        at true p = let small = subst (λ z. digit_value z < 10) (eqb-true b 40 p) h in absurd (omega (arith, small))
+        at false p = refl
+
+digits-none : (p : ℕ → Bool) → IsForeign p → (bs : List ℕ) → AllDigits 10 bs → NoneOf p bs
+digits-none p f [] h = tt
+digits-none p f (b ∷ bs) h = (f.0 b h.0, digits-none p f bs h.1)
+
+-- a number has no such byte, and neither has the front of a format
+number-none : (p : ℕ → Bool) → IsForeign p → (w : List ℕ) → AllDigits 10 (without_leading_sign w) → NoneOf p w
+number-none p f [] h = tt
+number-none p f (c ∷ cs) h = at (c == 45) (c == 43) refl refl h
   where
     at : (x y : Bool) → (c == 45) ≡ x → (c == 43) ≡ y →
-        AllDigits 10 (cond x cs (drop (cond y 1 0) (c ∷ cs))) → NoLetter (c ∷ cs)
-    at true y p q d = (subst (λ z. is_whole_letter z ≡ false) (sym (eqb-true c 45 p)) refl, digits-none cs d)
-    at false true p q d = (subst (λ z. is_whole_letter z ≡ false) (sym (eqb-true c 43 q)) refl, digits-none cs d)
-    at false false p q d = (digit-none c d.0, digits-none cs d.1)
+        AllDigits 10 (cond x cs (drop (cond y 1 0) (c ∷ cs))) → NoneOf p (c ∷ cs)
+    at true y e q d = (subst (λ z. p z ≡ false) (sym (eqb-true c 45 e)) f.1, digits-none p f cs d)
+    at false true e q d = (subst (λ z. p z ≡ false) (sym (eqb-true c 43 q)) f.2, digits-none p f cs d)
+    at false false e q d = (f.0 c d.0, digits-none p f cs d.1)
 
-repeat-none : (front : List ℕ) (k : ℕ) → SpellsRepeat front k → NoLetter front
-repeat-none [] k h = tt
-repeat-none (b ∷ bs) k h = number-none (b ∷ bs) h.numeral.1
+repeat-none : (p : ℕ → Bool) → IsForeign p → (front : List ℕ) (k : ℕ) → SpellsRepeat front k → NoneOf p front
+repeat-none p f [] k h = tt
+repeat-none p f (b ∷ bs) k h = number-none p f (b ∷ bs) h.numeral.1
 
 -- the letter is that of whole numbers, in either case
 low-whole : (b : ℕ) → to_ascii_lowercase b ≡ 105 → is_whole_letter b ≡ true
@@ -133,23 +167,23 @@ low-whole b h = at (b == 105) (b == 73) refl refl
     at false true p q = refl
     at false false p q = grind arith
 
--- a text is parted at its first letter of whole numbers in one way
-parted : (f g b c : List ℕ) (l m : ℕ) → NoLetter f → NoLetter g → is_whole_letter l ≡ true → is_whole_letter m ≡ true →
+-- a text is parted at its first byte that passes in one way
+parted : (p : ℕ → Bool) (f g b c : List ℕ) (l m : ℕ) → NoneOf p f → NoneOf p g → p l ≡ true → p m ≡ true →
     f ++ l ∷ b ≡ g ++ m ∷ c → (f ≡ g) × (b ≡ c)
-parted [] [] b c l m h k p q e = (refl, cc)
-parted [] (y ∷ g) b c l m h k p q e =
-    let same : l ≡ y = cc in let one = subst (λ z. is_whole_letter z ≡ true) same p in let other = k.0 in cc
-parted (x ∷ f) [] b c l m h k p q e =
-    let same : x ≡ m = cc in let one = subst (λ z. is_whole_letter z ≡ false) same h.0 in cc
-parted (x ∷ f) (y ∷ g) b c l m h k p q e =
-    let same : x ≡ y = cc in
+parted p [] [] b c l m h k x y e = (refl, cc)
+parted p [] (z ∷ g) b c l m h k x y e =
+    let same : l ≡ z = cc in let one = subst (λ v. p v ≡ true) same x in let other = k.0 in cc
+parted p (z ∷ f) [] b c l m h k x y e =
+    let same : z ≡ m = cc in let one = subst (λ v. p v ≡ true) (sym same) y in let other = h.0 in cc
+parted p (z ∷ f) (v ∷ g) b c l m h k x y e =
+    let same : z ≡ v = cc in
     let rest : f ++ l ∷ b ≡ g ++ m ∷ c = cc in
-    let both = parted f g b c l m h.1 k.1 p q rest in
+    let both = parted p f g b c l m h.1 k.1 x y rest in
     (rw (same, both.0) refl, both.1)
 
-no-letter-at : (f b : List ℕ) (l : ℕ) → NoLetter (f ++ l ∷ b) → is_whole_letter l ≡ true → ⊥
-no-letter-at [] b l h p = let other = h.0 in cc
-no-letter-at (x ∷ f) b l h p = no-letter-at f b l h.1 p
+none-at : (p : ℕ → Bool) (f b : List ℕ) (l : ℕ) → NoneOf p (f ++ l ∷ b) → p l ≡ true → ⊥
+none-at p [] b l h x = let other = h.0 in cc
+none-at p (z ∷ f) b l h x = none-at p f b l h.1 x
 
 -- what stands between parentheses is one text
 inner-last : (t u : List ℕ) → t ++ 41 ∷ [] ≡ u ++ 41 ∷ [] → t ≡ u
@@ -172,34 +206,36 @@ inner-last (x ∷ t) (y ∷ u) e =
 pub inner-same : (word t u : List ℕ) → word ≡ 40 ∷ (t ++ 41 ∷ []) → word ≡ 40 ∷ (u ++ 41 ∷ []) → t ≡ u
 inner-same word t u h k = let e : t ++ 41 ∷ [] ≡ u ++ 41 ∷ [] = same-rest word _ _ 40 40 h k in inner-last t u e
 
--- the parts of a format between its parentheses
-pub format-parts : (word inner front back : List ℕ) (letter : ℕ) → word ≡ 40 ∷ (inner ++ 41 ∷ []) → inner ≡ front ++ letter ∷ back →
-    to_ascii_lowercase letter ≡ 105 → All (λ b. is_whole_letter b ≡ false) front → (k w : ℕ) → (h : SpellsFormat word k w) →
+-- the parts of a group between its parentheses
+pub group-parts : (word inner front back : List ℕ) (letter : ℕ) → word ≡ 40 ∷ (inner ++ 41 ∷ []) → inner ≡ front ++ letter ∷ back →
+    to_ascii_lowercase letter ≡ 105 → All (λ b. is_whole_letter b ≡ false) front → (k w : ℕ) → (h : SpellsGroup word k w) →
     (front ≡ h.front) × (back ≡ h.back)
-format-parts word inner front back letter whole parts low none k w h =
+group-parts word inner front back letter whole parts low none k w h =
     let same = inner-same word inner (h.front ++ h.letter ∷ h.back) whole h.parts in
-    parted front h.front back h.back letter h.letter (no-letter front none) (repeat-none h.front k h.repeated)
+    parted is_whole_letter front h.front back h.back letter h.letter (none-of is_whole_letter front none)
+    (repeat-none is_whole_letter letter-foreign h.front k h.repeated)
     (low-whole letter low) (low-whole h.letter h.is_whole) (sym parts ∙ same)
 
-pub no-format-letter : (word inner : List ℕ) → word ≡ 40 ∷ (inner ++ 41 ∷ []) → All (λ b. is_whole_letter b ≡ false) inner → (k w : ℕ) →
-    SpellsFormat word k w → ⊥
-no-format-letter word inner whole none k w h =
+pub no-group-letter : (word inner : List ℕ) → word ≡ 40 ∷ (inner ++ 41 ∷ []) → All (λ b. is_whole_letter b ≡ false) inner → (k w : ℕ) →
+    SpellsGroup word k w → ⊥
+no-group-letter word inner whole none k w h =
     let same = inner-same word inner (h.front ++ h.letter ∷ h.back) whole h.parts in
-    no-letter-at h.front h.back h.letter (subst NoLetter same (no-letter inner none)) (low-whole h.letter h.is_whole)
+    none-at is_whole_letter h.front h.back h.letter (subst (NoneOf is_whole_letter) same (none-of is_whole_letter inner none))
+    (low-whole h.letter h.is_whole)
 
--- where no byte passes, none is the letter
-pub position-none : (bs : List ℕ) → position is_whole_letter bs ≡ None → All (λ b. is_whole_letter b ≡ false) bs
-position-none bs e = λ i d l. fails_before_first is_whole_letter bs i d (within i l)
+-- where no byte is found that passes, none does, and none before the first that does
+pub position-none : (p : ℕ → Bool) (bs : List ℕ) → position p bs ≡ None → All (λ b. p b ≡ false) bs
+position-none p bs e = λ i d l. fails_before_first p bs i d (within i l)
   where
-    within : (i : ℕ) → i < length bs → i < position_or_len is_whole_letter bs
+    within : (i : ℕ) → i < length bs → i < position_or_len p bs
     within i l = grind (arith, common_steps)
 
-pub position-before : (bs : List ℕ) (place : ℕ) → position is_whole_letter bs ≡ Some place →
-    All (λ b. is_whole_letter b ≡ false) (take place bs)
-position-before bs place e = λ i d l.
+pub position-before : (p : ℕ → Bool) (bs : List ℕ) (place : ℕ) → position p bs ≡ Some place →
+    All (λ b. p b ≡ false) (take place bs)
+position-before p bs place e = λ i d l.
     let size = length-take place bs in
     let low : i < place = omega (arith, size, l) in
-    ap is_whole_letter (get_or-take place bs i d low) ∙ (position-Some is_whole_letter bs place d e).2 i low
+    ap p (get_or-take place bs i d low) ∙ (position-Some p bs place d e).2 i low
 
 -- two numbers that a word spells are one
 number-same : (w : List ℕ) (j k : ℕ) → SpellsNumber w (pos j) → SpellsNumber w (pos k) → j ≡ k
@@ -209,10 +245,107 @@ repeat-same : (front : List ℕ) (j k : ℕ) → SpellsRepeat front j → Spells
 repeat-same [] j k h i = h ∙ sym i
 repeat-same (b ∷ bs) j k h i = number-same (b ∷ bs) j k h i
 
--- a format has one number on a line, and one width
-pub format-same : (word front back : List ℕ) (j v k w : ℕ) → SpellsRepeat front j → SpellsNumber back (pos v) →
-    (h : SpellsFormat word k w) → (front ≡ h.front) × (back ≡ h.back) → (j ≡ k) × (v ≡ w)
-format-same word front back j v k w repeated wide h same = (
+-- the back of a format says no width: it has no point and is no number, or one of its two parts is none
+pub no-width-bare : (back : List ℕ) → All (λ b. is_point b ≡ false) back → ((k : ℕ) → SpellsNumber back (pos k) → ⊥) → (w : ℕ) →
+    SpellsWidth back w → ⊥
+no-width-bare back none other w h = elim h [
+  | bare s ↦ other w s
+  | pointed front digits least parts a b ↦
+      none-at is_point front digits 46 (subst (NoneOf is_point) parts (none-of is_point back none)) refl
+]
+
+-- a back with a point has one front and one number of digits
+abbrev Pointed : List ℕ → List ℕ → ℕ → Type 0
+Pointed front digits w = SpellsNumber front (pos w) × ((m : ℕ) × SpellsNumber digits (pos m))
+
+pub width-parts : (back front digits : List ℕ) → back ≡ front ++ 46 ∷ digits → All (λ b. is_point b ≡ false) front → (w : ℕ) →
+    SpellsWidth back w → Pointed front digits w
+width-parts back front digits parts none w h = elim h [
+  | bare s ↦ absurd (none-at is_point front digits 46 (subst (NoneOf is_point) parts (number-none is_point point-foreign back s.numeral.1)) refl)
+  | pointed f d least whole a b ↦
+      let same = parted is_point front f digits d 46 46 (none-of is_point front none)
+      (number-none is_point point-foreign f a.numeral.1) refl refl (sym parts ∙ whole) in (
+        subst (λ z. SpellsNumber z (pos w)) (sym same.0) a,
+        (least, subst (λ z. SpellsNumber z (pos least)) (sym same.1) b),
+      )
+]
+
+width-same : (back : List ℕ) (v w : ℕ) → SpellsWidth back v → SpellsWidth back w → v ≡ w
+width-same back v w h k = elim h [
+  | bare s ↦ elim k [
+    | bare t ↦ number-same back v w s t
+    | pointed front digits least parts a b ↦
+        absurd (none-at is_point front digits 46 (subst (NoneOf is_point) parts (number-none is_point point-foreign back s.numeral.1)) refl)
+  ]
+  | pointed front digits least parts a b ↦
+      number-same front v w a (width-parts back front digits parts (all-none is_point front
+      (number-none is_point point-foreign front a.numeral.1)) w k).0
+]
+
+-- the width that a back says, where it is read
+pub width-option : (back : List ℕ) (o : Option ℕ) → All (λ b. is_point b ≡ false) back →
+    MatchOption o ((k : ℕ) → SpellsNumber back (pos k) → ⊥) (λ k. SpellsNumber back (pos k)) →
+    MatchOption o ((w : ℕ) → SpellsWidth back w → ⊥) (SpellsWidth back)
+width-option back None none other = no-width-bare back none other
+width-option back (Some k) none s = bare s
+
+pub pointed-option : (back front digits : List ℕ) (least : ℕ) (o : Option ℕ) → back ≡ front ++ 46 ∷ digits →
+    All (λ b. is_point b ≡ false) front → SpellsNumber digits (pos least) →
+    MatchOption o ((k : ℕ) → SpellsNumber front (pos k) → ⊥) (λ k. SpellsNumber front (pos k)) →
+    MatchOption o ((w : ℕ) → SpellsWidth back w → ⊥) (SpellsWidth back)
+pointed-option back front digits least None parts none d other = λ w h. other w (width-parts back front digits parts none w h).0
+pointed-option back front digits least (Some k) parts none d s = pointed front digits least parts s d
+
+-- a format has one group, or more of them
+pub format-option : (word : List ℕ) (o : Option Fields) → ((k w : ℕ) → SpellsGroup word k w → ⊥) →
+    MatchOption o ((k w : ℕ) → AreGroups word k w → ⊥) (λ f. AreGroups word f.per_line f.width) →
+    MatchOption o ((k w : ℕ) → SpellsFormat word k w → ⊥) (λ f. SpellsFormat word f.per_line f.width)
+format-option word None none other = λ k w h. elim h [
+  | inl g ↦ none k w g
+  | inr g ↦ other k w g
+]
+format-option word (Some f) none g = inr g
+
+-- a group has one number of fields, and one width
+pub group-same : (word front back : List ℕ) (j v k w : ℕ) → SpellsRepeat front j → SpellsWidth back v →
+    (h : SpellsGroup word k w) → (front ≡ h.front) × (back ≡ h.back) → (j ≡ k) × (v ≡ w)
+group-same word front back j v k w repeated wide h same = (
   repeat-same front j k repeated (subst (λ z. SpellsRepeat z k) (sym same.0) h.repeated),
-  number-same back v w wide (subst (λ z. SpellsNumber z (pos w)) (sym same.1) h.wide),
+  width-same back v w wide (subst (λ z. SpellsWidth z w) (sym same.1) h.wide),
 )
+
+groups-same : (word : List ℕ) (j v k w : ℕ) → SpellsGroup word j v → SpellsGroup word k w → j ≡ k
+groups-same word j v k w g h =
+    (group-same word g.front g.back j v k w g.repeated g.wide h
+    (group-parts word (g.front ++ g.letter ∷ g.back) g.front g.back g.letter g.parts refl g.is_whole
+    (all-none is_whole_letter g.front (repeat-none is_whole_letter letter-foreign g.front j g.repeated)) k w h)).0
+
+-- a format of groups has one front, and one group
+bracket-first : (inner : List ℕ) (k w : ℕ) → (h : SpellsGroup inner k w) → inner ≡ 40 ∷ ((h.front ++ h.letter ∷ h.back) ++ 41 ∷ [])
+bracket-first inner k w h = h.parts
+
+pub groups-parts : (word text front inner : List ℕ) → word ≡ 40 ∷ (text ++ 41 ∷ []) → text ≡ front ++ inner → slice_index inner 0 ≡ 40 →
+    All (λ b. is_bracket b ≡ false) front → (k w : ℕ) → (h : AreGroups word k w) → (front ≡ h.front) × (inner ≡ h.inner)
+groups-parts word text front [] whole parts first none k w h = cc
+groups-parts word text front (b ∷ inner) whole parts first none k w h =
+    let same = inner-same word text (h.front ++ h.inner) whole h.parts in
+    let other = bracket-first h.inner h.each w h.group in
+    let both = parted is_bracket front h.front inner _ b 40 (none-of is_bracket front none)
+    (repeat-none is_bracket bracket-foreign h.front h.groups h.has_groups) (rw first refl) refl
+    (sym parts ∙ same ∙ ap (λ z. h.front ++ z) other) in
+    (both.0, rw (first, both.1) (sym other))
+
+pub no-groups-bracket : (word text : List ℕ) → word ≡ 40 ∷ (text ++ 41 ∷ []) → All (λ b. is_bracket b ≡ false) text → (k w : ℕ) →
+    AreGroups word k w → ⊥
+no-groups-bracket word text whole none k w h =
+    let same = inner-same word text (h.front ++ h.inner) whole h.parts in
+    let other = bracket-first h.inner h.each w h.group in
+    none-at is_bracket h.front _ 40 (subst (NoneOf is_bracket) (same ∙ ap (λ z. h.front ++ z) other) (none-of is_bracket text none)) refl
+
+-- the number of all fields of such a format
+pub groups-count : (word front inner : List ℕ) (g i v k w : ℕ) → SpellsRepeat front g → SpellsGroup inner i v → (h : AreGroups word k w) →
+    (front ≡ h.front) × (inner ≡ h.inner) → k ≡ g * i
+groups-count word front inner g i v k w repeated group h same =
+    let one = repeat-same front g h.groups repeated (subst (λ z. SpellsRepeat z h.groups) (sym same.0) h.has_groups) in
+    let two = groups-same inner i v h.each w group (subst (λ z. SpellsGroup z h.each w) (sym same.1) h.group) in
+    h.counted ∙ rw (one, two) refl

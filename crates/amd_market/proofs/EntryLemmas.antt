@@ -10,7 +10,7 @@ use Rattle.amd_lines.specs.Words.{words, SpellsNumber, StaysInLine, EndsAt}
 use Rattle.amd_lines.proofs.FrontLemmas.{stays_both, line_words}
 use Rattle.std.specs.Float.Parse.{is_float_text}
 use Rattle.amd_market.specs.Headers.{pairs_of, is_mirrored, value_words}
-use Rattle.amd_market.specs.Entries.{SpellsSize, SpellsEntry, SpellsEntries, BeginsEntry, BeginsValues}
+use Rattle.amd_market.specs.Entries.{SpellsSize, SpellsEntry, SpellsEntries, BeginsEntry, BeginsValues, is_value}
 use Rattle.amd_market.specs.Arrays.{SpellsShape}
 use Rattle.amd_market.specs.declared.headers.Field.{Field}
 use Rattle.amd_market.specs.declared.headers.Symmetry.{Symmetry}
@@ -122,7 +122,7 @@ values_more count text left rest w h are is =
       parts = h.parts ∙ ap (λ z. h.values ++ z) are ∙ sym (append_assoc h.values (w ∷ []) (words rest));
       are = record {
         counted = omega (arith, long, counted);
-        numbers = list_all-append is_float_text h.values (w ∷ []) ∙ rw (h.are.numbers, is) refl;
+        numbers = list_all-append is_value h.values (w ∷ []) ∙ rw (h.are.numbers, is) refl;
       };
     }
 

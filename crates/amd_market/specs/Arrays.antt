@@ -2,7 +2,7 @@
 use Rattle.std.specs.Prelude.{◌≡◌, ◌≢◌, ◌==◌, ◌||◌, ◌&&◌, ◌+◌, ◌-◌, not, ℕ, pos, zero, suc, Bool, true, false, List, [], ◌∷◌, ◌++◌}
 use Rattle.std.specs.Prelude.{length}
 use Rattle.std.specs.List.{list_all, take_while}
-use Rattle.amd_lines.specs.Words.{words, SpellsNumber}
+use Rattle.amd_lines.specs.Words.{words, SpellsNumber, exponent_mark}
 use Rattle.amd_market.specs.Headers.{value_words}
 use Rattle.amd_market.specs.Entries.{AreValues}
 use Rattle.amd_market.specs.declared.headers.Field.{Field}
@@ -29,9 +29,9 @@ HasShapeFault f line = ⊥
 abbrev pub is_zero_byte : ℕ → Bool
 is_zero_byte b = b == 48 || b == 46 || b == 43 || b == 45
 
--- any byte but 'e' and 'E', with which an exponent begins
+-- any byte but 'e', 'E', 'd' and 'D', with which an exponent begins
 abbrev pub is_before_exponent : ℕ → Bool
-is_before_exponent b = not (b == 101) && not (b == 69)
+is_before_exponent b = not (exponent_mark b == 101) && not (b == 69)
 
 -- a word is zero: before its exponent stand zeros, a point and a sign alone
 abbrev pub is_zero : List ℕ → Bool

@@ -1,5 +1,5 @@
 -- The lines of a Harwell-Boeing file, and the entries that its pointers and rows stand for.
-use Rattle.std.specs.Prelude.{◌≡◌, ◌<◌, ◌≤◌, ◌+◌, ◌-◌, ◌==◌, ◌||◌, cond, ℕ, pos, zero, suc, Bool, true, List, [], ◌∷◌, ◌++◌}
+use Rattle.std.specs.Prelude.{◌≡◌, ◌<◌, ◌≤◌, ◌+◌, ◌-◌, ◌*◌, ◌^◌, ◌⊎◌, ◌==◌, ◌||◌, cond, ℕ, pos, zero, suc, Bool, true, List, [], ◌∷◌, ◌++◌}
 use Rattle.std.specs.Prelude.{Option, Some, None, length, map, take, drop, min, slice_index, slice_range, flat_map}
 use Rattle.std.specs.Char.{to_ascii_lowercase}
 use Rattle.amd_lines.specs.Words.{words, SpellsNumber}
@@ -15,22 +15,54 @@ use Rattle.amd_market.specs.declared.formats.Layout.{Layout}
 abbrev pub is_whole_letter : ℕ → Bool
 is_whole_letter b = b == 105 || b == 73
 
+-- '.' and '('
+abbrev pub is_point : ℕ → Bool
+is_point b = b == 46
+
+abbrev pub is_bracket : ℕ → Bool
+is_bracket b = b == 40
+
 -- how many numbers the front of a format says: it is empty, or their number
 abbrev pub SpellsRepeat : List ℕ → ℕ → Type 0
 SpellsRepeat [] k = k ≡ 1
 SpellsRepeat (b ∷ bs) k = SpellsNumber (b ∷ bs) (pos k)
 
--- the word is a format of whole numbers, so many on a line and in fields of so many bytes, as (16I5)
-pub record SpellsFormat (word : List ℕ) (per_line width : ℕ) : Type 0 where
+-- what stands behind the letter of a format: how many bytes a field has, and maybe a point and the number of digits that
+-- are written at least
+pub data SpellsWidth (back : List ℕ) (width : ℕ) : Type 0 where
+  bare : SpellsNumber back (pos width) → SpellsWidth back width
+  pointed : (front digits : List ℕ) → (least : ℕ) → back ≡ front ++ 46 ∷ digits → SpellsNumber front (pos width) →
+      SpellsNumber digits (pos least) → SpellsWidth back width
+
+-- the word is a format of fields of whole numbers, so many and of so many bytes, as (16I5)
+pub record SpellsGroup (word : List ℕ) (count width : ℕ) : Type 0 where
   pub front : List ℕ
   pub letter : ℕ
   pub back : List ℕ
   pub parts : word ≡ 40 ∷ ((front ++ letter ∷ back) ++ 41 ∷ [])
   pub is_whole : to_ascii_lowercase letter ≡ 105
-  pub repeated : SpellsRepeat front per_line
-  pub wide : SpellsNumber back (pos width)
-  pub some : 0 < per_line
+  pub repeated : SpellsRepeat front count
+  pub wide : SpellsWidth back width
+  pub some : 0 < count
   pub room : 0 < width
+
+-- the word has so many such groups, as (4(4I5)): so many fields in all, which 64 bits count
+pub record AreGroups (word : List ℕ) (count width : ℕ) : Type 0 where
+  pub front : List ℕ
+  pub inner : List ℕ
+  pub groups : ℕ
+  pub each : ℕ
+  pub parts : word ≡ 40 ∷ ((front ++ inner) ++ 41 ∷ [])
+  pub has_groups : SpellsRepeat front groups
+  pub group : SpellsGroup inner each width
+  pub counted : count ≡ groups * each
+  pub some : 0 < count
+  pub fits : count < 2 ^ 64
+
+-- the word is a format of whole numbers, so many on a line and in fields of so many bytes, one behind another from the
+-- first byte on
+abbrev pub SpellsFormat : List ℕ → ℕ → ℕ → Type 0
+SpellsFormat word per_line width = SpellsGroup word per_line width ⊎ AreGroups word per_line width
 
 -- the field has one word, the number of one of so many things, of which the first is 1
 abbrev pub SpellsField : List ℕ → ℕ → ℕ → Type 0

@@ -1,8 +1,8 @@
 -- The line of the size, and the lines of the entries.
-use Rattle.std.specs.Prelude.{◌≡◌, ◌<◌, ◌+◌, ℕ, pos, true, List, [], ◌∷◌, ◌++◌, length}
+use Rattle.std.specs.Prelude.{◌≡◌, ◌<◌, ◌+◌, ◌||◌, ℕ, Bool, pos, true, List, [], ◌∷◌, ◌++◌, length}
 use Rattle.std.specs.List.{list_all}
 use Rattle.std.specs.Float.Parse.{is_float_text}
-use Rattle.amd_lines.specs.Words.{words, SpellsNumber}
+use Rattle.amd_lines.specs.Words.{words, SpellsNumber, is_double_text}
 use Rattle.amd_market.specs.Headers.{value_words}
 use Rattle.amd_market.specs.declared.headers.Field.{Field}
 
@@ -20,10 +20,14 @@ pub record SpellsSize (line : List ℕ) (rows columns entries : ℕ) : Type 0 wh
 abbrev pub SpellsIndex : List ℕ → ℕ → ℕ → Type 0
 SpellsIndex word n i = (i < n) × SpellsNumber word (pos (i + 1))
 
+-- the word is a number: one that `parse` takes, or one with a 'D' before its exponent, as Fortran writes a double
+abbrev pub is_value : List ℕ → Bool
+is_value w = is_float_text w || is_double_text w
+
 -- the words are so many numbers
 pub record AreValues (count : ℕ) (ws : List (List ℕ)) : Type 0 where
   pub counted : length ws ≡ count
-  pub numbers : list_all is_float_text ws ≡ true
+  pub numbers : list_all is_value ws ≡ true
 
 -- the line is an entry of a matrix with n rows and columns: the numbers of its row and its column, and the numbers of a
 -- value of its field

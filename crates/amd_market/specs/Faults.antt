@@ -1,8 +1,9 @@
 -- Which fault a line has.
-use Rattle.std.specs.Prelude.{◌≡◌, ◌≢◌, ◌<◌, ℕ, ℤ, true, List, [], ◌∷◌, Option, None}
+use Rattle.std.specs.Prelude.{◌≡◌, ◌≢◌, ◌<◌, ℕ, ℤ, true, false, List, [], ◌∷◌, Option, None}
 use Rattle.std.specs.Prelude.{length, take, map, codes, slice_index}
 use Rattle.std.specs.Char.{to_ascii_lowercase}
-use Rattle.amd_lines.specs.Words.{words, BeginsWithByte, SpellsNumber}
+use Rattle.amd_lines.specs.Words.{words, SpellsNumber}
+use Rattle.amd_lines.specs.Lines.{is_note, percent}
 use Rattle.amd_market.specs.Headers.{value_words, SpellsHeader, lowered, without_mark, format_text, field_text, is_void}
 use Rattle.amd_market.specs.Entries.{SpellsSize, SpellsIndex, AreValues}
 use Rattle.amd_market.specs.Boeing.{SpellsType, SpellsKind, SpellsLayout, SpellsField, SpellsFields, behind_fields}
@@ -59,10 +60,16 @@ pub data HasEntryFault (field : Field) (n : ℕ) (f : ReadFault) (line : List �
       SpellsIndex first n i → SpellsIndex second n j → (AreValues (value_words field) behind → ⊥) →
       HasValueFault f (value_words field) behind → HasEntryFault field n f line
 
+-- the same where each value has a line: they are not so many words, or one of them is no number
+abbrev pub HasCountFault : ReadFault → ℕ → List (List ℕ) → Type 0
+HasCountFault fault.Cell count ws = length ws ≢ count
+HasCountFault fault.Value count ws = length ws ≡ count
+HasCountFault f count ws = ⊥
+
 -- the fault of a line where a value of an array must stand: its words are no value
 abbrev pub HasCellFault : Field → ReadFault → List ℕ → Type 0
 HasCellFault field f line = (AreValues (value_words field) (words line) → ⊥) ×
-    HasValueFault f (value_words field) (words line)
+    HasCountFault f (value_words field) (words line)
 
 -- a word, but for the case of its letters
 abbrev pub low : List ℕ → List ℕ
@@ -84,10 +91,10 @@ HasBannerFault fault.Gzip line = IsGzip line
 HasBannerFault fault.Banner line = IsGzip line → ⊥
 HasBannerFault f line = ⊥
 
--- a first line that lacks the banner, in a file of no kind: its first word begins as a comment does, or not
+-- a first line that lacks the banner, in a file of no kind: it is blank or a comment, or not
 abbrev pub HasUnknownFault : ReadFault → List ℕ → Type 0
-HasUnknownFault fault.Comment line = BeginsWithByte 37 (words line)
-HasUnknownFault fault.Banner line = BeginsWithByte 37 (words line) → ⊥
+HasUnknownFault fault.Comment line = is_note percent (words line) ≡ true
+HasUnknownFault fault.Banner line = is_note percent (words line) ≡ false
 HasUnknownFault f line = ⊥
 
 -- the words of a first line, but for the case of their letters, and the two that it must begin with

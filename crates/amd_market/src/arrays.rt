@@ -7,11 +7,12 @@ ghost use Rattle.amd_lines.specs.Words.{words};
 ghost use Rattle.amd_market.specs.Entries.{AreValues};
 ghost use Rattle.amd_market.specs.Arrays.{is_zero_byte, is_zero, SpellsShape, SpellsValue};
 ghost use Rattle.amd_market.specs.Arrays.{HasShapeFault};
-ghost use Rattle.amd_market.specs.Faults.{HasCellFault};
+ghost use Rattle.amd_market.specs.Faults.{HasCountFault, HasCellFault};
 
 use crate::entries::{count_of, has_values, value_fault};
 use crate::faults::ReadFault;
 use crate::headers::Field;
+use amd_lines::values::exponent_mark;
 use amd_lines::words::first_word;
 
 /// The words of a line that has two.
@@ -62,7 +63,7 @@ fn is_zero(word: &[u8]) -> bool
     ensures { result ≡ is_zero word.now }
 {
     word.iter()
-        .take_while(|b| **b != b'e' && **b != b'E')
+        .take_while(|b| exponent_mark(**b) != b'e' && **b != b'E')
         .all(|b| is_zero_byte(*b))
 }
 
@@ -80,6 +81,16 @@ fn are_zeros(text: &[u8]) -> bool
     true
 }
 
+/// What is wrong with a line that is not so many numbers.
+fn cell_fault(line: &[u8], count: usize) -> ReadFault
+    ensures { HasCountFault result count (words line.now) }
+{
+    match value_fault(line, count) {
+        ReadFault::Value => ReadFault::Value,
+        _ => ReadFault::Cell,
+    }
+}
+
 /// Whether the value that a line spells is another one than zero, or what is wrong with the line.
 pub fn value_of(line: &[u8], field: Field) -> Result<bool, ReadFault>
     ensures value { MatchResult result (SpellsValue field line.now)
@@ -89,6 +100,6 @@ pub fn value_of(line: &[u8], field: Field) -> Result<bool, ReadFault>
     if has_values(line, field.words()) {
         Ok(!are_zeros(line))
     } else {
-        Err(value_fault(line, field.words()))
+        Err(cell_fault(line, field.words()))
     }
 }

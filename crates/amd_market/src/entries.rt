@@ -2,14 +2,14 @@
 
 ghost use Rattle.std.specs.Prelude.{◌≡◌, ◌≢◌, ◌+◌, ◌∷◌, [], ℕ, take, List, pos, IsTrue, ◌↔◌};
 ghost use Rattle.std.specs.Prelude.{IfErr, IfSome, MatchOption, MatchResult};
-ghost use Rattle.std.specs.Float.Parse.{is_float_text};
 ghost use Rattle.amd_lines.specs.Words.{words, SpellsNumber, StaysInLine, EndsAt};
 ghost use Rattle.amd_market.specs.Entries.{SpellsSize, SpellsIndex, SpellsEntry, AreValues, BeginsEntry, BeginsValues};
+ghost use Rattle.amd_market.specs.Entries.{is_value};
 ghost use Rattle.amd_market.specs.Faults.{HasSizeFault, HasRowFault, HasColumnFault, HasValueFault, HasEntryFault};
 
 use crate::faults::ReadFault;
 use crate::headers::Field;
-use amd_lines::values::behind_float;
+use amd_lines::values::{behind_float, is_double};
 use amd_lines::words::{bare_end, first_number, first_word, number_of};
 
 /// How large a matrix is.
@@ -40,9 +40,9 @@ pub fn index_of(word: &[u8], n: usize) -> Option<usize>
 
 /// Whether a word is a number.
 fn is_number(word: &[u8]) -> bool
-    ensures { result ≡ is_float_text word.now }
+    ensures { result ≡ is_value word.now }
 {
-    fast_float::parse::<f64, &[u8]>(word).is_ok()
+    fast_float::parse::<f64, &[u8]>(word).is_ok() || is_double(word)
 }
 
 /// Whether a text is so many numbers.

@@ -19,7 +19,7 @@ pub enum ReadFault {
     Gzip,
     /// The first line does not begin with `%%MatrixMarket`, and the second one is not that of a Harwell-Boeing file.
     Banner,
-    /// The first line is a comment, and the second one is not that of a Harwell-Boeing file.
+    /// The first line is a comment or blank, and the second one is not that of a Harwell-Boeing file.
     Comment,
     /// The second word of the first line is not `matrix`.
     Object,
@@ -64,6 +64,8 @@ pub enum ReadFault {
     Words,
     /// The value of an entry is no number.
     Value,
+    /// The line of a value of an array has fewer or more words than a value.
+    Cell,
     /// The line of a list of rows is no number of a row alone.
     Held,
     /// The input ends before the last entry.
@@ -119,13 +121,13 @@ impl ReadFault {
     fn header_text(self) -> Option<&'static str> {
         match self {
             ReadFault::Empty => Some("the file is empty"),
-            ReadFault::Gzip => Some("the file is compressed: use zcat FILE | rimopaku order -"),
+            ReadFault::Gzip => Some("the file is compressed"),
             ReadFault::Banner => Some(
                 "this is neither a Matrix Market file, which begins with %%MatrixMarket, nor a Harwell-Boeing file",
             ),
-            ReadFault::Comment => {
-                Some("a comment stands before the first line, which must begin with %%MatrixMarket")
-            }
+            ReadFault::Comment => Some(
+                "the first line must begin with %%MatrixMarket: put comments and blank lines behind it",
+            ),
             ReadFault::Object => Some("the second word of the first line is not matrix"),
             ReadFault::Format => Some(
                 "the third word of the first line is not coordinate or array",
@@ -154,7 +156,7 @@ impl ReadFault {
                 Some("the matrix is not assembled (its type ends in E): assemble it first")
             }
             ReadFault::Layout => Some(
-                "in a Harwell-Boeing file here must stand the formats of pointers and rows, such as (16I5)",
+                "in a Harwell-Boeing file here must stand the formats of pointers and rows, such as (16I5) or (4(4I5))",
             ),
             ReadFault::Number => Some(
                 "here must stand numbers, as the formats of the fourth line tell",
@@ -184,6 +186,9 @@ impl ReadFault {
                 "more words than the header tells of: a pattern has no values, and a comment a line of its own"
             }
             ReadFault::Value => "the value is no number",
+            ReadFault::Cell => {
+                "an array has a line for each value, column by column: write one number there, of complex two"
+            }
             ReadFault::Held => "here must stand the number of a row, alone",
             ReadFault::Missing { .. } => "the file ends too early",
             ReadFault::More { .. } => "more entries than the size tells",

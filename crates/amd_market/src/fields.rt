@@ -2,12 +2,13 @@
 // `cards` and `boeing`. Source: the Harwell-Boeing and Rutherford-Boeing exchange formats.
 
 ghost use Rattle.std.specs.Prelude.{◌≡◌, ◌≢◌, ◌++◌, ◌∷◌, ◌⊎◌, [], ℕ, List, false, length, All};
-ghost use Rattle.std.specs.Prelude.{IfErr, OnOk, MatchOption};
+ghost use Rattle.std.specs.Prelude.{IfErr, OnOk, MatchOption, slice_index};
 ghost use Rattle.amd_market.specs.Faults.{HasFieldFault, HasFieldsFault};
 ghost use Rattle.amd_market.specs.declared.faults.ReadFault.TheVariants as fault;
 ghost use Rattle.std.specs.Char.{to_ascii_lowercase};
 ghost use Rattle.std.specs.List.{position};
-ghost use Rattle.amd_market.specs.Boeing.{is_whole_letter, SpellsRepeat, SpellsFormat, SpellsField, SpellsFields};
+ghost use Rattle.amd_market.specs.Boeing.{is_whole_letter, is_point, is_bracket, SpellsRepeat, SpellsWidth, SpellsGroup};
+ghost use Rattle.amd_market.specs.Boeing.{AreGroups, SpellsFormat, SpellsField, SpellsFields};
 
 use crate::entries::{count_of, index_of};
 use crate::faults::ReadFault;
@@ -57,18 +58,89 @@ fn repeat_of(front: &[u8]) -> Option<usize>
     }
 }
 
+/// Where the first point of a text stands.
+fn point_place(text: &[u8]) -> Option<usize>
+    ensures { result ≡ position is_point text.now }
+{
+    text.iter().position(|b| *b == b'.')
+}
+
+/// What stands before and behind the first point of a text.
+fn around_point(text: &[u8]) -> Option<(&[u8], &[u8])>
+    ensures { MatchOption result (All (λ b. is_point b ≡ false) text.now)
+        (λ p. (text.now ≡ p.0.now ++ 46 ∷ p.1.now) × All (λ b. is_point b ≡ false) p.0.now) }
+{
+    let place = point_place(text)?;
+    Some((&text[..place], &text[place + 1..]))
+}
+
+/// How many bytes a field has, as the back of a format says. The number of digits behind a point is that of output.
+fn width_of(back: &[u8]) -> Option<usize>
+    ensures { MatchOption result ((w : ℕ) → SpellsWidth back.now w → ⊥) (SpellsWidth back.now) }
+{
+    let Some((front, digits)) = around_point(back) else {
+        return count_of(back);
+    };
+    count_of(digits)?;
+    count_of(front)
+}
+
+/// The fields of which a word is the format, where it has one group.
+fn group_of(word: &[u8]) -> Option<Fields>
+    ensures { MatchOption result ((k w : ℕ) → SpellsGroup word.now k w → ⊥)
+        (λ f. SpellsGroup word.now f.per_line f.width) }
+{
+    let (front, back) = around_letter(bracketed(word)?)?;
+    let per_line = repeat_of(front)?;
+    let width = width_of(back)?;
+    if per_line == 0 || width == 0 {
+        return None;
+    }
+    Some(Fields { per_line, width })
+}
+
+/// Where the first bracket of a text stands that opens.
+fn bracket_place(text: &[u8]) -> Option<usize>
+    ensures { result ≡ position is_bracket text.now }
+{
+    text.iter().position(|b| *b == b'(')
+}
+
+/// What stands before the first bracket of a text, and the text from there on.
+fn at_bracket(text: &[u8]) -> Option<(&[u8], &[u8])>
+    ensures { MatchOption result (All (λ b. is_bracket b ≡ false) text.now)
+        (λ p. (text.now ≡ p.0.now ++ p.1.now) × (slice_index p.1.now 0 ≡ 40) × All (λ b. is_bracket b ≡ false) p.0.now) }
+{
+    let place = bracket_place(text)?;
+    Some(text.split_at(place))
+}
+
+/// The fields of which a word is the format, where it has groups in brackets of their own.
+fn groups_of(word: &[u8]) -> Option<Fields>
+    ensures { MatchOption result ((k w : ℕ) → AreGroups word.now k w → ⊥) (λ f. AreGroups word.now f.per_line f.width) }
+{
+    let (front, inner) = at_bracket(bracketed(word)?)?;
+    let groups = repeat_of(front)?;
+    let group = group_of(inner)?;
+    let per_line = groups.checked_mul(group.per_line)?;
+    if per_line == 0 {
+        return None;
+    }
+    Some(Fields {
+        per_line,
+        width: group.width,
+    })
+}
+
 /// The fields of which a word is the format.
 pub(crate) fn fields_of(word: &[u8]) -> Option<Fields>
     ensures { MatchOption result ((k w : ℕ) → SpellsFormat word.now k w → ⊥)
         (λ f. SpellsFormat word.now f.per_line f.width) }
 {
-    let (front, back) = around_letter(bracketed(word)?)?;
-    let per_line = repeat_of(front)?;
-    let width = count_of(back)?;
-    if per_line == 0 || width == 0 {
-        return None;
+    match group_of(word) {
+        Some(fields) => Some(fields),
+        None => groups_of(word),
     }
-    Some(Fields { per_line, width })
 }
 
 /// What the numbers of a list are.

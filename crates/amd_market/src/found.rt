@@ -69,6 +69,7 @@ pub(crate) fn found_in(line: &[u8], fault: ReadFault) -> Option<Found> {
         | ReadFault::NoValue
         | ReadFault::Words
         | ReadFault::Value
+        | ReadFault::Cell
         | ReadFault::Held
         | ReadFault::More { .. }
         | ReadFault::MorePlaces

@@ -247,7 +247,7 @@ pub(crate) fn unknown_fault(line: &[u8]) -> ReadFault
     ensures { HasUnknownFault result line.now }
 {
     match first_letter(line) {
-        Some(b'%') => ReadFault::Comment,
+        None | Some(b'%') => ReadFault::Comment,
         _ => ReadFault::Banner,
     }
 }

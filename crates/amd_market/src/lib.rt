@@ -16,11 +16,11 @@
 //! `general`, `symmetric`, `skew-symmetric` or `hermitian`. The words of the first line are in letters of any case, and
 //! a byte-order mark may stand before them. The words of a line are parted by white space. Numbers of rows, columns and
 //! entries are those that `parse::<i64>` takes: a sign or none, and decimal digits. A value is one number that
-//! `parse::<f64>` takes, two for `complex`, none for `pattern`. In a symmetric, a skew-symmetric or a hermitian matrix
-//! each entry off the diagonal stands for its mirror image too; it may stand on either side of the diagonal, but an
-//! array lists the lower triangle alone, a skew-symmetric one without the diagonal. Lines without a word, and lines
-//! whose first word begins with `%`, may stand anywhere behind the first line. Entries may come in any order, and more
-//! than once.
+//! `parse::<f64>` takes, two for `complex`, none for `pattern`; before its exponent may stand the `D` of Fortran. In a
+//! symmetric, a skew-symmetric or a hermitian matrix each entry off the diagonal stands for its mirror image too; it
+//! may stand on either side of the diagonal, but an array lists the lower triangle alone, a skew-symmetric one without
+//! the diagonal. Lines without a word, and lines whose first word begins with `%`, may stand anywhere behind the first
+//! line. Entries may come in any order, and more than once.
 //!
 //! Or it is a Harwell-Boeing or a Rutherford-Boeing file, which a second line with four or five numbers tells:
 //!
@@ -34,7 +34,8 @@
 //!
 //! The type is three letters in any case: `R`, `C`, `I`, `P` or `Q`; `U`, `R`, `S`, `Z` or `H`; and `A`. The last three
 //! of the second letters say that each entry off the diagonal stands for its mirror image too. A format is `(kIw)` or
-//! `(Iw)`: `k` numbers on a line, or one, in fields of `w` bytes. What stands behind the rows is not read.
+//! `(Iw)`: `k` numbers on a line, or one, in fields of `w` bytes. A point and a number may follow the width, and a
+//! format `(g(kIw))` has `g` such groups on a line. What stands behind the rows is not read.
 //!
 //! Refused are: another first line; a size of other than three numbers, of an array two, and one that is not square; an
 //! entry whose row or column is no number from 1 to the number of rows, whose value is no number, or with more or fewer

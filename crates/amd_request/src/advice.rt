@@ -3,14 +3,21 @@
 
 use crate::causes::Cause;
 use crate::inputs::Complaint;
+use crate::places::STANDARD;
 use amd_market::faults::{ReadError, ReadFault};
 use thiserror::Error;
 
 /// What leads on.
 #[derive(Clone, Copy, Debug, Drop, Error)]
 pub enum Advice<'a> {
+    /// A compressed file is the matrix.
+    #[error("rimopaku: to read it type: zcat {path} | rimopaku order -")]
+    Compressed {
+        /// Its path.
+        path: &'a str,
+    },
     /// A compressed archive has the matrix.
-    #[error("rimopaku: of an archive type: tar -xOzf {path} {name}/{name}.mtx | rimopaku order -")]
+    #[error("rimopaku: to read its matrix type: tar -xOzf {path} {name}/{name}.mtx | rimopaku order -")]
     Archive {
         /// Its path.
         path: &'a str,
@@ -28,6 +35,16 @@ pub enum Advice<'a> {
     Compare,
 }
 
+/// The line to type for a compressed file.
+fn unpacked<'a>(path: &'a str) -> Advice<'a> {
+    if let Some(advice) = archive_at(path) {
+        return advice;
+    }
+    Advice::Compressed {
+        path: if path == STANDARD { "FILE" } else { path },
+    }
+}
+
 /// The archive that a path names by its ending, if it names one.
 fn archive_at<'a>(path: &'a str) -> Option<Advice<'a>> {
     let stem = match path.strip_suffix(".tar.gz") {
@@ -42,7 +59,7 @@ fn archive_at<'a>(path: &'a str) -> Option<Advice<'a>> {
 pub fn advice_on<'a>(complaint: &Complaint<'a>) -> Option<Advice<'a>> {
     match &complaint.cause {
         Cause::Text(ReadError::Line { fault, .. }) => match fault {
-            ReadFault::Gzip => archive_at(complaint.subject),
+            ReadFault::Gzip => Some(unpacked(complaint.subject)),
             ReadFault::NotSquare { .. } => Some(Advice::Square),
             _ => None,
         },

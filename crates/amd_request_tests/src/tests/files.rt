@@ -100,7 +100,7 @@ const NO_VALUE: &str =
     "the value is missing: write it, or pattern in the first line if no entry has one";
 
 /// A kind, what stands behind the header, and the line at fault, what is wrong with it, and what of it is shown.
-static FAULTS: [(&str, &str, u64, &str, &str); 20] = [
+static FAULTS: [(&str, &str, u64, &str, &str); 22] = [
     ("real", "", 1, SYMMETRY, ""),
     (
         "real general more",
@@ -177,6 +177,20 @@ static FAULTS: [(&str, &str, u64, &str, &str); 20] = [
         "the value is no number",
         ", found: 1 1 1 ??12345678901234567890123456789012...",
     ),
+    (
+        "real general",
+        "2 2 1\n1 1 1D\n",
+        3,
+        "the value is no number",
+        ", found: 1 1 1D",
+    ),
+    (
+        "real general",
+        "2 2 1\n1 1 infD\n",
+        3,
+        "the value is no number",
+        ", found: 1 1 infD",
+    ),
     ("pattern general", "2 2 1\n1 x\n", 3, ENTRY, ", found: 1 x"),
     ("pattern general", "2 2 1\n1\n", 3, ENTRY, ", found: 1"),
     (
@@ -204,11 +218,7 @@ fn files_at_fault(rt: HostRuntime) -> Result<(), Fail> {
     Ok(())
 }
 
-/// What is told of a file of no kind whose first line is blank.
-const UNKNOWN: &str =
-    "line 1: this is neither a Matrix Market file, which begins with %%MatrixMarket, nor a Harwell-Boeing file";
-
-/// The same where the first line is `title`.
+/// What is told of a file of no kind whose first line is `title`.
 const UNKNOWN_TITLE: &str =
     "line 1: this is neither a Matrix Market file, which begins with %%MatrixMarket, nor a Harwell-Boeing file\
     , found: title";
@@ -216,14 +226,11 @@ const UNKNOWN_TITLE: &str =
 /// Files whose first line is at fault, and what is told of them.
 static NO_HEADERS: [(&[u8], &str); 8] = [
     (b"", "the file is empty"),
-    (
-        b"\x1f\x8b\x08\x00",
-        "line 1: the file is compressed: use zcat FILE | rimopaku order -",
-    ),
+    (b"\x1f\x8b\x08\x00", "line 1: the file is compressed"),
     (b"title\n3 3 3\n", UNKNOWN_TITLE),
     (
         b"\n%%MatrixMarket matrix coordinate real general\n",
-        UNKNOWN,
+        "line 1: the first line must begin with %%MatrixMarket: put comments and blank lines behind it",
     ),
     (
         b"%%MatrixMarket vector coordinate real general\n",
@@ -231,7 +238,7 @@ static NO_HEADERS: [(&[u8], &str); 8] = [
     ),
     (
         b"% a note\n%%MatrixMarket matrix coordinate real general\n",
-        "line 1: a comment stands before the first line, which must begin with %%MatrixMarket, found: % a note",
+        "line 1: the first line must begin with %%MatrixMarket: put comments and blank lines behind it, found: % a note",
     ),
     (
         b"%%MatrixMarket matrix array pattern general\n",
@@ -260,12 +267,14 @@ fn files_without_a_header(rt: HostRuntime) -> Result<(), Fail> {
     Ok(())
 }
 
-/// First lines in letters of any case, behind a byte-order mark, and with line ends of two bytes.
-static HEADERS: [&str; 4] = [
+/// First lines in letters of any case, behind a byte-order mark, and with line ends of two bytes; and values with the
+/// exponents that Fortran writes.
+static HEADERS: [&str; 5] = [
     "%%MATRIXMARKET MATRIX COORDINATE REAL GENERAL\n2 2 2\n2 1 1\n1 2 -.5e-3\n",
     "%%MatrixMarket matrix coordinate Double Skew-Symmetric\n2 2 1\n2 1 1\n",
     "\u{feff}%%MatrixMarket matrix coordinate unsigned-integer general\r\n2 2 2\r\n2 1 1\r\n1 2 3\r\n",
     "%%MatrixMarket matrix coordinate complex Hermitian\n% note\n\n2 2 1\n\t2 1 nan inf",
+    "%%MatrixMarket matrix coordinate complex general\n2 2 2\n2 1 1.0D+03 -1d0\n1 2 .5D-3 1.d2\n",
 ];
 
 #[test]
@@ -278,8 +287,12 @@ fn headers_of_any_case(rt: HostRuntime) -> Result<(), Fail> {
 
 /// Arrays: those that are not zero of the values of all places, column by column. The last two are those that scipy's
 /// `mmwrite` made of `[[4, 0, 1], [0, 0, 0], [1, 0, 3]]` and of a skew-symmetric matrix.
-static ARRAYS: [(&str, &str); 7] = [
+static ARRAYS: [(&str, &str); 8] = [
     ("real general\n2 2\n1\n0\n-0.0e7\n2.5", "[0, 1, 2] [0, 1]"),
+    (
+        "double general\n2 2\n1.0D+00\n0.0D+07\n-0d1\n1d-1\n",
+        "[0, 1, 2] [0, 1]",
+    ),
     (
         "complex GENERAL\n2 2\n% a note\n0 0\n\n0 -1\n1e-400 0\n+0 .0\n",
         "[0, 1, 2] [1, 0]",
@@ -301,7 +314,7 @@ static ARRAYS: [(&str, &str); 7] = [
 ];
 
 /// Arrays at fault.
-static NO_ARRAYS: [(&str, &str); 7] = [
+static NO_ARRAYS: [(&str, &str); 8] = [
     (
         "real general\n",
         "line 1: here must stand the numbers of rows and columns of the array",
@@ -322,16 +335,21 @@ static NO_ARRAYS: [(&str, &str); 7] = [
         "real symmetric\n2 2\n1\n2\n3\n%\n4\n",
         "line 7: more values than the array has places, found: 4",
     ),
-    ("real general\n2 2\n1 2\n3 4\n", WORDS),
+    ("real general\n2 2\n1 2\n3 4\n", CELL),
+    (
+        "complex general\n1 1\n1\n",
+        "line 3: an array has a line for each value, column by column: write one number there, of complex two, \
+        found: 1",
+    ),
     (
         "real general\n2 2\none\n",
         "line 3: the value is no number, found: one",
     ),
 ];
 
-/// What is wrong with a line that has more words than it must have.
-const WORDS: &str =
-    "line 3: more words than the header tells of: a pattern has no values, and a comment a line of its own, found: 1 2";
+/// What is wrong with a line of an array that has two values.
+const CELL: &str =
+    "line 3: an array has a line for each value, column by column: write one number there, of complex two, found: 1 2";
 
 /// Asserts what is told of files that begin alike.
 fn check_rests(
@@ -356,7 +374,7 @@ fn arrays(rt: HostRuntime) -> Result<(), Fail> {
 
 /// Harwell-Boeing and Rutherford-Boeing files. scipy's `hb_write` wrote the first one, SuiteSparse's `RBwrite` the
 /// second; the others were worked by hand.
-static BOEINGS: [(&str, &str); 5] = [
+static BOEINGS: [(&str, &str); 6] = [
     (
         "Default title                                                           0       
              5             1             1             3
@@ -384,11 +402,16 @@ isa                        3             3             4             0
     // rows out of order, one of them twice, in fields of one byte without space between them; right-hand sides
     (
         "title\n4 1 2 0 1\npsa 3 3 4\n(4i1)(I1) none\nF 1 0\n1355\n321\n2\n",
-        "line 4: in a Harwell-Boeing file here must stand the formats of pointers and rows, such as (16I5)\
+        "line 4: in a Harwell-Boeing file here must stand the formats of pointers and rows, such as (16I5) or (4(4I5))\
         , found: (4i1)(I1) none",
     ),
     (
         "title\n4 1 2 0 1\npsa 3 3 4\n(4i1) (3I1) none\nF 1 0\n1355\n321\n2\n",
+        "[0, 2, 4, 5] [1, 2, 0, 1, 0]",
+    ),
+    // the same with groups in brackets of their own, and with a number of digits
+    (
+        "title\n4 1 2 0 1\npsa 3 3 4\n(2(2i1.1)) ((3I1)) none\nF 1 0\n1355\n321\n2\n",
         "[0, 2, 4, 5] [1, 2, 0, 1, 0]",
     ),
     (
@@ -398,7 +421,7 @@ isa                        3             3             4             0
 ];
 
 /// The lines behind the title of a Harwell-Boeing file at fault, and what is told of it.
-static NO_BOEINGS: [(&str, &str); 15] = [
+static NO_BOEINGS: [(&str, &str); 17] = [
     ("1 1 0 none\n", UNKNOWN_TITLE),
     ("1 1 0\n", UNKNOWN_TITLE),
     ("", UNKNOWN_TITLE),
@@ -423,8 +446,18 @@ static NO_BOEINGS: [(&str, &str); 15] = [
     ),
     (
         "2 1 1 0\nRUA 1 1 1\n(I4) (F8.2)\n",
-        "line 4: in a Harwell-Boeing file here must stand the formats of pointers and rows, such as (16I5)\
+        "line 4: in a Harwell-Boeing file here must stand the formats of pointers and rows, such as (16I5) or (4(4I5))\
         , found: (I4) (F8.2)",
+    ),
+    (
+        "2 1 1 0\nRUA 1 1 1\n(2(2(I4))) (I4.)\n",
+        "line 4: in a Harwell-Boeing file here must stand the formats of pointers and rows, such as (16I5) or (4(4I5))\
+        , found: (2(2(I4))) (I4.)",
+    ),
+    (
+        "2 1 1 0\nRUA 1 1 1\n(1X,2I4) (I4)\n",
+        "line 4: in a Harwell-Boeing file here must stand the formats of pointers and rows, such as (16I5) or (4(4I5))\
+        , found: (1X,2I4) (I4)",
     ),
     (
         "2 1 1 0\nRUA 1 1 1\n(2I4) (I4)\n   1   x\n",

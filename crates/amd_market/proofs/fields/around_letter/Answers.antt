@@ -15,9 +15,9 @@ returns c =
     let size = length-drop (place + 1) text in
     let all = take_all (length text - (place + 1)) (drop (place + 1) text) (omega (arith, size)) in
     let split = split-at text place 0 at.0 in
-    let before = position-before text place (sym c.letter_place.ensures ∙ c.in_ok-place.was) in
+    let before = position-before is_whole_letter text place (sym c.letter_place.ensures ∙ c.in_ok-place.was) in
     (get_or text place 0, (low-letter (get_or text place 0) at.1, ((rw all split), before)))
 
 pub returns-in_err-place : goal.returns-in_err-place
 returns-in_err-place c = rw c.from_residual.ensures
-    (position-none c.args.text.now (sym c.letter_place.ensures ∙ c.in_err-place.was))
+    (position-none is_whole_letter c.args.text.now (sym c.letter_place.ensures ∙ c.in_err-place.was))

@@ -1,40 +1,6 @@
--- A format has one number on a line and one width, and neither is 0.
-use Rattle.std.proofs.Common.{pos, sym, subst, arith}
-use Rattle.amd_lines.specs.Words.{SpellsNumber}
-use Rattle.amd_market.specs.Boeing.{SpellsRepeat}
-use Rattle.amd_market.proofs.CardLemmas.{format-parts, format-same, no-format-letter}
-use Rattle.amd_market.proofs.fields.fields_of.Goals.{then-per_line-eq0-via-then-per_line-eq0}
-use Rattle.amd_market.proofs.fields.fields_of.Goals.{then-per_line-eq0-via-else-per_line-eq0+then-width-eq0}
+-- A format has one group, or more of them.
+use Rattle.amd_market.proofs.CardLemmas.{format-option}
 use Rattle.amd_market.proofs.fields.fields_of.Goals as goal
 
-pub returns-in_err-front : goal.returns-in_err-front
-returns-in_err-front c = rw c.from_residual-in_err-front.ensures
-    (no-format-letter c.args.word.now _ c.in_ok-bracketed.ensures c.in_err-front.ensures)
-
-pub returns-in_err-per_line : goal.returns-in_err-per_line
-returns-in_err-per_line c =
-    let parts = c.in_ok-front.ensures in
-    rw c.from_residual-in_err-per_line.ensures (λ k w h.
-    let same = format-parts c.args.word.now _ _ _ parts.0 c.in_ok-bracketed.ensures parts.1.1.0 parts.1.0 parts.1.1.1 k w h in
-    c.in_err-per_line.ensures k (subst (λ z. SpellsRepeat z k) (sym same.0) h.repeated))
-
-pub returns-in_err-width : goal.returns-in_err-width
-returns-in_err-width c =
-    let parts = c.in_ok-front.ensures in
-    rw c.from_residual-in_err-width.ensures (λ k w h.
-    let same = format-parts c.args.word.now _ _ _ parts.0 c.in_ok-bracketed.ensures parts.1.1.0 parts.1.0 parts.1.1.1 k w h in
-    c.in_err-width.ensures w (subst (λ z. SpellsNumber z (pos w)) (sym same.1) h.wide))
-
-pub returns-then-per_line-eq0 : goal.returns-then-per_line-eq0
-returns-then-per_line-eq0 c k w h =
-    let parts = c.in_ok-front.ensures in
-    let same = format-parts c.args.word.now _ _ _ parts.0 c.in_ok-bracketed.ensures parts.1.1.0 parts.1.0 parts.1.1.1 k w h in
-    let is = format-same c.args.word.now _ _ _ _ k w c.in_ok-per_line.ensures c.in_ok-width.ensures h same in
-    let one = is.0 in
-    let two = is.1 in
-    let some = h.some in
-    let room = h.room in
-    elim c.then-per_line-eq0.branch [
-      | then-per_line-eq0-via-then-per_line-eq0 z ↦ let none = z.if-per_line-eq0.true in omega (arith, one, some, none)
-      | then-per_line-eq0-via-else-per_line-eq0+then-width-eq0 z ↦ let none = z.if-width-eq0.true in omega (arith, two, room, none)
-    ]
+pub returns-in-None : goal.returns-in-None
+returns-in-None c = format-option c.args.word.now c.groups_of.result c.in-None.ensures c.groups_of.ensures
