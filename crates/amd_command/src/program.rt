@@ -80,6 +80,7 @@ fn compare_orders<'a, R: Files + Input + Clock + Eprint + AllocGlobal>(
     };
     let (stands, ordered) = about(options.file, two_needs(rt.alloc(), matrix, p))?;
     Ok(Some(Comparison {
+        rows: info.n,
         edges: info.nz_a_plus_at / 2,
         stands,
         ordered,

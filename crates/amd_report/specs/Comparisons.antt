@@ -1,18 +1,26 @@
 -- The text of what the factor needs under several orders.
-use Rattle.std.specs.Prelude.{◌-◌, ℕ, Some, None, Option, List, ◌++◌, codes, decimal}
+use Rattle.std.specs.Prelude.{◌+◌, ◌-◌, ◌*◌, ◌^◌, ℕ, Some, None, Option, List, ◌++◌, codes, decimal, min}
 use Rattle.amd_texts.specs.Texts.{labelled}
 use Rattle.amd_report.specs.declared.compare.Needs.{Needs}
 use Rattle.amd_report.specs.declared.compare.Comparison.{Comparison}
 use Rattle.amd_report.specs.declared.compare.Figure.{Figure}
-use Rattle.amd_report.specs.declared.compare.Figure.TheVariants.{Entries, Fill, StepsLdl, StepsLu, LargestColumn}
+use Rattle.amd_report.specs.declared.compare.Figure.TheVariants.{Entries, Fill, StepsLdl, StepsLu}
+use Rattle.amd_report.specs.declared.compare.Figure.TheVariants.{FlopsLdl, LargestColumn, Bytes}
 
--- a figure of what a factor needs
-abbrev pub figure_of : Figure → ℕ → Needs → ℕ
-figure_of Entries edges need = need.lnz
-figure_of Fill edges need = need.lnz - edges
-figure_of StepsLdl edges need = need.n_mult_subs_ldl
-figure_of StepsLu edges need = need.n_mult_subs_lu
-figure_of LargestColumn edges need = need.d_max
+-- the greatest number of 128 bits
+abbrev pub greatest : ℕ
+greatest = 2 ^ 128 - 1
+
+-- a figure of what the factor needs of a matrix with so many rows and edges: the flops are a division for each entry and
+-- two for each multiply-subtract step, the bytes eight for each entry and each row
+abbrev pub figure_of : Figure → ℕ → ℕ → Needs → ℕ
+figure_of Entries rows edges need = need.lnz
+figure_of Fill rows edges need = need.lnz - edges
+figure_of StepsLdl rows edges need = need.n_mult_subs_ldl
+figure_of StepsLu rows edges need = need.n_mult_subs_lu
+figure_of FlopsLdl rows edges need = min (need.lnz + 2 * need.n_mult_subs_ldl) greatest
+figure_of LargestColumn rows edges need = need.d_max
+figure_of Bytes rows edges need = min (8 * (need.lnz + rows)) greatest
 
 -- a figure under two orders, and under three
 abbrev pub two_figures : ℕ → ℕ → List ℕ
@@ -24,14 +32,15 @@ three_figures stands ordered other =
     ++ codes " by --with"))))
 
 -- a figure under each order
-abbrev pub figures_under : Figure → ℕ → Needs → Needs → Option Needs → List ℕ
-figures_under f edges stands ordered None = two_figures (figure_of f edges stands) (figure_of f edges ordered)
-figures_under f edges stands ordered (Some other) =
-    three_figures (figure_of f edges stands) (figure_of f edges ordered) (figure_of f edges other)
+abbrev pub figures_under : Figure → ℕ → ℕ → Needs → Needs → Option Needs → List ℕ
+figures_under f rows edges stands ordered None =
+    two_figures (figure_of f rows edges stands) (figure_of f rows edges ordered)
+figures_under f rows edges stands ordered (Some other) =
+    three_figures (figure_of f rows edges stands) (figure_of f rows edges ordered) (figure_of f rows edges other)
 
 -- the line of a figure
 abbrev pub compared_line : List ℕ → Figure → Comparison → List ℕ
-compared_line label f c = labelled label (figures_under f c.edges c.stands c.ordered c.other)
+compared_line label f c = labelled label (figures_under f c.rows c.edges c.stands c.ordered c.other)
 
 -- the lines on the orders
 abbrev pub comparison_lines : Comparison → List ℕ
@@ -40,4 +49,6 @@ comparison_lines c =
     ++ compared_line (codes "fill") Fill c
     ++ compared_line (codes "multiply-subtracts for LDL'") StepsLdl c
     ++ compared_line (codes "multiply-subtracts for LU") StepsLu c
+    ++ compared_line (codes "flops for LDL'") FlopsLdl c
     ++ compared_line (codes "largest column, with its diagonal") LargestColumn c
+    ++ compared_line (codes "bytes of L in doubles, with its diagonal") Bytes c

@@ -30,5 +30,5 @@ column_items p parents sizes (suc k) =
 -- an ordering, what the factor needs, and its columns
 abbrev pub analysis_json : Info → ℕ → Needs → List ℕ → List (Option ℕ) → List ℕ → List ℕ
 analysis_json i d need p parents sizes =
-    matrix_members i d ++ bound_members i ++ need_members (codes "ordered") (i.nz_a_plus_at / 2) need
+    matrix_members i d ++ bound_members i ++ need_members (codes "ordered") i.n (i.nz_a_plus_at / 2) need
     ++ codes ",\"columns\":[" ++ column_items p parents sizes (length p) ++ codes "]}\n"

@@ -5,6 +5,8 @@ use Rattle.amd_types.specs.declared.amd.Info.{Info}
 use Rattle.amd_report.specs.declared.compare.Needs.{Needs}
 use Rattle.amd_report.specs.declared.compare.Comparison.{Comparison}
 use Rattle.amd_report.specs.declared.facts.Facts.{Facts}
+use Rattle.amd_report.specs.declared.compare.Figure.TheVariants.{FlopsLdl, Bytes}
+use Rattle.amd_report.specs.Comparisons.{figure_of}
 use Rattle.amd_report.specs.Degrees.{mean_degree}
 use Rattle.amd_report.specs.Descriptions.{hundredths}
 use Rattle.amd_report.specs.Texts.{status_phrase}
@@ -53,27 +55,29 @@ abbrev pub row_list : List ℕ → List ℕ
 row_list [] = codes "[]"
 row_list (row ∷ rows) = codes "[" ++ decimal (row + 1) ++ more_rows rows ++ codes "]"
 
--- what the factor needs under an order
-abbrev pub need_members : List ℕ → ℕ → Needs → List ℕ
-need_members name edges need =
+-- what the factor needs under an order, of a matrix with so many rows and edges
+abbrev pub need_members : List ℕ → ℕ → ℕ → Needs → List ℕ
+need_members name rows edges need =
     (codes ",\"" ++ (name ++ codes "\":")) ++ member (codes "{") (codes "entries_of_l") (decimal need.lnz)
     ++ member (codes ",") (codes "fill") (decimal (need.lnz - edges))
     ++ member (codes ",") (codes "divisions") (decimal need.lnz)
     ++ member (codes ",") (codes "multiply_subtracts_ldl") (decimal need.n_mult_subs_ldl)
     ++ member (codes ",") (codes "multiply_subtracts_lu") (decimal need.n_mult_subs_lu)
+    ++ member (codes ",") (codes "flops_ldl") (decimal (figure_of FlopsLdl rows edges need))
     ++ member (codes ",") (codes "largest_column") (decimal need.d_max)
+    ++ member (codes ",") (codes "bytes_of_l") (decimal (figure_of Bytes rows edges need))
     ++ codes "}"
 
 -- what it needs under the order of a file, where there is one
-abbrev pub other_members : ℕ → Option Needs → List ℕ
-other_members edges None = []
-other_members edges (Some need) = need_members (codes "with") edges need
+abbrev pub other_members : ℕ → ℕ → Option Needs → List ℕ
+other_members rows edges None = []
+other_members rows edges (Some need) = need_members (codes "with") rows edges need
 
 -- what it needs under each order
 abbrev pub comparison_members : Comparison → List ℕ
 comparison_members c =
-    need_members (codes "as_it_stands") c.edges c.stands ++ need_members (codes "ordered") c.edges c.ordered
-    ++ other_members c.edges c.other
+    need_members (codes "as_it_stands") c.rows c.edges c.stands ++ need_members (codes "ordered") c.rows c.edges c.ordered
+    ++ other_members c.rows c.edges c.other
 
 -- and so where it is known
 abbrev pub known_members : Option Comparison → List ℕ

@@ -27,6 +27,8 @@ pub struct Needs {
 /// What the factor needs under each order.
 #[derive(Clone, Copy)]
 pub struct Comparison {
+    /// The rows of the matrix.
+    pub rows: usize,
     /// The edges of the matrix, which are entries under every order.
     pub edges: usize,
     /// As the rows stand in the file.
@@ -48,20 +50,30 @@ pub enum Figure {
     StepsLdl,
     /// Those of a factorization `LU`.
     StepsLu,
+    /// The floating-point operations of a factorization `LDL'` of real numbers: a division for each entry, and two
+    /// operations for each multiply-subtract step.
+    FlopsLdl,
     /// The entries of the largest column, with its diagonal.
     LargestColumn,
+    /// The bytes of the entries, with those on the diagonal, as doubles of eight bytes.
+    Bytes,
 }
 
-/// A figure of what a factor needs.
-pub fn figure_of(figure: Figure, edges: usize, need: &Needs) -> u128
-    ensures { result ≡ figure_of figure edges need.now }
+/// A figure of what the factor of a matrix needs that has so many rows and edges, cut at the greatest `u128`.
+pub fn figure_of(figure: Figure, rows: usize, edges: usize, need: &Needs) -> u128
+    ensures { result ≡ figure_of figure rows edges need.now }
 {
     match figure {
         Figure::Entries => need.lnz,
         Figure::Fill => need.lnz.saturating_sub(edges as u128),
         Figure::StepsLdl => need.n_mult_subs_ldl,
         Figure::StepsLu => need.n_mult_subs_lu,
+        Figure::FlopsLdl => need
+            .n_mult_subs_ldl
+            .saturating_mul(2)
+            .saturating_add(need.lnz),
         Figure::LargestColumn => need.d_max,
+        Figure::Bytes => need.lnz.saturating_add(rows as u128).saturating_mul(8),
     }
 }
 
@@ -108,11 +120,11 @@ fn write_compared<W: Write>(
     ensures { OnOk result (Appends (W.contents out.old) (W.contents out.new)
         (compared_line label.now figure compared)) }
 {
-    let stands = figure_of(figure, compared.edges, &compared.stands);
-    let ordered = figure_of(figure, compared.edges, &compared.ordered);
+    let stands = figure_of(figure, compared.rows, compared.edges, &compared.stands);
+    let ordered = figure_of(figure, compared.rows, compared.edges, &compared.ordered);
     match compared.other {
         Some(need) => {
-            let other = figure_of(figure, compared.edges, &need);
+            let other = figure_of(figure, compared.rows, compared.edges, &need);
             write_three(label, stands, ordered, other, out)
         }
         None => write_two(label, stands, ordered, out),
@@ -141,9 +153,16 @@ pub fn write_comparison_lines<W: Write>(compared: Comparison, out: &mut W) -> io
         out,
     )?;
     write_compared("multiply-subtracts for LU", Figure::StepsLu, compared, out)?;
+    write_compared("flops for LDL'", Figure::FlopsLdl, compared, out)?;
     write_compared(
         "largest column, with its diagonal",
         Figure::LargestColumn,
+        compared,
+        out,
+    )?;
+    write_compared(
+        "bytes of L in doubles, with its diagonal",
+        Figure::Bytes,
         compared,
         out,
     )?;

@@ -91,7 +91,7 @@ pub fn write_analysis_json<W: Write>(
 {
     write_matrix_members(info, duplicates, out)?;
     write_bounds(info, out)?;
-    write_need("ordered", info.nz_a_plus_at / 2, need, out)?;
+    write_need("ordered", info.n, info.nz_a_plus_at / 2, need, out)?;
     out.write_all(b",\"columns\":[")?;
     write_items(p, parents, sizes, out)?;
     out.write_all(b"]}\n")?;

@@ -98,27 +98,43 @@ fn write_row_list<W: Write>(rows: &[usize], out: &mut W) -> io::Result<()>
 }
 
 /// Writes what the factor needs under an order, behind a name.
-pub fn write_need<W: Write>(name: &str, edges: usize, need: &Needs, out: &mut W) -> io::Result<()>
-    ensures { OnOk result (Appends (W.contents out.old) (W.contents out.new) (need_members name.now edges need.now)) }
+pub fn write_need<W: Write>(
+    name: &str,
+    rows: usize,
+    edges: usize,
+    need: &Needs,
+    out: &mut W,
+) -> io::Result<()>
+    ensures { OnOk result (Appends (W.contents out.old) (W.contents out.new)
+        (need_members name.now rows edges need.now)) }
 {
-    let fill = figure_of(Figure::Fill, edges, need);
+    let fill = figure_of(Figure::Fill, rows, edges, need);
+    let flops = figure_of(Figure::FlopsLdl, rows, edges, need);
+    let bytes = figure_of(Figure::Bytes, rows, edges, need);
     write!(out, ",\"{name}\":")?;
     write_member("{", "entries_of_l", &need.lnz, out)?;
     write_member(",", "fill", &fill, out)?;
     write_member(",", "divisions", &need.lnz, out)?;
     write_member(",", "multiply_subtracts_ldl", &need.n_mult_subs_ldl, out)?;
     write_member(",", "multiply_subtracts_lu", &need.n_mult_subs_lu, out)?;
+    write_member(",", "flops_ldl", &flops, out)?;
     write_member(",", "largest_column", &need.d_max, out)?;
+    write_member(",", "bytes_of_l", &bytes, out)?;
     out.write_all(b"}")?;
     Ok(())
 }
 
 /// Writes what the factor needs under the order of a file, where there is one.
-fn write_other_need<W: Write>(edges: usize, other: Option<Needs>, out: &mut W) -> io::Result<()>
-    ensures { OnOk result (Appends (W.contents out.old) (W.contents out.new) (other_members edges other)) }
+fn write_other_need<W: Write>(
+    rows: usize,
+    edges: usize,
+    other: Option<Needs>,
+    out: &mut W,
+) -> io::Result<()>
+    ensures { OnOk result (Appends (W.contents out.old) (W.contents out.new) (other_members rows edges other)) }
 {
     match other {
-        Some(need) => write_need("with", edges, &need, out),
+        Some(need) => write_need("with", rows, edges, &need, out),
         None => Ok(()),
     }
 }
@@ -127,9 +143,10 @@ fn write_other_need<W: Write>(edges: usize, other: Option<Needs>, out: &mut W) -
 fn write_needs<W: Write>(compared: Comparison, out: &mut W) -> io::Result<()>
     ensures { OnOk result (Appends (W.contents out.old) (W.contents out.new) (comparison_members compared)) }
 {
-    write_need("as_it_stands", compared.edges, &compared.stands, out)?;
-    write_need("ordered", compared.edges, &compared.ordered, out)?;
-    write_other_need(compared.edges, compared.other, out)?;
+    let (rows, edges) = (compared.rows, compared.edges);
+    write_need("as_it_stands", rows, edges, &compared.stands, out)?;
+    write_need("ordered", rows, edges, &compared.ordered, out)?;
+    write_other_need(rows, edges, compared.other, out)?;
     Ok(())
 }
 

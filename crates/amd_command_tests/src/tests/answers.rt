@@ -31,7 +31,9 @@ const NEEDS: &str =
     fill                                                0 as it stands, 0 ordered, 1 by --with
     multiply-subtracts for LDL'                         2 as it stands, 2 ordered, 4 by --with
     multiply-subtracts for LU                           2 as it stands, 2 ordered, 5 by --with
+    flops for LDL'                                      6 as it stands, 6 ordered, 11 by --with
     largest column, with its diagonal                   2 as it stands, 2 ordered, 3 by --with
+    bytes of L in doubles, with its diagonal            40 as it stands, 40 ordered, 48 by --with
 ";
 
 /// The path in its order.
@@ -81,6 +83,7 @@ fn supernodes_of_the_path(rt: HostRuntime) -> Result<(), Fail> {
 fn three_needs(alloc: Global, matrix: &Matrix<Global>) -> Result<Comparison, Fault> {
     let standing = standing_order(alloc, 3)?;
     Ok(Comparison {
+        rows: 3,
         edges: 2,
         stands: told(&need_under(alloc, matrix, &standing)?),
         ordered: told(&need_under(alloc, matrix, &ORDER)?),
@@ -140,21 +143,23 @@ fn number_at(alloc: Global, text: &[u8], path: &str) -> Result<Option<u64>, Fail
 }
 
 /// Numbers in the answer of `order`, each under a path of names.
-static ORDER_NUMBERS: [(&str, u64); 7] = [
+static ORDER_NUMBERS: [(&str, u64); 8] = [
     ("/rows", 3),
     ("/duplicates_dropped", 4),
     ("/at_most/largest_column", 2),
     ("/as_it_stands/entries_of_l", 2),
     ("/with/multiply_subtracts_lu", 5),
+    ("/with/flops_ldl", 11),
     ("/permutation/0", 2),
     ("/permutation/2", 3),
 ];
 
 /// Numbers in the answer of `info`.
-static FACT_NUMBERS: [(&str, u64); 3] = [
+static FACT_NUMBERS: [(&str, u64); 4] = [
     ("/entries_on_the_diagonal", 1),
     ("/greatest_degree", 2),
     ("/with/fill", 1),
+    ("/with/bytes_of_l", 48),
 ];
 
 /// Asserts that these numbers stand in a text of JSON.

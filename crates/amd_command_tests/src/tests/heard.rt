@@ -112,7 +112,9 @@ const COMPARED: &str = "
     fill                                                43 as it stands, 9 ordered, 75 by --with
     multiply-subtracts for LDL'                         308 as it stands, 113 ordered, 562 by --with
     multiply-subtracts for LU                           527 as it stands, 171 ordered, 1003 by --with
+    flops for LDL'                                      705 as it stands, 281 ordered, 1245 by --with
     largest column, with its diagonal                   10 as it stands, 5 ordered, 14 by --with
+    bytes of L in doubles, with its diagonal            872 as it stands, 600 ordered, 1128 by --with
 ";
 
 /// The place of each row in the first of the orders.
