@@ -10,8 +10,8 @@
  *
  * Arrays are passed as slices: an array of C, whatever has data() and size(), such as a std::array or a std::span, or a pointer and a
  * length. Results are written into the caller's arrays, and what the input is, or what is wrong with it, is returned. What rimopaku_bare.h
- * says of each call holds here too, but that a pointer may be NULL where the length is 0. Two calls on one workspace may not run at the
- * same time. The calls are proved, and this header is tested.
+ * says of each call holds here too, but that a pointer may be NULL where the length is 0. The integers are int32_t or int64_t, the same in
+ * all arrays of a call. Two calls on one workspace may not run at the same time. The calls are proved, and this header is tested.
  *
  * rimopaku.hpp has the calls with malloc, over vectors; a program may include both. */
 
@@ -104,11 +104,14 @@ private:
 };
 
 typedef Slice<const int32_t> Numbers32;
+typedef Slice<const int64_t> Numbers64;
 typedef Slice<int32_t> Places32;
+typedef Slice<int64_t> Places64;
 typedef Slice<const bool> Marks;
 
-/* How many bytes are enough for each matrix with at most so many rows and entries: for an ordering, for the counts, for the columns, and
- * for each of them. A Workspace takes 15 more where its bytes may begin at any address. */
+/* How many bytes are enough for each matrix with at most so many rows and entries, in either width: for an ordering, for the counts, for
+ * the columns, and for each of them. The first number is proved, as rimopaku_bare.h says, and the others are tested. A Workspace takes 15
+ * more where its bytes may begin at any address. */
 constexpr size_t order_bytes(size_t rows, size_t entries) noexcept
 {
     return RIMOPAKU_ORDER_BYTES_I32(rows, entries);
@@ -169,6 +172,34 @@ public:
     Status columns(int32_t n, Numbers32 a_p, Numbers32 a_i, Numbers32 p, Places32 ptr, Places32 rows, Places32 parent) noexcept
     {
         return Status(rimopaku_columns_within_i32(block(), n, a_p.data(), a_p.size(), a_i.data(), a_i.size(), p.data(), p.size(),
+                                                  ptr.data(), ptr.size(), rows.data(), rows.size(), parent.data(), parent.size()));
+    }
+
+    /* The same for int64_t. */
+    Status order(int64_t n, Numbers64 a_p, Numbers64 a_i, Places64 p, Places64 p_inv, rimopaku_statistics &statistics,
+                 const rimopaku_parameters &parameters = default_parameters()) noexcept
+    {
+        return Status(rimopaku_order_within_i64(block(), n, a_p.data(), a_p.size(), a_i.data(), a_i.size(), &parameters, p.data(), p.size(),
+                                                p_inv.data(), p_inv.size(), &statistics));
+    }
+
+    Status order_holding(int64_t n, Numbers64 a_p, Numbers64 a_i, Marks hold, Places64 p, Places64 p_inv, rimopaku_statistics &statistics,
+                         const rimopaku_parameters &parameters = default_parameters()) noexcept
+    {
+        return Status(rimopaku_order_holding_within_i64(block(), n, a_p.data(), a_p.size(), a_i.data(), a_i.size(), &parameters,
+                                                        hold.data(), hold.size(), p.data(), p.size(), p_inv.data(), p_inv.size(),
+                                                        &statistics));
+    }
+
+    Status counts(int64_t n, Numbers64 a_p, Numbers64 a_i, Numbers64 p, Places64 sizes, Places64 parent, rimopaku_needs &needs) noexcept
+    {
+        return Status(rimopaku_counts_within_i64(block(), n, a_p.data(), a_p.size(), a_i.data(), a_i.size(), p.data(), p.size(),
+                                                 sizes.data(), sizes.size(), parent.data(), parent.size(), &needs));
+    }
+
+    Status columns(int64_t n, Numbers64 a_p, Numbers64 a_i, Numbers64 p, Places64 ptr, Places64 rows, Places64 parent) noexcept
+    {
+        return Status(rimopaku_columns_within_i64(block(), n, a_p.data(), a_p.size(), a_i.data(), a_i.size(), p.data(), p.size(),
                                                   ptr.data(), ptr.size(), rows.data(), rows.size(), parent.data(), parent.size()));
     }
 

@@ -1,10 +1,11 @@
-//! Drawn matrices of changing sizes in one workspace: each answer of the package rimopaku-amd-bare is the one of the
-//! package rimopaku-amd, which takes its memory by malloc.
+//! Drawn matrices of changing sizes in one workspace: each answer of the package rimopaku-amd-bare, in both widths, is
+//! the one of the package rimopaku-amd, which takes its memory by malloc. An ordering takes as many bytes as are told,
+//! and not one less.
 //! Usage: drawn COUNT.
 
 use num_traits::{cast, PrimInt};
 use rimopaku_amd as malloc;
-use rimopaku_amd_bare::{workspace_bytes, Fault, Info, Parameters, Word, Workspace};
+use rimopaku_amd_bare::{order_bytes, workspace_bytes, Fault, Info, Parameters, Word, Workspace};
 use std::env;
 use std::fmt::Debug;
 
@@ -14,6 +15,7 @@ const MOST_ENTRIES: usize = 1500;
 /// The types of numbers.
 trait Number: Word + PrimInt + Debug {}
 impl Number for i32 {}
+impl Number for i64 {}
 
 fn numbers<T: Number>(from: &[usize]) -> Vec<T> {
     from.iter().map(|&number| cast(number).expect("a small number")).collect()
@@ -120,10 +122,27 @@ fn factors<T: Number>(workspace: &mut Workspace, case: &Case, p: &[T]) {
     assert_eq!((ptr, rows, up), (numbers(&factor.ptr), factor.rows, parents));
 }
 
+/// An ordering takes as many bytes as are told, and not one less.
+fn takes_what_is_told<T: Number>(memory: &mut [u8], case: &Case, is_aggressive: bool, order: &[T]) {
+    let (a_p, a_i) = (numbers::<T>(&case.a_p), numbers::<T>(&case.a_i));
+    let n: T = cast(case.n).expect("a small number");
+    let parameters = Parameters { aggressive: is_aggressive, ..Parameters::default() };
+    let (begin, bytes) = (memory.as_ptr().align_offset(16), order_bytes(case.n, case.a_i.len()));
+    let (mut p, mut p_inv) = (vec![n; case.n], vec![n; case.n]);
+    let mut few = Workspace::over(&mut memory[begin..begin + bytes - 1]);
+    let told = few.order(n, &a_p, &a_i, &parameters, &mut p, &mut p_inv);
+    assert_eq!(told.err(), if case.n == 0 { None } else { Some(Fault::OutOfMemory) });
+    assert!(p.iter().chain(&p_inv).all(|&place| place == n));
+    let mut enough = Workspace::over(&mut memory[begin..begin + bytes]);
+    enough.order(n, &a_p, &a_i, &parameters, &mut p, &mut p_inv).expect("an ordering");
+    assert_eq!(p, order);
+}
+
 fn main() {
     let count = env::args().nth(1).map_or(2000, |word| word.parse().expect("a number of matrices"));
     let mut memory = vec![0_u8; workspace_bytes(MOST_ROWS, MOST_ENTRIES) + 15];
     let mut workspace = Workspace::over(&mut memory);
+    let mut exact = vec![0_u8; order_bytes(MOST_ROWS, MOST_ENTRIES) + 15];
     let mut drawn = Draw(88172645463325252);
     let mut ordered = 0;
     for number in 0..count {
@@ -132,8 +151,13 @@ fn main() {
         let is_aggressive = drawn.below(2) == 0;
         if let Some(p) = orders::<i32>(&mut workspace, &case, is_aggressive) {
             factors(&mut workspace, &case, &p);
+            takes_what_is_told(&mut exact, &case, is_aggressive, &p);
             ordered += 1;
         }
+        if let Some(p) = orders::<i64>(&mut workspace, &case, is_aggressive) {
+            factors(&mut workspace, &case, &p);
+            takes_what_is_told(&mut exact, &case, is_aggressive, &p);
+        }
     }
-    println!("{count} matrices, {ordered} ordered and factored");
+    println!("{count} matrices, {ordered} ordered and factored in both widths");
 }

@@ -1,6 +1,6 @@
-// The header rimopaku_bare.hpp: worked matrices in a static workspace and in bytes elsewhere, arrays of C, pointers and what has data() and
-// size(), and each fault. No C library and no C++ library are needed: start.c stands in their place. The exit status is 0, or
-// the number of the line that found another result, cut to 255.
+// The header rimopaku_bare.hpp in both widths: worked matrices in a static workspace and in bytes elsewhere, arrays of C, pointers and what
+// has data() and size(), and each fault. No C library and no C++ library are needed: start.c stands in their place. The exit status is 0,
+// or the number of the line that found another result, cut to 255.
 #include "rimopaku_bare.hpp"
 
 namespace {
@@ -109,7 +109,7 @@ template <typename Integer, typename Lender> int faults(Lender &workspace)
     return 0;
 }
 
-// Bytes elsewhere that begin at any address, and none.
+// Bytes elsewhere that begin at any address; none, and a byte less than an ordering takes.
 template <typename Integer> int elsewhere()
 {
     typedef Five<Integer> five;
@@ -125,8 +125,13 @@ template <typename Integer> int elsewhere()
         if (line != 0)
             return line;
     }
+    constexpr size_t taken = Rimopaku::order_bytes(5, 14);
     Rimopaku::Workspace none(memory, 0), all(memory);
+    Rimopaku::Workspace enough(all.block().start, taken), few(all.block().start, taken - 1);
+    CHECK(taken == rimopaku_workspace_bytes_i64(5, 14));
     CHECK(none.order(5, five::a_p, five::a_i, p, p_inv, told) == Status::OutOfMemory);
+    CHECK(few.order(5, five::a_p, five::a_i, p, p_inv, told) == Status::OutOfMemory);
+    CHECK(orders<Integer>(enough) == 0);
     return factors<Integer>(all);
 }
 
@@ -152,7 +157,7 @@ extern "C"
 #endif
     int main()
 {
-    int (*const tests[])() = {in_static_memory<int32_t>, elsewhere<int32_t>};
+    int (*const tests[])() = {in_static_memory<int32_t>, in_static_memory<int64_t>, elsewhere<int32_t>, elsewhere<int64_t>};
     for (auto test : tests) {
         int line = test();
         if (line != 0)

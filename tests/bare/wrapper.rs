@@ -1,6 +1,6 @@
 //! The package rimopaku-amd-bare in a program with neither a standard library nor a C library: start.c stands in their
-//! place. A worked matrix and a grid are ordered and factored in one static variable. The exit status is 0, or the
-//! number of the line that found another result, cut to 255.
+//! place. A worked matrix and a grid are ordered and factored in one static variable, in both widths. The exit status is
+//! 0, or the number of the line that found another result, cut to 255.
 
 #![no_std]
 #![no_main]
@@ -36,6 +36,7 @@ macro_rules! told {
 /// The types of numbers, and their small numbers.
 trait Small: Word + PartialEq + From<i16> + TryInto<usize> {}
 impl Small for i32 {}
+impl Small for i64 {}
 
 fn place<T: Small>(number: T) -> usize {
     number.try_into().unwrap_or(usize::MAX)
@@ -98,7 +99,7 @@ pub extern "C" fn main() -> i32 {
         Some(workspace) => workspace,
         None => return line!() as i32,
     };
-    let tests = [five_rows::<i32>, grid::<i32>, five_rows::<i32>];
+    let tests = [five_rows::<i32>, five_rows::<i64>, grid::<i32>, grid::<i64>, five_rows::<i32>];
     tests.iter().map(|test| test(&mut workspace)).find(|&line| line != 0).unwrap_or(0).min(255)
 }
 
@@ -108,8 +109,18 @@ pub extern "C" fn main() -> i32 {
 ///
 /// Both have so many bytes.
 #[no_mangle]
+pub unsafe extern "C" fn memcmp(one: *const u8, other: *const u8, count: usize) -> i32 {
+    (0..count).map(|k| *one.add(k) as i32 - *other.add(k) as i32).find(|&difference| difference != 0).unwrap_or(0)
+}
+
+/// The same, where only equality is asked for.
+///
+/// # Safety
+///
+/// Both have so many bytes.
+#[no_mangle]
 pub unsafe extern "C" fn bcmp(one: *const u8, other: *const u8, count: usize) -> i32 {
-    (0..count).any(|k| *one.add(k) != *other.add(k)) as i32
+    memcmp(one, other, count)
 }
 
 #[panic_handler]

@@ -6,41 +6,34 @@ use core::cell::UnsafeCell;
 use core::mem::MaybeUninit;
 use core::sync::atomic::{AtomicBool, Ordering};
 
-/// How many bytes are enough for an ordering of each matrix with at most so many rows and entries, `a_p[n]`.
+/// How many bytes an ordering takes, for each matrix with at most so many rows and entries, `a_p[n]`; `usize::MAX` where
+/// that is no `usize`.
 ///
-/// This and the other numbers are sums over the lists that a call makes. They are tested, not proved. For memory that
-/// may begin at any address take 15 bytes more. Rows and entries are numbers of an `i32`.
+/// With so many bytes it orders, and with fewer than its own matrix takes it does not: that is proved. For memory that
+/// may begin at any address take 15 bytes more, here and for what follows.
 pub const fn order_bytes(rows: usize, entries: usize) -> usize {
-    if rows == 0 {
-        return 0;
-    }
-    // What is asked for first, and given back where memory can be given back.
-    let words = entries + entries / 5 + rows;
-    let mut first = list(less(12 * rows + words, 8_380_000), 4);
-    if words > 8_380_000 {
-        first += 2 * list(less(12 * rows + words, 14_400_000) / 2, 4);
-    }
-    let width = if 2 * entries + 2 * entries / 5 + rows <= 2_147_483_647 && rows <= 2_147_483_645 { 4 } else { 8 };
-    let neighbours = less(2 * entries, rows * (rows - 1));
-    let lists = 8 * list(rows, width) + list(2 * rows, width) + list(neighbours + neighbours / 5 + rows, width);
-    let transpose = list(rows + 1, width) + list(entries, width);
-    first + lists + transpose + 2 * list(rows, 4)
+    let (rows, entries) = (rows as u128, entries as u128);
+    let width = if 2 * entries + rows <= 2_147_483_645 { 4 } else { 8 };
+    bounded(width * (3 * fours(entries) + 12 * fours(rows) + 4))
 }
 
-/// The same for the counts of a factor.
+/// How many bytes are enough for the counts of a factor. This sum is tested, not proved.
 pub const fn counts_bytes(rows: usize, entries: usize) -> usize {
     if rows == 0 {
         return 0;
     }
-    2 * list(rows, 8) + list(rows, 16) + 2 * (list(rows + 1, 8) + list(entries, 8)) + list(8 * rows + 5, 8)
+    let (rows, entries) = (rows as u128, entries as u128);
+    let neighbours = list(rows + 1, 8) + list(entries, 8);
+    bounded(2 * list(rows, 8) + list(rows, 16) + 2 * neighbours + list(8 * rows + 5, 8))
 }
 
-/// The same for the columns of a factor.
+/// How many bytes are enough for the columns of a factor. This sum is tested, not proved.
 pub const fn columns_bytes(rows: usize, entries: usize) -> usize {
     if rows == 0 {
         return UNIT;
     }
-    3 * list(rows, 8) + 2 * list(rows + 1, 8) + list(entries, 8) + 2 * list(rows, 16)
+    let (rows, entries) = (rows as u128, entries as u128);
+    bounded(3 * list(rows, 8) + 2 * list(rows + 1, 8) + list(entries, 8) + 2 * list(rows, 16))
 }
 
 /// How many bytes are enough for each call.
@@ -48,16 +41,22 @@ pub const fn workspace_bytes(rows: usize, entries: usize) -> usize {
     larger(order_bytes(rows, entries), larger(counts_bytes(rows, entries), columns_bytes(rows, entries)))
 }
 
-/// The bytes of a list: whole units.
-const fn list(count: usize, width: usize) -> usize {
-    (count * width + UNIT - 1) / UNIT * UNIT
+/// The least multiple of 4 that is not less.
+const fn fours(number: u128) -> u128 {
+    (number + 3) / 4 * 4
 }
 
-const fn less(one: usize, other: usize) -> usize {
-    if one < other {
-        one
+/// The bytes of a list: whole units.
+const fn list(count: u128, width: u128) -> u128 {
+    (count * width + UNIT as u128 - 1) / UNIT as u128 * UNIT as u128
+}
+
+/// The number, or the greatest `usize` where it is more.
+const fn bounded(bytes: u128) -> usize {
+    if bytes > usize::MAX as u128 {
+        usize::MAX
     } else {
-        other
+        bytes as usize
     }
 }
 
@@ -100,5 +99,31 @@ impl<const BYTES: usize> StaticMemory<BYTES> {
 impl<const BYTES: usize> Default for StaticMemory<BYTES> {
     fn default() -> Self {
         StaticMemory::new()
+    }
+}
+
+#[cfg(test)]
+mod tests {
+    use super::order_bytes;
+
+    extern "C" {
+        fn rimopaku_workspace_bytes_i32(rows: usize, entries: usize) -> usize;
+        fn rimopaku_workspace_bytes_i64(rows: usize, entries: usize) -> usize;
+    }
+
+    /// The proved numbers, at the bounds of the widths and of `usize` too.
+    #[test]
+    fn an_ordering_takes_what_the_library_tells() {
+        let some = [0, 1, 2, 3, 4, 5, 14, 108, 99_999, 1_073_741_820, 1_073_741_822, 2_147_483_645, 2_147_483_646];
+        let large = [1 << 40, 1 << 59, usize::MAX / 72, usize::MAX / 24, usize::MAX - 1, usize::MAX];
+        for &rows in some.iter().chain(&large) {
+            for &entries in some.iter().chain(&large) {
+                // SAFETY: these calls take two numbers.
+                let told = unsafe {
+                    [rimopaku_workspace_bytes_i32(rows, entries), rimopaku_workspace_bytes_i64(rows, entries)]
+                };
+                assert_eq!([order_bytes(rows, entries); 2], told, "{rows} rows, {entries} entries");
+            }
+        }
     }
 }

@@ -274,3 +274,10 @@ calls!(
     rimopaku_counts_within_i32,
     rimopaku_columns_within_i32
 );
+calls!(
+    i64,
+    rimopaku_order_within_i64,
+    rimopaku_order_holding_within_i64,
+    rimopaku_counts_within_i64,
+    rimopaku_columns_within_i64
+);

@@ -4,10 +4,11 @@ use crate::answers::{Fault, Info, Needs, Parameters};
 use crate::raw::{self, Calls, Columns, Entries, Order, Statistics, Tallies};
 use core::mem::MaybeUninit;
 
-/// The types of numbers that a matrix may have: `i32`.
+/// The types of numbers that a matrix may have: `i32` and `i64`.
 pub trait Word: Copy + Calls {}
 
 impl Word for i32 {}
+impl Word for i64 {}
 
 /// Bytes that are lent to one call after the other. What stands in them does not matter, and what a call leaves there
 /// means nothing.
@@ -41,7 +42,9 @@ impl<'m> Workspace<'m> {
     /// # Errors
     ///
     /// [`Fault::Invalid`] exactly if `p` or `p_inv` has not `n` places, or `n` is not 0 and the input is no column
-    /// form; [`Fault::OutOfMemory`] where the workspace has too few bytes. Then `p` and `p_inv` are as they were.
+    /// form; [`Fault::OutOfMemory`] exactly if the call is valid otherwise, `n` is not 0, and the workspace has fewer
+    /// bytes than [`order_bytes`](crate::order_bytes) tells for `n` rows and `a_p[n]` entries, those before the first
+    /// multiple of 16 not counted. Then `p` and `p_inv` are as they were.
     pub fn order<T: Word>(
         &mut self,
         n: T,

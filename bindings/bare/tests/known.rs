@@ -1,12 +1,13 @@
-//! Worked matrices, each call with its faults, and memory that begins and ends anywhere.
+//! Worked matrices in both widths, each call with its faults, and memory that begins and ends anywhere.
 
-use rimopaku_amd_bare::{workspace_bytes, Fault, Needs, Parameters, StaticMemory, Word, Workspace};
+use rimopaku_amd_bare::{order_bytes, workspace_bytes, Fault, Needs, Parameters, StaticMemory, Word, Workspace};
 use std::fmt::Debug;
 use std::mem::MaybeUninit;
 
 /// The types of numbers, and their small numbers.
 trait Small: Word + Debug + PartialEq + From<i8> {}
 impl Small for i32 {}
+impl Small for i64 {}
 
 fn numbers<T: Small, const LEN: usize>(from: [i8; LEN]) -> [T; LEN] {
     from.map(T::from)
@@ -50,10 +51,12 @@ fn five_rows_in<T: Small>(workspace: &mut Workspace) {
 fn five_rows() {
     let mut memory = [0_u8; BYTES + 15];
     five_rows_in::<i32>(&mut Workspace::over(&mut memory));
+    five_rows_in::<i64>(&mut Workspace::over(&mut memory));
     // The same bytes for one call after the other.
     let mut workspace = Workspace::over(&mut memory);
     for _ in 0..3 {
         five_rows_in::<i32>(&mut workspace);
+        five_rows_in::<i64>(&mut workspace);
     }
 }
 
@@ -68,6 +71,26 @@ fn memory_anywhere() {
         // SAFETY: all bytes were written above.
         assert!(guards.map(|byte| unsafe { byte.assume_init() }).all(|byte| byte == 0x5b));
     }
+}
+
+/// An ordering takes so many bytes, and not one less; then nothing is written. An invalid call is told first.
+#[test]
+fn bytes_of_an_ordering() {
+    #[repr(align(16))]
+    struct Aligned([u8; order_bytes(5, 14)]);
+    let mut memory = Aligned([0; order_bytes(5, 14)]);
+    let (a_p, a_i) = (numbers::<i64, 6>(A_P), numbers::<i64, 14>(A_I));
+    let (mut p, mut p_inv) = ([-7; 5], [-7; 5]);
+    let parameters = Parameters::default();
+    for less in [1, 16, memory.0.len()] {
+        let end = memory.0.len() - less;
+        let mut few = Workspace::over(&mut memory.0[..end]);
+        assert_eq!(few.order(5, &a_p, &a_i, &parameters, &mut p, &mut p_inv), Err(Fault::OutOfMemory));
+        assert_eq!(few.order(5, &a_p, &a_i[1..], &parameters, &mut p, &mut p_inv), Err(Fault::Invalid));
+        assert_eq!((p, p_inv), ([-7; 5], [-7; 5]));
+    }
+    let told = Workspace::over(&mut memory.0).order(5, &a_p, &a_i, &parameters, &mut p, &mut p_inv);
+    assert!(told.is_ok() && p == [0, 3, 2, 4, 1]);
 }
 
 #[test]
@@ -96,6 +119,7 @@ fn held_row_in<T: Small>(workspace: &mut Workspace) {
 fn held_row() {
     let mut memory = [0_u8; BYTES + 15];
     held_row_in::<i32>(&mut Workspace::over(&mut memory));
+    held_row_in::<i64>(&mut Workspace::over(&mut memory));
 }
 
 #[test]
@@ -147,6 +171,7 @@ fn faults_in<T: Small>(workspace: &mut Workspace) {
 fn faults() {
     let mut memory = [0_u8; BYTES + 15];
     faults_in::<i32>(&mut Workspace::over(&mut memory));
+    faults_in::<i64>(&mut Workspace::over(&mut memory));
     assert_eq!(
         Fault::Invalid.to_string(),
         "the input is no matrix in compressed sparse columns, or a slice has the wrong length"
