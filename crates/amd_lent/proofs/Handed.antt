@@ -28,7 +28,7 @@ Taken = option.the_row piece.the_row
 abbrev pub Told : ℕ → ℕ → Taken.Denot → Type 0
 Told n a x = IfSome x (λ p. (p.size ≡ whole_size n) × (n < 2 ^ 63) × (a ≤ 16))
 
-divides_16 : (w : Width) → Dv (bytes w) 16
+pub divides_16 : (w : Width) → Dv (bytes w) 16
 divides_16 w8 = tt
 divides_16 w16 = tt
 divides_16 w32 = tt

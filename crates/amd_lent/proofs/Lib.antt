@@ -1,1 +1,2 @@
 pub mod Handed
+pub mod Lodging

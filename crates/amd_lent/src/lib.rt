@@ -1,4 +1,5 @@
-//! Memory that a caller lends, as an allocator: it cuts pieces off one block, and takes none back.
+//! Memory that a caller lends: as an allocator, which cuts pieces off one block and takes none back, and as lists that lie
+//! in it and never ask for more.
 #![tactic(auto)]
 
 mod lent;
@@ -6,3 +7,4 @@ mod piece;
 
 pub use lent::Lent;
 pub use piece::Piece;
+pub use std_alloc::vec::Lodged;

@@ -86,8 +86,13 @@ cut_spec 𝓤 𝓛 𝓜 𝓡 wired =
     sets ! (agg ! (and_then ! (get ! refl) (and_then ! (get ! refl) (no_more !)))) refl
     (tt, ((tt, (record { fits = are.1.0.1 }, tt)), ((tt, (record { fits = omega arith }, tt)), tt))) $
     returns ! (look_at ! 0 refl) $ free_all ! refl $
-    let w : (piece.the_row).Denot = record { ptr = start; size = n; whole = asked.0 } in
-    let y : (piece.the_row).Denot = record { ptr = next; size = all - n; whole = omega (arith, x.whole, asked.0) } in
+    let w : (piece.the_row).Denot = record { ptr = start; size = n; whole = asked.0; small = omega (arith, x.small, asked.1) } in
+    let y : (piece.the_row).Denot = record {
+      ptr = next;
+      size = all - n;
+      whole = omega (arith, x.whole, asked.0);
+      small = omega (arith, x.small);
+    } in
     let one : Val = sized_val start n in
     let two : Val = sized_val next (all - n) in
     use0 𝓛 (‵ (sized_own start n (one ∷ []))) (sized_made 𝓛 start n are.1.0.1) $ fjoin ! $ move ! (1 ∷ []) $
