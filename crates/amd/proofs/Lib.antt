@@ -4,3 +4,6 @@ pub mod OneAnswer
 pub mod OrderedColumns
 pub mod CountedDegrees
 pub mod Rooms
+pub mod Parts
+pub mod ValidCalls
+pub mod BytesGrow

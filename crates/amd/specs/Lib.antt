@@ -2,3 +2,4 @@
 pub mod Answers
 pub mod Within
 pub mod Workspaces
+pub mod Blocks

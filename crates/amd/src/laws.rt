@@ -1,10 +1,11 @@
-// Laws on the contracts of `order` and `order_holding`, each the contract of a function with an empty body. Called by:
-// nobody.
+// Laws on the contracts of `order` and `order_holding`, and on the bytes of a workspace, each the contract of a function
+// with an empty body. Called by: nobody.
 
-ghost use Rattle.std.specs.Prelude.{◌≡◌, ◌<◌, ℕ, ℤ, Bool, true, false, Option, Some, List, unsigned_abs};
+ghost use Rattle.std.specs.Prelude.{◌≡◌, ◌<◌, ◌≤◌, ℕ, ℤ, Bool, true, false, Option, Some, List, unsigned_abs};
 ghost use Rattle.std.specs.Prelude.{slice_index_or};
 ghost use Rattle.amd_types.specs.declared.amd.Info.{Info};
 ghost use Rattle.amd_model.specs.Input.Pattern.{SamePattern};
+ghost use Rattle.amd.specs.Blocks.{workspace_bytes};
 ghost use Rattle.amd.specs.Answers.{AreOneAnswer, AreDense, IsOrdering, IsOrderingHolding, HaveEqualFigures};
 
 /// Two answers for inputs with the same `n` and the same set of pairs tell the same figures of the pattern, whatever
@@ -60,4 +61,10 @@ pub fn law_dense_rows_held()
     ensures { (marks : List Bool) (n t : ℤ) (aggressive : Bool) (ap ai p q r s : List ℤ) (one other : Info) →
         IsOrderingHolding (Some marks) n t aggressive ap ai p q one → IsOrdering n t aggressive ap ai r s other →
         AreDense marks (unsigned_abs n) t ap ai → AreOneAnswer p q r s one other }
+{}
+
+/// A block that is enough for so many rows and entries is enough for fewer.
+pub fn law_fewer_bytes()
+    ensures { (rows entries most_rows most_entries : ℕ) → rows ≤ most_rows → entries ≤ most_entries →
+        workspace_bytes rows entries ≤ workspace_bytes most_rows most_entries }
 {}

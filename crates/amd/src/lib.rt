@@ -6,8 +6,10 @@
 //! [`control`] and [`info`] write what a caller chooses and what the ordering tells, as text.
 #![tactic(auto)]
 
+mod block;
 mod entrance;
 pub mod laws;
+mod lent;
 mod once;
 mod refusal;
 mod widths;
@@ -21,8 +23,11 @@ ghost use Rattle.amd.specs.Answers.{IsOrdering, IsOrderingHolding, IsRefusal, Is
 use crate::entrance::{class_of, jumbled_of};
 use crate::once::order_once;
 pub use amd_input::{aat, preprocess, valid};
+pub use amd_lent::{Lodged, Piece};
 pub use amd_texts::{control, info};
 pub use amd_types::amd::{Control, Info, Status};
+pub use block::order_in_block;
+pub use lent::workspace_bytes;
 pub use refusal::Refusal;
 pub use workspace::Workspace;
 /// Internal: how the crates over this one read a caller's numbers. It is no part of what the ordering promises.

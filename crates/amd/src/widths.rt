@@ -12,6 +12,7 @@ ghost use Rattle.amd_rounds.specs.Laid.{AreWideEnough};
 ghost use Rattle.amd_types.specs.Counts.{counts};
 ghost use Rattle.amd_workspace.specs.Lists.{HasRoom};
 ghost use Rattle.amd.specs.Answers.{OrdersMatrix};
+ghost use Rattle.amd.specs.Blocks.{words_in, workspace_words};
 ghost use Rattle.amd.specs.Within.{IsSized, list_words, pairs_by};
 
 use crate::within::{count_degrees, order_sorted};
@@ -19,7 +20,7 @@ use amd_input::preprocess::transpose_within;
 use amd_types::amd::{Control, Info};
 use amd_types::index::Index;
 use amd_words::{Signed, Unsigned};
-use amd_workspace::lists::Memory;
+use amd_workspace::lists::{Lists, Memory, Words};
 use std::alloc::{AllocError, Allocator};
 
 /// Orders a matrix with sorted columns in memory for so many words: in as many of them as upstream takes, or in all.
@@ -59,6 +60,37 @@ fn order_columns<I: Index, J: Index, S: Signed, P: Signed, U: Unsigned, A: Alloc
     order_sorted(memory, a_p, a_i, nzaat, room, control, hold, p, p_inv, info);
 }
 
+/// Memory for eliminations of up to `rows` rows in up to `words` words, with no place more.
+///
+/// # Errors
+///
+/// A refused request for memory.
+fn memory_for<S: Signed, P: Signed, U: Unsigned, A: Allocator + Copy>(
+    alloc: A,
+    rows: usize,
+    words: usize,
+) -> Result<Memory<S, P, U, A>, AllocError>
+    ensures room { IfOk result (HasRoom rows words) }
+    ensures words { IfOk result (λ m. words_in m 0 0 ≡ words + 10 * rows) }
+{
+    Ok(Memory {
+        pe: Vec::with_capacity(alloc, rows)?,
+        len: Vec::with_capacity(alloc, rows)?,
+        words: Words {
+            next: Vec::with_capacity(alloc, rows)?,
+            iw: Vec::with_capacity(alloc, words)?,
+        },
+        lists: Lists {
+            nv: Vec::with_capacity(alloc, rows)?,
+            e_len: Vec::with_capacity(alloc, rows)?,
+            w: Vec::with_capacity(alloc, rows)?,
+            head: Vec::with_capacity(alloc, rows)?,
+            sides: Vec::with_capacity(alloc, rows)?,
+            hash: Vec::with_capacity(alloc, rows)?,
+        },
+    })
+}
+
 /// The lists of a workspace in these widths; the numbers of the transpose of a jumbled matrix are of type `J`.
 #[derive(Drop)]
 pub struct WorkspaceIn<J, S: Signed, P: Signed, U: Unsigned, A: Allocator> {
@@ -89,11 +121,13 @@ impl<J: Index, S: Signed, P: Signed, U: Unsigned, A: Allocator + Copy> Workspace
         requires narrow { AreWideEnough S.MOST P.MOST U.MOST rows (list_words rows entries) }
         requires few { 2 * entries + 2 * entries / 5 + rows < 2 ^ 63 }
         ensures made { IfOk result (λ w. (w.rows ≡ rows) × (w.entries ≡ entries)) }
+        ensures words { IfOk result (λ w. words_in w.memory (vec_capacity w.pointers) (vec_capacity w.columns)
+            ≡ workspace_words rows entries) }
     {
         Ok(WorkspaceIn {
             rows,
             entries,
-            memory: Memory::with_room(alloc, rows, 2 * entries + rows)?,
+            memory: memory_for(alloc, rows, 2 * entries + rows)?,
             pointers: Vec::with_capacity(alloc, rows + 1)?,
             columns: Vec::with_capacity(alloc, entries)?,
         })

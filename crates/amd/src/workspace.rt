@@ -3,21 +3,23 @@
 // Amestoy, Davis and Duff 1996 and 2004.
 
 ghost use Rattle.std.specs.Prelude.{◌≡◌, ◌≢◌, ◌≤◌, ◌<◌, ◌+◌, ◌*◌, ◌/◌, ◌^◌, ℕ, Some, None, false, pos, map, length};
-ghost use Rattle.std.specs.Prelude.{slice_index, IfOk, IfErr};
+ghost use Rattle.std.specs.Prelude.{slice_index, IfOk, IfErr, IfSome, IsSome, MatchOption, ◌↔◌};
 ghost use Rattle.std.specs.Option.{option_copied};
 ghost use Rattle.amd_model.specs.Input.Columns.{IsColumnForm, IsSorted};
 ghost use Rattle.amd_model.specs.Input.Held.{HasMarks};
 ghost use Rattle.amd_types.specs.Counts.{counts};
 ghost use Rattle.amd_types.specs.Statuses.{IsStatusOf};
 ghost use Rattle.amd.specs.Answers.{IsOrdering, IsOrderingHolding, OrdersMatrix};
-ghost use Rattle.amd.specs.Within.{FitsIn, IsWithinRefusal, pairs_by};
-ghost use Rattle.amd.specs.Workspaces.{IsMadeFor, entries_of, rows_of};
+ghost use Rattle.amd.specs.Blocks.{workspace_bytes, workspace_words};
+ghost use Rattle.amd.specs.Within.{FitsIn, IsCall, IsWithinRefusal, pairs_by};
+ghost use Rattle.amd.specs.Workspaces.{IsMadeFor, entries_of, rows_of, words_of};
 
 use crate::entrance::{class_of, jumbled_of};
 use crate::once::most_words;
 use crate::refusal::Refusal;
 use crate::widths::WorkspaceIn;
 use amd_engine::amd_1::holds;
+use amd_lent::{Lodged, Piece};
 use amd_types::amd::{Control, Info, Status};
 use amd_types::index::Index;
 use amd_types::internal::{count_at, to_count};
@@ -57,7 +59,8 @@ fn widths_for<A: Allocator + Copy>(
     entries: usize,
 ) -> Result<Widths<A>, AllocError>
     requires few { 2 * entries + 2 * entries / 5 + rows < 2 ^ 63 }
-    ensures { IfOk result (IsMadeFor rows entries) }
+    ensures made { IfOk result (IsMadeFor rows entries) }
+    ensures words { IfOk result (λ w. words_of w ≡ workspace_words rows entries) }
 {
     let words = 2 * entries + rows;
     if holds::<i32, i32, u32>(rows, words, 2) {
@@ -73,6 +76,40 @@ fn widths_for<A: Allocator + Copy>(
         return Ok(Widths::Wide(WorkspaceIn::new(alloc, rows, entries)?));
     }
     Err(AllocError)
+}
+
+/// How many rows a matrix has, and its status; none, exactly where the call is not valid: the input is no column form, or
+/// there is not one mark for each row where there are marks, or a list has not one place for each row.
+pub fn valid_rows<I: Index>(
+    n: I,
+    a_p: &[I],
+    a_i: &[I],
+    hold: Option<&[bool]>,
+    p: &[I],
+    p_inv: &[I],
+) -> Option<(usize, Status)>
+    requires fits { I.fits (I.value n) }
+    ensures size { IfSome result (λ r. pos r.0 ≡ I.value n) }
+    ensures places { IfSome result (λ r. (length p.now ≡ r.0) × (length p_inv.now ≡ r.0)) }
+    ensures marks { IfSome result (λ r. r.0 ≢ 0 → HasMarks (option_copied hold.entry) r.0) }
+    ensures valid { IfSome result (λ r. r.0 ≢ 0 → r.1 ≢ Status.Invalid) }
+    ensures status { IfSome result (λ r. r.0 ≢ 0 →
+        IsStatusOf (I.value n) (I.value n) (map I.value a_p.now) (map I.value a_i.now) r.1) }
+    ensures call { IsSome result ↔ IsCall (option_copied hold.entry) (I.value n) (map I.value a_p.now)
+        (map I.value a_i.now) (map I.value p.now) (map I.value p_inv.now) }
+{
+    let size = to_count(n)?;
+    if p.len() != size || p_inv.len() != size {
+        return None;
+    }
+    if size == 0 {
+        return Some((0, Status::OK));
+    }
+    let status = class_of(n, size, a_p, a_i, hold);
+    if jumbled_of(&status).is_none() {
+        return None;
+    }
+    Some((size, status))
 }
 
 /// How many rows a matrix has that fits in a workspace, and its status; and whether it is jumbled, where it has rows.
@@ -101,20 +138,10 @@ fn fitting_rows<I: Index>(
     ensures refused { IfErr result (IsWithinRefusal (option_copied hold.entry) (I.value n) (map I.value a_p.now)
         (map I.value a_i.now) (map I.value p.now) (map I.value p_inv.now) rows entries) }
 {
-    let Some(size) = to_count(n) else {
+    let Some((size, status)) = valid_rows(n, a_p, a_i, hold, p, p_inv) else {
         return Err(Refusal::Invalid);
     };
-    if p.len() != size || p_inv.len() != size {
-        return Err(Refusal::Invalid);
-    }
-    if size == 0 {
-        return Ok((0, Status::OK));
-    }
-    let status = class_of(n, size, a_p, a_i, hold);
-    if jumbled_of(&status).is_none() {
-        return Err(Refusal::Invalid);
-    }
-    if size > rows || count_at(a_p, size) > entries {
+    if size != 0 && (size > rows || count_at(a_p, size) > entries) {
         return Err(Refusal::TooLarge);
     }
     Ok((size, status))
@@ -122,7 +149,7 @@ fn fitting_rows<I: Index>(
 
 impl<A: Allocator + Copy> Widths<A> {
     /// Orders a matrix that fits, as [`WorkspaceIn::order`] does.
-    fn order<I: Index>(
+    pub fn order<I: Index>(
         &mut self,
         a_p: &[I],
         a_i: &[I],
@@ -156,12 +183,29 @@ impl<A: Allocator + Copy> Widths<A> {
     }
 }
 
+impl Workspace<Lodged> {
+    /// The workspace of the orderings of all matrices with at most so many rows and entries, jumbled or not, in a block
+    /// that the caller lends; none, exactly where it has fewer than [`crate::workspace_bytes`] bytes.
+    pub fn in_block(block: Piece, rows: usize, entries: usize) -> Option<Workspace<Lodged>>
+        ensures { MatchOption result (block.size < workspace_bytes rows entries)
+            (λ w. (workspace_bytes rows entries ≤ block.size) × (w.rows ≡ rows) × (w.entries ≡ entries)) }
+    {
+        let widths = Widths::in_block(block, rows, entries)?;
+        Some(Workspace {
+            rows,
+            entries,
+            widths,
+        })
+    }
+}
+
 impl<A: Allocator + Copy> Workspace<A> {
     /// Takes the memory of the orderings of all matrices with at most so many rows and entries, jumbled or not.
     ///
     /// These are three words for each entry and twelve for each row, and one, of 32 bits each where that is wide
     /// enough: two for each entry and one for each row for the lists of neighbours, ten lists of a word for each row,
-    /// and the transpose of a jumbled matrix. A call that follows asks for none.
+    /// and the transpose of a jumbled matrix. The lists have room for so many, and no more. A call that follows asks for
+    /// none.
     ///
     /// # Errors
     ///
@@ -170,6 +214,7 @@ impl<A: Allocator + Copy> Workspace<A> {
     pub fn new(alloc: A, rows: usize, entries: usize) -> Result<Workspace<A>, AllocError>
         ensures rows { IfOk result (λ w. w.rows ≡ rows) }
         ensures entries { IfOk result (λ w. w.entries ≡ entries) }
+        ensures words { IfOk result (λ w. words_of w.widths ≡ workspace_words rows entries) }
     {
         if most_words(rows, entries).is_none() {
             return Err(AllocError);

@@ -3,7 +3,7 @@
 // workspace no call asks for memory, seen by an allocator that counts. The refusals are those of the definitions.
 
 use crate::checks::check_chosen;
-use amd::{Control, Info, Refusal, Workspace, order, order_holding};
+use amd::{Control, Info, Refusal, Workspace, order, order_holding, workspace_bytes};
 use amd_testing::check;
 use amd_testing::choices::CHOICES;
 use amd_testing::families::{Family, member};
@@ -263,4 +263,13 @@ fn a_workspace_of_too_many_words(rt: HostRuntime) {
     check!(&rt; Workspace::new(&heap, 1, 1 << 62).is_err());
     check!(&rt; Workspace::new(&heap, 1 << 63, 0).is_err());
     check!(&rt; heap.requests() == 0);
+}
+
+/// The bytes in a block: for 5 rows and 14 entries four for each of 3 * 16 + 12 * 8 + 4 words, and for 2^30 entries eight
+/// for each of 3 * 2^30 + 4; none where they are no number of 64 bits.
+#[test]
+fn bytes_of_a_block(rt: HostRuntime) {
+    check!(&rt; workspace_bytes(5, 14) == Some(592));
+    check!(&rt; workspace_bytes(0, 1 << 30) == Some(25_769_803_808));
+    check!(&rt; workspace_bytes(usize::MAX, usize::MAX).is_none());
 }
