@@ -1,5 +1,7 @@
 -- What the command promises to work out.
 pub mod Answers
+pub mod DrawnFills
 pub mod Lists
 pub mod Needs
+pub mod Panels
 pub mod Permuted

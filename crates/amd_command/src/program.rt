@@ -9,7 +9,7 @@ use crate::answers::{
 use crate::faults::cause_of;
 use crate::needs::{need_under, told};
 use crate::ordering::order_matrix;
-use crate::picture::write_picture;
+use crate::picture::{Drawn, MOST_ROWS, Source, write_picture};
 use amd::{Control, Info};
 use amd_market::reader::Matrix;
 use amd_report::compare::{Comparison, Needs};
@@ -20,12 +20,12 @@ use amd_request::inputs::{
     Complaint, Task, about, check_inputs, control_of, read_file, read_order, read_task,
 };
 use amd_request::order_faults::order_fault;
-use amd_request::places::STANDARD;
+use amd_request::places::{STANDARD, folder_and_name};
 use amd_request::progress::Progress;
 use amd_request::putting::put_file;
 use amd_request::request::{Options, Request, request_of};
 use amd_request::unreadable::word_at_fault;
-use amd_symbolic::{Fault, counts};
+use amd_symbolic::{Fault, supernodes};
 use clap::Error;
 use clap::error::ErrorKind;
 use std::alloc::{AllocError, Global};
@@ -130,32 +130,73 @@ fn tell_figures<'a, R: Eprint>(rt: &R, quiet: bool, figures: String) -> Result<(
     about("standard error", rt.eprint(figures).map_err(Cause::from))
 }
 
+/// The name of a file in the legend of a picture: without the folders.
+fn legend_name<'a>(path: &'a str) -> &'a str {
+    if path == STANDARD {
+        return "standard input";
+    }
+    let (_, name) = folder_and_name(path);
+    name
+}
+
+/// Tells which fill is left out of a picture, unless nothing is to be told.
+fn tell_drawn<R: Eprint>(rt: &R, quiet: bool, path: &str, drawn: Drawn) {
+    let missing = match (drawn.before, drawn.after) {
+        (true, true) => return,
+        (false, true) => "as it stands",
+        (true, false) => "in its order",
+        (false, false) => "as it stands and in its order",
+    };
+    if !quiet {
+        let _ = rt.eprintln(format_args!(
+            "rimopaku: {path}: the fill of the matrix {missing} is left out: the factor is too large to draw"
+        ));
+    }
+}
+
 /// Draws what a task has and its ordering, whose factor has at most so many entries, to a file.
 fn draw_file<R: Files + Print + Clock + Eprint + AllocGlobal>(
     rt: &R,
     path: &str,
+    options: &Options<'_>,
     task: &Task,
     ordered: &Ordered,
-    symmetric: bool,
 ) -> Result<(), Cause> {
     let lnz = ordered.info.lnz;
     let stage = format_args!("rimopaku: drawing up to {lnz} entries of L");
     task.progress.tell(rt, lnz >= LARGE_FACTOR, stage);
+    let source = Source {
+        name: legend_name(options.file),
+        edges: ordered.info.nz_a_plus_at / 2,
+        symmetric: options.symmetric,
+        most: MOST_ROWS,
+    };
     let mut text = Vec::new(rt.alloc());
-    write_picture(rt.alloc(), &task.matrix, &ordered.p, symmetric, &mut text)?;
-    put_text(rt, path, &text)
+    let drawn = write_picture(rt.alloc(), &task.matrix, &ordered.p, &source, &mut text)?;
+    put_text(rt, path, &text)?;
+    tell_drawn(rt, options.quiet, path, drawn);
+    Ok(())
 }
 
-/// Draws the assembly tree of what a task has and its ordering, to a file.
+/// Draws the tree of the supernodes of what a task has and its ordering, to a file.
 fn draw_tree<R: Files + Print + AllocGlobal>(
     rt: &R,
     path: &str,
+    file: &str,
     matrix: &Matrix<Global>,
     p: &[usize],
 ) -> Result<(), Cause> {
-    let counted = counts(rt.alloc(), matrix.n, &matrix.a_p, &matrix.a_i, p).map_err(cause_of)?;
+    let (n, a_p, a_i) = (matrix.n, &matrix.a_p, &matrix.a_i);
+    let found = supernodes(rt.alloc(), n, a_p, a_i, p).map_err(cause_of)?;
     let mut text = Vec::new(rt.alloc());
-    write_tree_picture(rt.alloc(), &counted.parent, &counted.sizes, &mut text)?;
+    write_tree_picture(
+        rt.alloc(),
+        legend_name(file),
+        &found.first,
+        &found.ptr,
+        &found.parent,
+        &mut text,
+    )?;
     put_text(rt, path, &text)
 }
 
@@ -167,11 +208,11 @@ fn put_pictures<'a, R: Files + Print + Clock + Eprint + AllocGlobal>(
     ordered: &Ordered,
 ) -> Result<(), Complaint<'a>> {
     if let Some(path) = options.picture {
-        let drawn = draw_file(rt, path, task, ordered, options.symmetric);
+        let drawn = draw_file(rt, path, options, task, ordered);
         about(output_name(path), drawn.map_err(Cause::at_picture))?;
     }
     if let Some(path) = options.tree_picture {
-        let drawn = draw_tree(rt, path, &task.matrix, &ordered.p);
+        let drawn = draw_tree(rt, path, options.file, &task.matrix, &ordered.p);
         about(output_name(path), drawn.map_err(Cause::at_picture))?;
     }
     Ok(())

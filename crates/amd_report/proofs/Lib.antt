@@ -1,6 +1,14 @@
+-- Texts: pieces, members, items and lines, and what a writer took.
 pub mod Pieces
 pub mod Members
 pub mod Entries
 pub mod Items
 pub mod FactorLines
+pub mod Told
+-- Pictures: cells of entries and of fill, runs of cells; the layout of a tree, and its cells.
 pub mod Cells
+pub mod Sifting
+pub mod Filling
+pub mod Runs
+pub mod Laying
+pub mod Painting

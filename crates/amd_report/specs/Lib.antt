@@ -8,4 +8,9 @@ pub mod FactorJson
 pub mod Comparisons
 pub mod Patterns
 pub mod Grids
+pub mod Kinds
+pub mod Fills
+pub mod Layouts
+pub mod Canvases
 pub mod Pictures
+pub mod Trees

@@ -1,23 +1,30 @@
 //! What the command `rimopaku` tells of a matrix, of an ordering and of the factor under it: facts, figures, rows,
 //! columns, trees and the pattern, as text and as JSON, and pictures as SVG.
 //!
-//! What is told stands in functions over writers, with contracts: each writes its text, word for word. The pictures
-//! (`drawing`, over `marks` and `grids`; `tree_picture`) are tested, but for the cells that a pattern fills. Which
-//! parts an answer has is up to `amd_command`, which also works out what the factor needs; this crate has plain numbers
-//! of it and does not stand over `amd_symbolic`.
+//! What is told stands in functions over writers, with contracts: each writes its text, word for word. Of the pictures
+//! contracts tell which cells are marked (`entry_cells`, `fills`), which of three colours a cell has (`kinds`), which
+//! rectangles a shape of cells has (`shapes`), where the blocks of a tree lie (`layout`), and which front a cell shows
+//! (`canvas`); how they stand on the page (`drawing`, `tree_picture`) is tested. Which parts an answer has is up to
+//! `amd_command`, which also works out what the factor needs.
 #![tactic(auto)]
 
+pub mod canvas;
 pub mod compare;
 pub mod description;
 pub mod drawing;
+pub mod entry_cells;
 pub mod factor_json;
 pub mod factor_text;
 pub mod facts;
 pub mod figures;
+pub mod fills;
 pub mod grids;
 pub mod json;
-pub mod marks;
+pub mod kinds;
+pub mod layout;
+pub mod names;
 pub mod pattern;
 pub mod rows;
+pub mod shapes;
 pub mod tree;
 pub mod tree_picture;

@@ -12,7 +12,7 @@ use std::io;
 use std::io::Write;
 
 /// The rows of column `j`, as far as the list has them.
-fn rows_between<'a>(a_p: &[usize], a_i: &'a [usize], j: usize) -> &'a [usize]
+pub fn rows_between<'a>(a_p: &[usize], a_i: &'a [usize], j: usize) -> &'a [usize]
     ensures { result.now ≡ column_rows a_p.now a_i.now j }
 {
     let begin = a_p.get(j).copied().unwrap_or(0).min(a_i.len());

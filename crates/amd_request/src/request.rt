@@ -54,7 +54,7 @@ pub struct Options<'a> {
     pub picture: Option<&'a str>,
     /// Whether the pattern before is that of `A + A'`.
     pub symmetric: bool,
-    /// The file for the picture of the assembly tree.
+    /// The file for the picture of the tree of the supernodes.
     pub tree_picture: Option<&'a str>,
 }
 
@@ -170,12 +170,12 @@ static DRAWING: [Choice; 2] = [
     Choice {
         name: "picture",
         has_path: true,
-        help: "Draw the pattern before and after to PATH, as SVG",
+        help: "Draw the matrix before and after, with the fill, to PATH, as SVG",
     },
     Choice {
         name: "tree-picture",
         has_path: true,
-        help: "Draw the assembly tree to PATH, as SVG",
+        help: "Draw the tree of the supernodes to PATH, as SVG",
     },
 ];
 
@@ -207,12 +207,7 @@ fn with_argument<'a>(alloc: Global, beside: &'a str) -> Result<Arg<'a>, AllocErr
 
 /// The option of the panel before, beside the picture that has it.
 fn symmetric_argument<'a>(alloc: Global, beside: &'a str) -> Result<Arg<'a>, AllocError> {
-    flag_argument(
-        alloc,
-        "symmetric",
-        "Draw the pattern of A + A' before, and not that of A",
-    )
-    .requires_all(&[beside])
+    flag_argument(alloc, "symmetric", "Draw A + A' before, and not A").requires_all(&[beside])
 }
 
 /// A subcommand with these options too.

@@ -6,7 +6,7 @@ use crate::tests::outputs::PATH;
 use amd_command::needs::{need_under, standing_order, told};
 use amd_command::ordering::order_matrix;
 use amd_command::permuted::permuted;
-use amd_command::picture::write_picture;
+use amd_command::picture::{MOST_ROWS, Source, write_picture};
 use amd_market::reader::{Matrix, read_matrix};
 use amd_report::compare::{Comparison, write_comparison_lines};
 use amd_report::facts::facts_of;
@@ -41,24 +41,36 @@ const PERMUTED: &str =
     "%%MatrixMarket matrix coordinate pattern general\n3 3 5\n3 1\n2 2\n3 2\n1 3\n2 3\n";
 
 /// The path drawn.
-const PICTURE: &str = "<svg xmlns=\"http://www.w3.org/2000/svg\" width=\"860\" height=\"472\"
- viewBox=\"0 0 860 472\" font-family=\"sans-serif\" font-size=\"14\">
-<rect width=\"860\" height=\"472\" fill=\"#ffffff\"/>
-<text x=\"20\" y=\"24\">before</text>
-<svg x=\"20\" y=\"36\" width=\"400\" height=\"400\" viewBox=\"0 0 3 3\" shape-rendering=\"crispEdges\">
-<rect width=\"3\" height=\"3\" fill=\"#f4f4f2\"/>
+const PICTURE: &str = "<svg xmlns=\"http://www.w3.org/2000/svg\" width=\"860\" height=\"492\"
+ viewBox=\"0 0 860 492\" font-family=\"sans-serif\" font-size=\"14\">
+<rect width=\"860\" height=\"492\" fill=\"#ffffff\"/>
+<text x=\"20\" y=\"24\">before, fill: 0</text>
+<svg x=\"20\" y=\"36\"
+ width=\"400\" height=\"400\" viewBox=\"0 0 3 3\" shape-rendering=\"crispEdges\">
+<rect width=\"100%\" height=\"100%\" fill=\"#f4f4f2\"/>
 <path fill=\"#1f4e79\" fill-opacity=\"100%\" d=\"M0 0h1v1h-1zM2 0h1v1h-1zM2 1h1v1h-1zM0 2h2v1h-2z\"/>
 </svg>
-<text x=\"440\" y=\"24\">after</text>
-<svg x=\"440\" y=\"36\" width=\"400\" height=\"400\" viewBox=\"0 0 3 3\" shape-rendering=\"crispEdges\">
-<rect width=\"3\" height=\"3\" fill=\"#f4f4f2\"/>
+<text x=\"440\" y=\"24\">after, fill: 0</text>
+<svg x=\"440\" y=\"36\"
+ width=\"400\" height=\"400\" viewBox=\"0 0 3 3\" shape-rendering=\"crispEdges\">
+<rect width=\"100%\" height=\"100%\" fill=\"#f4f4f2\"/>
 <path fill=\"#1f4e79\" fill-opacity=\"100%\" d=\"M2 0h1v1h-1zM1 1h2v1h-2zM0 2h2v1h-2z\"/>
 </svg>
-<text x=\"20\" y=\"460\">3 rows, 2 edges</text>
-<rect x=\"440\" y=\"449\" width=\"12\" height=\"12\" fill=\"#e07b39\"/>
-<text x=\"458\" y=\"460\">fill: 0 entries of L</text>
+<text x=\"20\" y=\"460\">a&lt;b: 3 rows, 5 entries, 2 edges</text>
+<rect x=\"20\" y=\"469\" width=\"12\" height=\"12\" fill=\"#1f4e79\"/>
+<text x=\"38\" y=\"480\">entries</text>
+<rect x=\"110\" y=\"469\" width=\"12\" height=\"12\" fill=\"#e07b39\"/>
+<text x=\"128\" y=\"480\">fill</text>
 </svg>
 ";
+
+/// What of it is drawn: a file with a name that an SVG has to spell.
+const SOURCE: Source = Source {
+    name: "a<b",
+    edges: 2,
+    symmetric: false,
+    most: MOST_ROWS,
+};
 
 /// The path.
 fn path(alloc: Global) -> Result<Matrix<Global>, Fail> {
@@ -76,6 +88,10 @@ fn supernodes_of_the_path(rt: HostRuntime) -> Result<(), Fail> {
     let mut lines = Vec::new(alloc);
     check!(&rt; write_supernodes(&made.first, &made.ptr, &made.parent, &mut lines).is_ok());
     check!(&rt; lines.as_slice() == b"1 1 2 1\n2 3 0 0\n".as_slice());
+    let mut blocks = Vec::new(alloc);
+    check!(&rt; write_tree_picture(alloc, "path", &made.first, &made.ptr, &made.parent, &mut blocks).is_ok());
+    let text = String::from_utf8_lossy(alloc, &blocks)?;
+    check!(&rt; text.contains(">path: 3 rows, 2 supernodes on 2 levels, largest front 2 rows<"));
     Ok(())
 }
 
@@ -126,12 +142,8 @@ fn files_beside_the_permutation(rt: HostRuntime) -> Result<(), Fail> {
     check!(&rt; write_tree(&counted.parent, &mut tree).is_ok());
     check!(&rt; tree.as_slice() == b"3\n3\n0\n".as_slice());
     let mut drawn = Vec::new(alloc);
-    check!(&rt; write_picture(alloc, &matrix, &ORDER, false, &mut drawn).is_ok());
+    check!(&rt; write_picture(alloc, &matrix, &ORDER, &SOURCE, &mut drawn).is_ok());
     check!(&rt; drawn.as_slice() == PICTURE.as_bytes());
-    let mut blocks = Vec::new(alloc);
-    check!(&rt; write_tree_picture(alloc, &counted.parent, &counted.sizes, &mut blocks).is_ok());
-    let text = String::from_utf8_lossy(alloc, &blocks)?;
-    check!(&rt; text.contains(">3 blocks; largest column, with its diagonal: 2<"));
     Ok(())
 }
 

@@ -6,7 +6,7 @@ use amd_command::faults::cause_of;
 use amd_command::needs::told;
 use amd_command::ordering::order_matrix;
 use amd_command::permuted::permuted;
-use amd_command::picture::write_picture;
+use amd_command::picture::{MOST_ROWS, Source, write_picture};
 use amd_market::reader::read_matrix;
 use amd_report::description::write_facts;
 use amd_report::factor_text::{write_columns, write_comparison};
@@ -99,7 +99,14 @@ fn write_all_of<W: Write, A: Allocator + Copy>(alloc: A, out: &mut W) -> Result<
     write_tree(&counts.parent, out)?;
     let made = supernodes(alloc, matrix.n, &matrix.a_p, &matrix.a_i, &p).map_err(cause_of)?;
     write_supernodes(&made.first, &made.ptr, &made.parent, out)?;
-    write_picture(alloc, &matrix, &p, false, out)
+    let source = Source {
+        name: "path",
+        edges: info.nz_a_plus_at / 2,
+        symmetric: false,
+        most: MOST_ROWS,
+    };
+    let _drawn = write_picture(alloc, &matrix, &p, &source, out)?;
+    Ok(())
 }
 
 /// Row 2 is held last. Row 3 comes first and joins the rows 1 and 2, so that there is one entry of fill, and one
@@ -114,7 +121,7 @@ fn what_is_written(rt: HostRuntime) -> Result<(), Fail> {
     check!(&rt; text.contains(PATH_FACTS));
     check!(&rt; text.contains("\n3 1 2\n1 2 1\n2 0 0\n    rows "));
     check!(&rt; text.contains("\n2\n3\n0\n1 3 0 0\n<svg "));
-    check!(&rt; text.ends_with("fill: 1 entries of L</text>\n</svg>\n"));
+    check!(&rt; text.contains(">after, fill: 1<") && text.ends_with(">fill</text>\n</svg>\n"));
     Ok(())
 }
 

@@ -1,0 +1,11 @@
+-- Four texts.
+use Rattle.amd_report.proofs.Told.{told, told-then}
+use Rattle.amd_report.proofs.drawing.write_foot.Goals as goal
+
+pub returns : goal.returns
+returns g c =
+    let x0 = told _ _ _ c.in_ok-write_all.ensures.bytes in
+    let x1 = c.in_ok-write_name.ensures in
+    let x2 = c.in_ok-write_counts.ensures in
+    let x3 = c.in_ok-write_keys.ensures in
+    told-then _ _ _ (told-then _ _ _ (told-then _ _ _ x0 x1) x2) x3

@@ -1,0 +1,6 @@
+-- Two texts.
+use Rattle.amd_report.proofs.Told.{told, told-then}
+use Rattle.amd_report.proofs.tree_picture.begin_cells.Goals as goal
+
+pub returns : goal.returns
+returns g c = told-then _ _ _ (told _ _ _ c.in_ok-writeln.ensures.bytes) (told _ _ _ c.in_ok-write_all.ensures.bytes)
