@@ -8,3 +8,4 @@ mod heard;
 mod outputs;
 mod pictures;
 mod runs;
+mod shapes;

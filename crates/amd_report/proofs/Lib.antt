@@ -1,5 +1,11 @@
 -- Texts: pieces, members, items and lines, and what a writer took.
 pub mod Pieces
+pub mod Mirrors
+pub mod Passing
+pub mod Widths
+pub mod Classes
+pub mod Connecting
+pub mod Firsts
 pub mod Members
 pub mod Entries
 pub mod Items

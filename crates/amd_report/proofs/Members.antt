@@ -34,6 +34,16 @@ mean-from_format w t h old new k =
     ≡ member (codes ",") (codes "mean_degree") (decimal w ++ codes "." ++ decimal t ++ decimal h) = simp append_assoc in
     subst (λ xs. Appends old new xs) whole k
 
+-- a share in tenths behind a name
+pub share-from_format : (w t : ℕ) (old new : Option (List ℕ)) →
+    Appends old new (codes ",\"pattern_symmetry_percent\":" ++ (decimal w ++ (codes "." ++ decimal t))) →
+    Appends old new (member (codes ",") (codes "pattern_symmetry_percent") (decimal w ++ codes "." ++ decimal t))
+unfolding member
+share-from_format w t old new k =
+    let whole : codes ",\"pattern_symmetry_percent\":" ++ (decimal w ++ (codes "." ++ decimal t))
+    ≡ member (codes ",") (codes "pattern_symmetry_percent") (decimal w ++ codes "." ++ decimal t) = simp append_assoc in
+    subst (λ xs. Appends old new xs) whole k
+
 -- a text behind a label
 pub line-from_format : (label shown text rest : List ℕ) (old new : Option (List ℕ)) →
     shown ≡ label ++ replicate (52 - length label) 32
@@ -46,6 +56,10 @@ line-from_format label shown text rest old new same line k =
 pub fraction-line : (w t h : ℕ) → (decimal w ++ codes "." ++ decimal t ++ decimal h) ++ codes "\n"
     ≡ decimal w ++ (codes "." ++ (decimal t ++ (decimal h ++ codes "\n")))
 fraction-line w t h = simp append_assoc
+
+pub share-line : (w t : ℕ) → (decimal w ++ codes "." ++ decimal t ++ codes " %") ++ codes "\n"
+    ≡ decimal w ++ (codes "." ++ (decimal t ++ codes " %\n"))
+share-line w t = simp append_assoc
 
 pub two-line : (a b : ℕ) → two_figures a b ++ codes "\n"
     ≡ decimal a ++ (codes " as it stands, " ++ (decimal b ++ codes " ordered\n"))

@@ -3,7 +3,7 @@ use Rattle.std.specs.Prelude.{◌/◌, ◌%◌, ℕ, Bool, true, false, List, �
 use Rattle.amd_types.specs.declared.amd.Info.{Info}
 use Rattle.amd_texts.specs.Texts.{labelled}
 use Rattle.amd_report.specs.declared.facts.Facts.{Facts}
-use Rattle.amd_report.specs.Degrees.{mean_degree}
+use Rattle.amd_report.specs.Degrees.{mean_degree, symmetry_tenths}
 
 -- the word for a yes or a no
 abbrev pub answer_word : Bool → List ℕ
@@ -14,6 +14,10 @@ answer_word false = codes "no"
 abbrev pub hundredths : ℕ → List ℕ
 hundredths x = decimal (x / 100) ++ codes "." ++ decimal (x / 10 % 10) ++ decimal (x % 10)
 
+-- a number of tenths as a decimal fraction
+abbrev pub tenths : ℕ → List ℕ
+tenths x = decimal (x / 10) ++ codes "." ++ decimal (x % 10)
+
 -- the lines on the pattern, from whose file so many duplicates were dropped
 abbrev pub pattern_lines : Info → ℕ → List ℕ
 pattern_lines i d =
@@ -23,6 +27,20 @@ pattern_lines i d =
     ++ labelled (codes "symmetric pattern") (answer_word i.symmetry)
     ++ labelled (codes "entries on the diagonal") (decimal i.nz_diag)
     ++ labelled (codes "edges") (decimal (i.nz_a_plus_at / 2))
+
+-- the line of a pattern symmetry in tenths of a per cent
+abbrev pub symmetry_line : ℕ → List ℕ
+symmetry_line share = labelled (codes "pattern symmetry") (tenths share ++ codes " %")
+
+-- the lines on the shape of the pattern
+abbrev pub shape_lines : Facts → List ℕ
+shape_lines f =
+    labelled (codes "mirrored entries off the diagonal") (decimal f.mirrored)
+    ++ symmetry_line (symmetry_tenths f)
+    ++ labelled (codes "bandwidth below the diagonal") (decimal f.bandwidths.lower)
+    ++ labelled (codes "bandwidth above the diagonal") (decimal f.bandwidths.upper)
+    ++ labelled (codes "profile of A + A'") (decimal f.profile)
+    ++ labelled (codes "components of A + A'") (decimal f.components)
 
 -- the line of a mean degree in hundredths
 abbrev pub mean_line : ℕ → List ℕ
@@ -39,4 +57,4 @@ degree_lines f =
 
 -- the text of what a matrix is
 abbrev pub facts_text : Facts → List ℕ
-facts_text f = pattern_lines f.info f.duplicates ++ degree_lines f
+facts_text f = pattern_lines f.info f.duplicates ++ shape_lines f ++ degree_lines f

@@ -7,8 +7,8 @@ use Rattle.amd_report.specs.declared.compare.Comparison.{Comparison}
 use Rattle.amd_report.specs.declared.facts.Facts.{Facts}
 use Rattle.amd_report.specs.declared.compare.Figure.TheVariants.{FlopsLdl, Bytes}
 use Rattle.amd_report.specs.Comparisons.{figure_of}
-use Rattle.amd_report.specs.Degrees.{mean_degree}
-use Rattle.amd_report.specs.Descriptions.{hundredths}
+use Rattle.amd_report.specs.Degrees.{mean_degree, symmetry_tenths}
+use Rattle.amd_report.specs.Descriptions.{hundredths, tenths}
 use Rattle.amd_report.specs.Texts.{status_phrase}
 
 -- a name and its value, behind what stands before it
@@ -100,6 +100,16 @@ pattern_members i d =
     ++ member (codes ",") (codes "entries_on_the_diagonal") (decimal i.nz_diag)
     ++ member (codes ",") (codes "edges") (decimal (i.nz_a_plus_at / 2))
 
+-- the members on the shape of the pattern
+abbrev pub shape_members : Facts → List ℕ
+shape_members f =
+    member (codes ",") (codes "mirrored_entries") (decimal f.mirrored)
+    ++ member (codes ",") (codes "pattern_symmetry_percent") (tenths (symmetry_tenths f))
+    ++ member (codes ",") (codes "lower_bandwidth") (decimal f.bandwidths.lower)
+    ++ member (codes ",") (codes "upper_bandwidth") (decimal f.bandwidths.upper)
+    ++ member (codes ",") (codes "profile") (decimal f.profile)
+    ++ member (codes ",") (codes "components") (decimal f.components)
+
 -- the members on the degrees
 abbrev pub degree_members : Facts → List ℕ
 degree_members f =
@@ -111,4 +121,5 @@ degree_members f =
 
 -- what a matrix is, and what its factor needs under each order, where that is known
 abbrev pub facts_json : Facts → Option Comparison → List ℕ
-facts_json f compared = pattern_members f.info f.duplicates ++ degree_members f ++ known_members compared ++ codes "}\n"
+facts_json f compared =
+    pattern_members f.info f.duplicates ++ shape_members f ++ degree_members f ++ known_members compared ++ codes "}\n"

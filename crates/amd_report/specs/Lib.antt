@@ -1,6 +1,8 @@
 -- What the command promises to tell.
 pub mod Texts
 pub mod Degrees
+pub mod Shapes
+pub mod Passes
 pub mod Descriptions
 pub mod Json
 pub mod FactorTexts

@@ -4,8 +4,10 @@
 ghost use Rattle.std.specs.Prelude.{◌≡◌, OnOk};
 ghost use Rattle.std.specs.Io.KnownBytes.{Appends};
 ghost use Rattle.amd_report.specs.Descriptions.{answer_word, degree_lines, facts_text, mean_line, pattern_lines};
+ghost use Rattle.amd_report.specs.Descriptions.{shape_lines, symmetry_line};
 
 use crate::facts::{Facts, mean_degree};
+use crate::symmetry::symmetry_tenths;
 use amd_texts::write_labelled;
 use amd_types::amd::Info;
 use std::io;
@@ -30,6 +32,31 @@ fn write_pattern<W: Write>(info: &Info, duplicates: usize, out: &mut W) -> io::R
     write_labelled("symmetric pattern", &symmetric, out)?;
     write_labelled("entries on the diagonal", &info.nz_diag, out)?;
     write_labelled("edges", &edges, out)?;
+    Ok(())
+}
+
+/// Writes the line of the pattern symmetry, a share in tenths of a per cent.
+fn write_symmetry<W: Write>(share: u128, out: &mut W) -> io::Result<()>
+    ensures { OnOk result (Appends (W.contents out.old) (W.contents out.new) (symmetry_line share)) }
+{
+    let whole = share / 10;
+    let tenths = share % 10;
+    let label = "pattern symmetry";
+    writeln!(out, "    {label:<52}{whole}.{tenths} %")?;
+    Ok(())
+}
+
+/// Writes the lines on the shape of the pattern.
+fn write_shape<W: Write>(facts: &Facts, out: &mut W) -> io::Result<()>
+    ensures { OnOk result (Appends (W.contents out.old) (W.contents out.new) (shape_lines facts.now)) }
+{
+    let widths = facts.bandwidths;
+    write_labelled("mirrored entries off the diagonal", &facts.mirrored, out)?;
+    write_symmetry(symmetry_tenths(facts), out)?;
+    write_labelled("bandwidth below the diagonal", &widths.lower, out)?;
+    write_labelled("bandwidth above the diagonal", &widths.upper, out)?;
+    write_labelled("profile of A + A'", &facts.profile, out)?;
+    write_labelled("components of A + A'", &facts.components, out)?;
     Ok(())
 }
 
@@ -66,6 +93,7 @@ pub fn write_facts<W: Write>(facts: &Facts, out: &mut W) -> io::Result<()>
     ensures { OnOk result (Appends (W.contents out.old) (W.contents out.new) (facts_text facts.now)) }
 {
     write_pattern(&facts.info, facts.duplicates, out)?;
+    write_shape(facts, out)?;
     write_degrees(facts, out)?;
     Ok(())
 }

@@ -1,10 +1,14 @@
-// What a matrix is: its figures, the degrees of its rows, and how many duplicates its file had. Called by `answers`, by
-// `description` and by `json`.
+// What a matrix is: its figures, the degrees of its rows, the shape of its pattern, and how many duplicates its file
+// had. Called by `answers`, by `description` and by `json`.
 
 ghost use Rattle.std.specs.Prelude.{◌≡◌, ◌-◌, ℕ, List, pos, map, max, fold, count_by, nat_lt, length, IfOk};
 ghost use Rattle.amd_model.specs.Input.Columns.{IsInput, IsSortedInput};
 ghost use Rattle.amd_report.specs.Degrees.{IsFacts, mean_degree};
 
+use crate::bandwidths::{Bandwidths, widths_of};
+use crate::components::components;
+use crate::profile::profile;
+use crate::symmetry::mirrored_entries;
 use amd_input::aat::aat;
 use amd_input::preprocess::preprocess;
 use amd_input::valid::valid;
@@ -35,6 +39,14 @@ pub struct Facts {
     pub threshold: usize,
     /// The degrees of the rows.
     pub degrees: Degrees,
+    /// How many entries off the diagonal have a mirror.
+    pub mirrored: usize,
+    /// How wide the band is.
+    pub bandwidths: Bandwidths,
+    /// The sum, over the rows, of how far before the diagonal the first entry of `A + A'` is.
+    pub profile: u128,
+    /// How many components the graph of `A + A'` has.
+    pub components: usize,
     /// How many duplicates were dropped from the file.
     pub duplicates: usize,
 }
@@ -74,6 +86,7 @@ fn facts_of_sorted<A: Allocator + Copy>(
 {
     let mut info = Info::new(n);
     let (sum, degrees) = aat(alloc, n, a_p, a_i, &mut info)?;
+    let mirrored = mirrored_entries(&info);
     let threshold = dense_threshold(n, control);
     let some = count_above(&degrees, 0);
     let degrees = Degrees {
@@ -86,11 +99,16 @@ fn facts_of_sorted<A: Allocator + Copy>(
         info,
         threshold,
         degrees,
+        mirrored,
+        bandwidths: widths_of(n, a_p, a_i),
+        profile: profile(alloc, n, a_p, a_i)?,
+        components: components(alloc, n, a_p, a_i)?,
         duplicates,
     })
 }
 
-/// What a matrix is whose columns are jumbled: its transpose with sorted columns has the same figures.
+/// What a matrix is whose columns are jumbled: its transpose with sorted columns has the same figures, and the
+/// bandwidths exchanged.
 fn facts_of_jumbled<A: Allocator + Copy>(
     alloc: A,
     matrix: &Matrix<A>,
@@ -103,6 +121,11 @@ fn facts_of_jumbled<A: Allocator + Copy>(
     let (c_p, c_i) = preprocess(alloc, matrix.n, &matrix.a_p, &matrix.a_i)?;
     let mut facts = facts_of_sorted(alloc, matrix.n, &c_p, &c_i, matrix.repeats, control)?;
     facts.info.status = Status::OkButJumbled;
+    let Bandwidths { lower, upper } = facts.bandwidths;
+    facts.bandwidths = Bandwidths {
+        lower: upper,
+        upper: lower,
+    };
     Ok(facts)
 }
 
@@ -116,7 +139,10 @@ pub fn facts_of<A: Allocator + Copy>(
     matrix: &Matrix<A>,
     control: &Control,
 ) -> Result<Facts, Status>
-    ensures { IfOk result (λ f. f.duplicates ≡ matrix.now.repeats) }
+    ensures facts { IfOk result (λ f. IsSortedInput (pos matrix.now.n) (map pos matrix.now.a_p.items)
+        (map pos matrix.now.a_i.items) → IsFacts matrix.now.n control.now.dense (map pos matrix.now.a_p.items)
+        (map pos matrix.now.a_i.items) f) }
+    ensures told { IfOk result (λ f. f.duplicates ≡ matrix.now.repeats) }
 {
     match valid(matrix.n, matrix.n, &matrix.a_p, &matrix.a_i) {
         Status::OK => facts_of_sorted(

@@ -7,12 +7,13 @@ ghost use Rattle.std.specs.Prelude.{codes, OnOk, IfSome};
 ghost use Rattle.std.specs.Io.KnownBytes.{Appends};
 ghost use Rattle.amd_report.specs.Json.{bound_members, comparison_members, degree_members, facts_json, known_members};
 ghost use Rattle.amd_report.specs.Json.{matrix_members, member, more_rows, need_members, order_json, other_members};
-ghost use Rattle.amd_report.specs.Json.{pattern_members, quoted, row_list};
-ghost use Rattle.amd_report.specs.Descriptions.{hundredths};
+ghost use Rattle.amd_report.specs.Json.{pattern_members, quoted, row_list, shape_members};
+ghost use Rattle.amd_report.specs.Descriptions.{hundredths, tenths};
 
 use crate::compare::{Comparison, Figure, Needs, figure_of};
 use crate::facts::{Facts, mean_degree};
 use crate::figures::status_phrase;
+use crate::symmetry::symmetry_tenths;
 use amd_types::amd::Info;
 use std::fmt::Display;
 use std::io;
@@ -199,6 +200,31 @@ fn write_pattern_members<W: Write>(info: &Info, duplicates: usize, out: &mut W) 
     Ok(())
 }
 
+/// Writes the pattern symmetry, a share in tenths of a per cent.
+fn write_symmetry_member<W: Write>(share: u128, out: &mut W) -> io::Result<()>
+    ensures { OnOk result (Appends (W.contents out.old) (W.contents out.new)
+        (member (codes ",") (codes "pattern_symmetry_percent") (tenths share))) }
+{
+    let whole = share / 10;
+    let tenths = share % 10;
+    write!(out, ",\"pattern_symmetry_percent\":{whole}.{tenths}")?;
+    Ok(())
+}
+
+/// Writes the members on the shape of the pattern.
+fn write_shape_members<W: Write>(facts: &Facts, out: &mut W) -> io::Result<()>
+    ensures { OnOk result (Appends (W.contents out.old) (W.contents out.new) (shape_members facts.now)) }
+{
+    let widths = facts.bandwidths;
+    write_member(",", "mirrored_entries", &facts.mirrored, out)?;
+    write_symmetry_member(symmetry_tenths(facts), out)?;
+    write_member(",", "lower_bandwidth", &widths.lower, out)?;
+    write_member(",", "upper_bandwidth", &widths.upper, out)?;
+    write_member(",", "profile", &facts.profile, out)?;
+    write_member(",", "components", &facts.components, out)?;
+    Ok(())
+}
+
 /// Writes the mean degree, with two places.
 fn write_mean_member<W: Write>(mean: u128, out: &mut W) -> io::Result<()>
     ensures { OnOk result (Appends (W.contents out.old) (W.contents out.new)
@@ -236,6 +262,7 @@ pub fn write_facts_json<W: Write>(
     ensures { OnOk result (Appends (W.contents out.old) (W.contents out.new) (facts_json facts.now compared)) }
 {
     write_pattern_members(&facts.info, facts.duplicates, out)?;
+    write_shape_members(facts, out)?;
     write_degree_members(facts, out)?;
     write_known_needs(compared, out)?;
     out.write_all(b"}\n")?;

@@ -9,7 +9,9 @@
 #![tactic(auto)]
 
 pub mod canvas;
+pub mod bandwidths;
 pub mod compare;
+mod components;
 pub mod description;
 pub mod drawing;
 pub mod entry_cells;
@@ -24,7 +26,9 @@ pub mod kinds;
 pub mod layout;
 pub mod names;
 pub mod pattern;
+mod profile;
 pub mod rows;
 pub mod shapes;
+pub mod symmetry;
 pub mod tree;
 pub mod tree_picture;

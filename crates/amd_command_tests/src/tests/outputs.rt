@@ -37,6 +37,12 @@ pub const PATH_FACTS: &str = "    rows                                          
     symmetric pattern                                   yes
     entries on the diagonal                             1
     edges                                               2
+    mirrored entries off the diagonal                   4
+    pattern symmetry                                    100.0 %
+    bandwidth below the diagonal                        2
+    bandwidth above the diagonal                        2
+    profile of A + A'                                   2
+    components of A + A'                                1
     greatest degree                                     2
     mean degree                                         1.33
     rows of degree 0                                    0

@@ -33,8 +33,8 @@ const PATH_FACTOR_JSON: &str = concat!(
     "\"rows_placed_last\":0,\"workspace_compactions\":0,",
     "\"at_most\":{\"entries_of_l\":2,\"divisions\":2,\"multiply_subtracts_ldl\":2,\"multiply_subtracts_lu\":2,",
     "\"largest_column\":2},\"ordered\":{\"entries_of_l\":2,\"fill\":0,\"divisions\":2,",
-    "\"multiply_subtracts_ldl\":2,\"multiply_subtracts_lu\":2,\"largest_column\":2},",
-    "\"columns\":[[2,3,1],[1,3,1],[3,0,0]]}\n"
+    "\"multiply_subtracts_ldl\":2,\"multiply_subtracts_lu\":2,\"flops_ldl\":6,\"largest_column\":2,",
+    "\"bytes_of_l\":40},\"columns\":[[2,3,1],[1,3,1],[3,0,0]]}\n"
 );
 
 /// A file whose third line has a row that there is not.

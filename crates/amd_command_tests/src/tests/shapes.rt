@@ -1,0 +1,97 @@
+// What `info` tells of a drawn pattern that is not symmetric and has rows of degree 0. The numbers come from an
+// independent program that follows the definitions over sets of pairs.
+
+use amd::Control;
+use amd_market::reader::read_matrix;
+use amd_report::description::write_facts;
+use amd_report::facts::facts_of;
+use amd_report::json::write_facts_json;
+use amd_testing::check;
+use std::test::Fail;
+
+/// The pattern.
+const DRAWN: &str = "%%MatrixMarket matrix coordinate pattern general
+24 24 38
+20 17
+19 1
+8 17
+11 20
+7 4
+9 12
+22 22
+8 20
+12 12
+17 23
+13 4
+18 15
+2 14
+6 6
+4 16
+5 8
+15 18
+22 10
+6 3
+1 10
+1 1
+17 5
+12 9
+10 19
+11 2
+20 8
+8 11
+4 7
+16 4
+13 10
+10 22
+15 15
+3 3
+19 10
+9 3
+9 6
+23 20
+24 24
+";
+
+/// What is told of it.
+const DRAWN_FACTS: &str = "    rows                                                24
+    entries                                             38
+    duplicates dropped                                  0
+    symmetric pattern                                   no
+    entries on the diagonal                             7
+    edges                                               24
+    mirrored entries off the diagonal                   14
+    pattern symmetry                                    45.1 %
+    bandwidth below the diagonal                        18
+    bandwidth above the diagonal                        12
+    profile of A + A'                                   132
+    components of A + A'                                6
+    greatest degree                                     4
+    mean degree                                         2.00
+    rows of degree 0                                    2
+    dense threshold                                     24
+    rows above the threshold                            0
+";
+
+/// The same as JSON.
+const DRAWN_MEMBERS: &str =
+    "{\"rows\":24,\"entries\":38,\"duplicates_dropped\":0,\"symmetric_pattern\":false,\
+\"entries_on_the_diagonal\":7,\"edges\":24,\"mirrored_entries\":14,\"pattern_symmetry_percent\":45.1,\
+\"lower_bandwidth\":18,\"upper_bandwidth\":12,\"profile\":132,\"components\":6,\"greatest_degree\":4,\
+\"mean_degree\":2.00,\"rows_of_degree_0\":2,\"dense_threshold\":24,\"rows_above_the_threshold\":0}
+";
+
+#[test]
+fn shape_of_a_drawn_pattern(rt: HostRuntime) -> Result<(), Fail> {
+    let alloc = rt.alloc();
+    let matrix = read_matrix(alloc, DRAWN.as_bytes())?;
+    let Ok(facts) = facts_of(alloc, &matrix, &Control::default()) else {
+        panic!(&rt; "no facts");
+    };
+    let mut text = Vec::new(alloc);
+    check!(&rt; write_facts(&facts, &mut text).is_ok());
+    check!(&rt; text.as_slice() == DRAWN_FACTS.as_bytes());
+    let mut members = Vec::new(alloc);
+    check!(&rt; write_facts_json(&facts, None, &mut members).is_ok());
+    check!(&rt; members.as_slice() == DRAWN_MEMBERS.as_bytes());
+    Ok(())
+}

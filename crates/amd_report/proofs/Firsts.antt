@@ -1,0 +1,162 @@
+-- The first of the row itself and of those that it was met beside.
+use Rattle.std.proofs.Common.{◌≡◌, ◌+◌, ◌-◌, ◌<◌, ◌≤◌, ◌⊎◌, inl, inr, ℕ, Bool, List, map, pos, length, set, refl, sym}
+use Rattle.std.proofs.Common.{subst, ◌∙◌, arith, not, eqb, ◌&&◌, ◌||◌}
+use Rattle.std.specs.Prelude.{slice_index, min}
+use Rattle.std.proofs.lemmas.Bool.{and_parts, and_from, or_cases, or_left, or_right, cases_Bool, cases_eq, cases_lt, ne_eqb}
+use Rattle.std.proofs.lemmas.List.{get_or-set_same, get_or-set_other, length-set}
+use Rattle.amd_model.specs.Below.{sum_below}
+use Rattle.amd_model.specs.Input.Columns.{IsColumnForm}
+use Rattle.amd_model.specs.Input.Pattern.{is_pair, graph_of}
+use Rattle.amd_report.specs.Passes.{AreFirsts, Met, MetBeside}
+use Rattle.amd_report.specs.Shapes.{IsProfile}
+use Rattle.amd_report.proofs.Passing.{met-begin, met-begun, met-end, met-ended, met-kept, met-new, met-next, met-none, met-pair, pair-met}
+
+-- one number of a list was lowered to another one, where it was greater
+record Lowered (old new : List ℕ) (at to : ℕ) : Type 0 where
+  long : length new ≡ length old
+  less : (k : ℕ) → slice_index new k ≤ slice_index old k
+  there : slice_index new at ≤ to
+  only : (k : ℕ) → (slice_index new k ≡ slice_index old k) ⊎ ((k ≡ at) × (slice_index new k ≡ to) × (to < slice_index old k))
+
+lowered : (old : List ℕ) (at to : ℕ) → at < length old → Lowered old (set old at (min (slice_index old at) to)) at to
+lowered old at to l =
+    let new : List ℕ = set old at (min (slice_index old at) to) in
+    let same : slice_index new at ≡ min (slice_index old at) to = get_or-set_same old at _ 0 l in
+    record {
+      long = length-set _ _ _;
+      less = λ k. elim (cases_eq k at) [
+        | inl e ↦ rw e (omega (arith, same))
+        | inr n ↦ (let q : slice_index new k ≡ slice_index old k = get_or-set_other old at k _ 0 n in omega (arith, q))
+      ];
+      there = omega (arith, same);
+      only = λ k. elim (cases_eq k at) [
+        | inl e ↦ elim (cases_lt to (slice_index old at)) [
+          | inl m ↦ rw e (inr (refl, omega (arith, same, m), m))
+          | inr m ↦ rw e (inl (omega (arith, same, m)))
+        ]
+        | inr n ↦ inl (get_or-set_other old at k _ 0 n)
+      ];
+    }
+
+module _ (ap' ai : List ℕ) where
+  both : List ℕ → ℕ → ℕ → Type 0
+  both firsts i c = (slice_index firsts i ≤ c) × (slice_index firsts c ≤ i)
+
+  met-both : (j place : ℕ) (firsts : List ℕ) → AreFirsts ap' ai j place firsts → (i c : ℕ) → Met ap' ai j place i c → both firsts i c
+  unfolding both
+  met-both j place firsts h i c m = (h.low i c (inl m), h.low c i (inr m))
+
+  low-of : (j place : ℕ) (firsts : List ℕ) → ((i c : ℕ) → Met ap' ai j place i c → both firsts i c) →
+      (i c : ℕ) → MetBeside ap' ai j place i c → slice_index firsts i ≤ c
+  unfolding both
+  low-of j place firsts h i c m = elim m [ inl a ↦ (h i c a).0 | inr b ↦ (h c i b).1 ]
+
+  -- a row that was met beside another one stays so
+  beside : (j place k after i c : ℕ) → ((a b : ℕ) → Met ap' ai j place a b → Met ap' ai k after a b) → MetBeside ap' ai j place i c →
+      MetBeside ap' ai k after i c
+  beside j place k after i c step m = elim m [ inl a ↦ inl (step i c a) | inr b ↦ inr (step c i b) ]
+
+  found-of : (j place k after : ℕ) (firsts : List ℕ) → ((a b : ℕ) → Met ap' ai j place a b → Met ap' ai k after a b) →
+      AreFirsts ap' ai j place firsts → (i : ℕ) → i < length firsts → (slice_index firsts i ≡ i)
+      ⊎ ((slice_index firsts i < i) × MetBeside ap' ai k after i (slice_index firsts i))
+  found-of j place k after firsts step h i l = elim (h.found i l) [
+    | inl e ↦ inl e
+    | inr f ↦ inr (f.0, beside j place k after i (slice_index firsts i) step f.1)
+  ]
+
+  pub firsts-none : (firsts : List ℕ) → ((i : ℕ) → i < length firsts → slice_index firsts i ≡ i) → AreFirsts ap' ai 0 0 firsts
+  firsts-none firsts own = record {
+    low = low-of 0 0 firsts (met-none ap' ai (both firsts));
+    found = λ i l. inl (own i l);
+  }
+
+  pub firsts-begin : (j : ℕ) (firsts : List ℕ) → AreFirsts ap' ai j 0 firsts → AreFirsts ap' ai j (slice_index ap' j) firsts
+  firsts-begin j firsts h = record {
+    low = low-of j (slice_index ap' j) firsts (met-begin ap' ai (both firsts) j (met-both j 0 firsts h));
+    found = found-of j 0 j (slice_index ap' j) firsts (met-begun ap' ai j) h;
+  }
+
+  pub firsts-end : (j place : ℕ) (firsts : List ℕ) → slice_index ap' (j + 1) ≤ place → AreFirsts ap' ai j place firsts →
+      AreFirsts ap' ai (j + 1) 0 firsts
+  firsts-end j place firsts past h = record {
+    low = low-of (j + 1) 0 firsts (met-end ap' ai (both firsts) j place past (met-both j place firsts h));
+    found = found-of j place (j + 1) 0 firsts (met-ended ap' ai j place) h;
+  }
+
+  -- one entry more
+  pub firsts-next : (j place : ℕ) (old : List ℕ) → slice_index ap' j ≤ place → place < slice_index ap' (j + 1) →
+      slice_index ai place < length old → j < length old → AreFirsts ap' ai j place old → (mid new : List ℕ) →
+      mid ≡ set old (slice_index ai place) (min (slice_index old (slice_index ai place)) j) →
+      new ≡ set mid j (min (slice_index mid j) (slice_index ai place)) → AreFirsts ap' ai j (place + 1) new
+  unfolding both
+  firsts-next j place old low high li lj h mid new m w =
+      let i : ℕ = slice_index ai place in
+      let first : Lowered old mid i j = subst (λ z. Lowered old z i j) (sym m) (lowered old i j li) in
+      let long = first.long in
+      let second : Lowered mid new j i = subst (λ z. Lowered mid z j i) (sym w) (lowered mid j i (omega (arith, long, lj))) in
+      let more = second.long in
+      let met = met-new ap' ai j place low high in
+      let most : (k : ℕ) → k < length old → slice_index old k ≤ k =
+      λ k l. elim (h.found k l) [ inl e ↦ omega (arith, e) | inr f ↦ (let g = f.0 in omega (arith, g)) ] in
+      record {
+        low = low-of j (place + 1) new (met-next ap' ai (both new) j place
+            (λ a c x. (let b = met-both j place old h a c x in
+            let p = first.less a in let q = second.less a in let r = first.less c in let s = second.less c in
+            let u = b.0 in let v = b.1 in
+            (omega (arith, p, q, u), omega (arith, r, s, v))))
+            ((let p = first.there in let q = second.less i in omega (arith, p, q)), second.there));
+        found = λ k l. elim (second.only k) [
+          | inl same ↦ elim (first.only k) [
+            | inl as_before ↦ (let is = same ∙ as_before in elim (h.found k (omega (arith, l, more, long))) [
+              | inl e ↦ inl (is ∙ e)
+              | inr f ↦ inr (
+                (let g = f.0 in omega (arith, is, g)),
+                subst (MetBeside ap' ai j (place + 1) k) (sym is)
+                    (beside j place j (place + 1) k (slice_index old k) (met-kept ap' ai j place) f.1),
+              )
+            ])
+            | inr f ↦ (let is = same ∙ f.1 in let top = most k (omega (arith, l, more, long)) in let under = f.2 in
+                inr (
+                  omega (arith, is, top, under),
+                  subst (MetBeside ap' ai j (place + 1) k) (sym is)
+                      (subst (λ z. MetBeside ap' ai j (place + 1) z j) (sym f.0) (inl met)),
+                ))
+          ]
+          | inr f ↦ (let is = f.1 in let top = most k (omega (arith, l, more, long)) in let under = f.2 in let down = first.less k in
+              inr (
+                omega (arith, is, top, under, down),
+                subst (MetBeside ap' ai j (place + 1) k) (sym is)
+                    (subst (λ z. MetBeside ap' ai j (place + 1) z i) (sym f.0) (inr met)),
+              ))
+        ];
+      }
+
+-- the first ones make the profile
+pub profile-is : (n : ℕ) (ap' ai : List ℕ) (form : IsColumnForm (pos n) n (map pos ap') (map pos ai)) (firsts : List ℕ) →
+    length firsts ≡ n → AreFirsts ap' ai n 0 firsts → (profile : ℕ) → profile ≡ sum_below (length firsts) (λ i. i - slice_index firsts i) →
+    IsProfile (graph_of n (map pos ap') (map pos ai)) profile
+unfolding graph_of
+profile-is n ap' ai form firsts long h profile sum =
+    let pair : ℕ → ℕ → Bool = is_pair n (map pos ap') (map pos ai) in
+    record {
+      first = slice_index firsts;
+      before = λ i j l lt. elim (cases_Bool (not (eqb i j) && (pair i j || pair j i))) [
+        | inl e ↦ absurd (let low = h.low i j (elim (or_cases _ _ (and_parts (not (eqb i j)) _ e).1) [
+          | inl q ↦ inl (pair-met n ap' ai form i j q)
+          | inr q ↦ inr (pair-met n ap' ai form j i q)
+        ]) in omega (arith, low, lt))
+        | inr e ↦ e
+      ];
+      found = λ i l. elim (h.found i (omega (arith, l, long))) [
+        | inl e ↦ inl e
+        | inr f ↦ (let under = f.0 in let j : ℕ = slice_index firsts i in
+            inr (
+              under,
+              and_from (not (eqb i j)) _ (rw (ne_eqb i j (λ e. omega (arith, e, under))) refl) (elim f.1 [
+                | inl m ↦ or_left _ _ (met-pair n ap' ai form i j m)
+                | inr m ↦ or_right _ _ (met-pair n ap' ai form j i m)
+              ]),
+            ))
+      ];
+      sum = rw long at sum;
+    }

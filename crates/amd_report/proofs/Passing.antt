@@ -1,0 +1,129 @@
+-- A pass over the entries of a column form: one place more, one column more, and the entries that it met in the end.
+use Rattle.std.proofs.Common.{◌≡◌, ◌+◌, ◌<◌, ◌≤◌, inl, inr, ℕ, true, List, [], ◌∷◌, map, pos, get_or, refl, sym, subst, ap, ◌∙◌}
+use Rattle.std.proofs.Common.{arith}
+use Rattle.std.specs.Prelude.{slice_index}
+use Rattle.std.proofs.lemmas.Bool.{cases_eq}
+use Rattle.std.proofs.lemmas.Int.{ints}
+use Rattle.std.proofs.lemmas.List.{length-map}
+use Rattle.amd_model.specs.Input.Columns.{IsColumnForm}
+use Rattle.amd_model.specs.Input.Pattern.{is_pair}
+use Rattle.amd_types.specs.Counts.{counts, is_entry}
+use Rattle.amd_edges.proofs.Forms.{same_pair, pointer_within, row_in, row_is}
+use Rattle.amd_edges.proofs.Places.{entry_from, entry_gives}
+use Rattle.amd_report.specs.Passes.{IsForm, Met}
+
+-- counts are read back as they were
+pub counts-back : (xs : List ℕ) → counts (map pos xs) ≡ xs
+counts-back [] = refl
+counts-back (x ∷ xs) = ap (λ ys. x ∷ ys) (counts-back xs)
+
+module _ (ap' ai : List ℕ) where
+  -- what holds of the entries that were met, and of one more
+  pub met-next : (P : ℕ → ℕ → Type 0) (j place : ℕ) → ((i c : ℕ) → Met ap' ai j place i c → P i c) →
+      P (slice_index ai place) j → (i c : ℕ) → Met ap' ai j (place + 1) i c → P i c
+  met-next P j place old new i c m = elim m.before [
+    | inl earlier ↦ old i c (record { at = m.at; from = m.from; to = m.to; row = m.row; before = inl earlier })
+    | inr here ↦ elim (cases_eq m.at place) [
+      | inl same ↦ subst (λ r. P r c) (ap (slice_index ai) (sym same) ∙ m.row) (subst (P (slice_index ai place)) (sym here.0) new)
+      | inr ne ↦ old i c (record {
+        at = m.at;
+        from = m.from;
+        to = m.to;
+        row = m.row;
+        before = inr (here.0, (let h = here.1 in omega (arith, h, ne)));
+      })
+    ]
+  ]
+
+  -- a column begins at its first place
+  pub met-begin : (P : ℕ → ℕ → Type 0) (j : ℕ) → ((i c : ℕ) → Met ap' ai j 0 i c → P i c) →
+      (i c : ℕ) → Met ap' ai j (slice_index ap' j) i c → P i c
+  met-begin P j old i c m = elim m.before [
+    | inl earlier ↦ old i c (record { at = m.at; from = m.from; to = m.to; row = m.row; before = inl earlier })
+    | inr here ↦ absurd (let from = subst (λ k. slice_index ap' k ≤ m.at) here.0 m.from in let h = here.1 in omega (arith, from, h))
+  ]
+
+  -- and ends behind its last one
+  pub met-end : (P : ℕ → ℕ → Type 0) (j place : ℕ) → slice_index ap' (j + 1) ≤ place →
+      ((i c : ℕ) → Met ap' ai j place i c → P i c) → (i c : ℕ) → Met ap' ai (j + 1) 0 i c → P i c
+  met-end P j place past old i c m = elim m.before [
+    | inl earlier ↦ elim (cases_eq c j) [
+      | inl same ↦ old i c (record {
+        at = m.at;
+        from = m.from;
+        to = m.to;
+        row = m.row;
+        before = inr (same, (let to = subst (λ k. m.at < slice_index ap' (k + 1)) same m.to in omega (arith, to, past)));
+      })
+      | inr ne ↦ old i c (record { at = m.at; from = m.from; to = m.to; row = m.row; before = inl (omega (arith, earlier, ne)) })
+    ]
+    | inr here ↦ absurd (let h = here.1 in omega (arith, h))
+  ]
+
+  -- none were met before the first column
+  pub met-none : (P : ℕ → ℕ → Type 0) → (i c : ℕ) → Met ap' ai 0 0 i c → P i c
+  met-none P i c m = absurd (elim m.before [ inl h ↦ omega (arith, h) | inr h ↦ (let l = h.1 in omega (arith, l)) ])
+
+  -- an entry that was met stays so
+  pub met-new : (j place : ℕ) → slice_index ap' j ≤ place → place < slice_index ap' (j + 1) →
+      Met ap' ai j (place + 1) (slice_index ai place) j
+  met-new j place low high =
+      record { at = place; from = low; to = high; row = refl; before = inr (refl, omega arith) }
+
+  pub met-kept : (j place i c : ℕ) → Met ap' ai j place i c → Met ap' ai j (place + 1) i c
+  met-kept j place i c m = record {
+    at = m.at;
+    from = m.from;
+    to = m.to;
+    row = m.row;
+    before = elim m.before [ inl h ↦ inl h | inr h ↦ inr (h.0, (let l = h.1 in omega (arith, l))) ];
+  }
+
+  pub met-begun : (j i c : ℕ) → Met ap' ai j 0 i c → Met ap' ai j (slice_index ap' j) i c
+  met-begun j i c m = record {
+    at = m.at;
+    from = m.from;
+    to = m.to;
+    row = m.row;
+    before = elim m.before [ inl h ↦ inl h | inr h ↦ absurd (let l = h.1 in omega (arith, l)) ];
+  }
+
+  pub met-ended : (j place i c : ℕ) → Met ap' ai j place i c → Met ap' ai (j + 1) 0 i c
+  met-ended j place i c m = record {
+    at = m.at;
+    from = m.from;
+    to = m.to;
+    row = m.row;
+    before = inl (elim m.before [ inl h ↦ omega (arith, h) | inr h ↦ (let l = h.0 in omega (arith, l)) ]);
+  }
+
+module _ (n : ℕ) (ap' ai : List ℕ) (form : IsColumnForm (pos n) n (map pos ap') (map pos ai)) where
+  -- the form has counts
+  pub form-counts : IsForm n ap' ai
+  form-counts = record {
+    enough = (let e = form.enough in let long = length-map ap' pos in omega (arith, e, long));
+    within = λ j h. (let w = pointer_within n (map pos ap') (map pos ai) form (j + 1) (omega (arith, h)) in
+        let long = length-map ai pos in
+        let same = ap (λ z. get_or z (j + 1) 0) (counts-back ap') in omega (arith, w, long, same));
+    rows = λ j q h low high. (let same = ap (λ z. get_or z (j + 1) 0) (counts-back ap') in
+        let inside = row_in n (map pos ap') (map pos ai) form j q h (omega (arith, high, same)) in
+        let is = row_is n (map pos ap') (map pos ai) form j q h (omega (arith, high, same)) in
+        let row = ap (λ z. get_or z q 0) (counts-back ai) in
+        let top = inside.1 in
+        omega (arith, ints, top, is, row));
+  }
+
+  entry-of : (i c : ℕ) → is_pair n (map pos ap') (map pos ai) i c ≡ is_entry n ap' ai i c
+  entry-of i c =
+      same_pair n (map pos ap') (map pos ai) form i c ∙ ap (λ z. is_entry n z (counts (map pos ai)) i c) (counts-back ap')
+      ∙ ap (λ z. is_entry n ap' z i c) (counts-back ai)
+
+  -- a pair was met in the end, and what was met is a pair
+  pub pair-met : (i c : ℕ) → is_pair n (map pos ap') (map pos ai) i c ≡ true → Met ap' ai n 0 i c
+  pair-met i c e =
+      let entry = entry_gives ap' ai n i c (sym (entry-of i c) ∙ e) in
+      record { at = entry.0; from = entry.2; to = entry.3; row = entry.4; before = inl entry.1 }
+
+  pub met-pair : (i c : ℕ) → Met ap' ai n 0 i c → is_pair n (map pos ap') (map pos ai) i c ≡ true
+  met-pair i c m = entry-of i c ∙ entry_from ap' ai n i c m.at
+      (elim m.before [ inl h ↦ h | inr h ↦ absurd (let l = h.1 in omega (arith, l)) ]) m.from m.to m.row
