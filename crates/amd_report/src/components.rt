@@ -1,6 +1,6 @@
 // How many components the graph of A + A' has. Each row links to one of its component that is not after it, the first
-// one to itself; an entry joins the components of its row and its column. A search draws links up by one. Source: Tarjan
-// 1975; Tarjan and van Leeuwen 1984.
+// one to itself; an entry joins the components of its row and its column. A search draws links up by one. Source:
+// Tarjan 1975; Tarjan and van Leeuwen 1984.
 
 ghost use Rattle.std.specs.Prelude.{◌≡◌, ◌<◌, ◌+◌, ◌==◌, ℕ, pos, map, length, slice_index, IfOk};
 ghost use Rattle.amd_model.specs.Below.{count_below};

@@ -1,5 +1,5 @@
-// The profile of the pattern of A + A': over the rows the sum of how far before the diagonal the first entry is. Source:
-// George and Liu 1981.
+// The profile of the pattern of A + A': over the rows the sum of how far before the diagonal the first entry is.
+// Source: George and Liu 1981.
 
 ghost use Rattle.std.specs.Prelude.{◌≡◌, ◌<◌, ◌+◌, ◌-◌, ℕ, pos, map, min, length, slice_index, slice_set, IfOk};
 ghost use Rattle.amd_model.specs.Below.{sum_below};

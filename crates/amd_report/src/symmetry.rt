@@ -1,6 +1,6 @@
 // How symmetric a pattern is: how many entries off the diagonal have a mirror, by the figures of the pattern, and which
-// share of them that is. Each edge stands for one entry without a mirror, or for two with one. Source: Davis and Hu 2011
-// (pattern symmetry).
+// share of them that is. Each edge stands for one entry without a mirror, or for two with one. Source: Davis and Hu
+// 2011 (pattern symmetry).
 
 ghost use Rattle.std.specs.Prelude.{◌≡◌, ℕ, ℤ, List};
 ghost use Rattle.amd_input.specs.PatternFigures.{HasPatternFigures};
