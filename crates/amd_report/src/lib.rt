@@ -8,8 +8,8 @@
 //! `amd_command`, which also works out what the factor needs.
 #![tactic(auto)]
 
-pub mod canvas;
 pub mod bandwidths;
+pub mod canvas;
 pub mod compare;
 mod components;
 pub mod description;
