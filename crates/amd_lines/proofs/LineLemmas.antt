@@ -14,7 +14,7 @@ use Rattle.std.proofs.lemmas.List.Elements.{filter-append}
 use Rattle.amd_lines.specs.Words.{words, EndsAt}
 use Rattle.amd_lines.specs.Lines.{BeginsWith, TookLine, line_number, one_line_more}
 use Rattle.amd_lines.specs.Lines.{TakesLine, TakesLines, TakesTelling, TakesNotes, FailsAt, is_note}
-use Rattle.amd_lines.specs.Lines.{tells, telling, rest_of, line_of, EndsLine, HasNoFeed, KeepsRest, MeetsLong, IfLong}
+use Rattle.amd_lines.specs.Lines.{tells, telling, rest_of, line_of, EndsLine, HasNoFeed, KeepsRest, MeetsLong, IfLong, is_long}
 use Rattle.amd_lines.specs.declared.errors.LineCause.{LineCause}
 use Rattle.amd_lines.specs.declared.errors.LineCause.TheVariants as cause
 use Rattle.amd_lines.specs.Blocks.{held_of}
@@ -217,6 +217,7 @@ pub ends-here : {R Z : Type 0} (remaining : R → Option (List ℕ)) (a : LineRe
 ends-here remaining a k none here = record {
   within = (let h = none.high in omega (arith, h));
   some = omega arith;
+  none = λ j l e. none.before j (omega arith) (omega (arith, l)) (eq-eqb _ _ e);
   line = (parts (remaining a.input)).0;
   rest = (parts (remaining a.input)).1;
 }
@@ -259,6 +260,7 @@ pub ends-all : {R Z : Type 0} (remaining : R → Option (List ℕ)) (a : LineRea
 ends-all remaining a k size some none end = record {
   within = omega (arith, size);
   some = some;
+  none = λ j l. none j 0 (omega (arith, size, l));
   line = (parts (remaining a.input) end).0;
   rest = (parts (remaining a.input) end).1;
 }
@@ -279,7 +281,8 @@ ends-all remaining a k size some none end = record {
 pub keeps-none : {R Z : Type 0} (remaining : R → Option (List ℕ)) (a : LineReader R Z) → KeepsRest remaining a a
 keeps-none remaining a = record { counted = refl; longest = refl; kept = known-none (rest_of remaining a) }
 
-same-then : (P : List ℕ → Type 0) (first mid : Option (List ℕ)) → IfSome first (λ bytes. mid ≡ Some bytes) → IfSome mid P → IfSome first P
+pub same-then : (P : List ℕ → Type 0) (first mid : Option (List ℕ)) → IfSome first (λ bytes. mid ≡ Some bytes) → IfSome mid P →
+    IfSome first P
 same-then P None mid h k = tt
 same-then P (Some bytes) mid h k = subst (λ o. IfSome o P) h k
 
@@ -371,6 +374,12 @@ if-long-weaker cause.Long f p = f p
 if-long-weaker cause.Lines f p = tt
 if-long-weaker cause.OutOfMemory f p = tt
 if-long-weaker (cause.Input x) f p = tt
+
+pub long-of : (c : LineCause) {P : Type 0} → is_long c ≡ true → IfLong c P → P
+long-of cause.Long is p = p
+long-of cause.Lines is p = cc
+long-of cause.OutOfMemory is p = cc
+long-of (cause.Input x) is p = cc
 
 -- the next line has so many bytes, and they are too many
 pub long-next : {R Z : Type 0} (remaining : R → Option (List ℕ)) (a : LineReader R Z) (count n : ℕ) → EndsLine remaining a count →

@@ -119,7 +119,7 @@ place-is p xs i h = at (ltb (position_or_len p xs) (length xs)) h
     at true e = cc
     at false e = cc
 
-not-true : (b : Bool) → not b ≡ true → b ≡ false
+pub not-true : (b : Bool) → not b ≡ true → b ≡ false
 not-true false h = refl
 not-true true h = cc
 
@@ -143,7 +143,7 @@ parts-off p xs text w r i k end h at_text at_end at_k at_w at_r =
     )
 
 -- the first part of a list whose first element does not pass begins with that element
-head-of : (p : ℕ → Bool) (x : ℕ) (xs : List ℕ) → p x ≡ false →
+pub head-of : (p : ℕ → Bool) (x : ℕ) (xs : List ℕ) → p x ≡ false →
     parts p (x ∷ xs) ≡ (x ∷ take (position_or_len p xs) xs) ∷ parts p (drop (position_or_len p (x ∷ xs)) (x ∷ xs))
 head-of p x xs e =
     let some : 0 < position_or_len p (x ∷ xs) = rw e (omega arith) in

@@ -1,6 +1,6 @@
 -- The lines of a text, and what a reader takes off its input, where the bytes of that are known.
 use Rattle.std.specs.Prelude.{◌≡◌, ◌≢◌, ◌==◌, not, ℕ, Bool, true, false, Option, None, Some, IfSome, List, [], ◌∷◌, ◌++◌, filter}
-use Rattle.std.specs.Prelude.{slice_index, ◌<◌, ◌≤◌, ◌+◌, ◌-◌, ◌^◌, min, length, take, drop, if◌then◌else◌}
+use Rattle.std.specs.Prelude.{All, slice_index, ◌<◌, ◌≤◌, ◌+◌, ◌-◌, ◌^◌, min, length, take, drop, if◌then◌else◌}
 use Rattle.std.specs.Io.BufRead.{take_through, drop_through}
 use Rattle.std.specs.Io.KnownBytes.{prepend_known}
 use Rattle.amd_lines.specs.Words.{words}
@@ -72,6 +72,7 @@ HasNoFeed count bytes = (k : ℕ) → k < count → slice_index bytes k ≢ 10
 pub record EndsLine {R Z : Type 0} (remaining : R → Option (List ℕ)) (old : LineReader R Z) (count : ℕ) : Type 0 where
   pub within : count ≤ length (held_of old.block)
   pub some : 0 < count
+  pub none : (k : ℕ) → k + 1 < count → slice_index (held_of old.block) k ≢ 10
   pub line : IfSome (rest_of remaining old) (λ bytes. take_through 10 bytes ≡ take count (held_of old.block))
   pub rest : IfSome (rest_of remaining old) (λ bytes.
       prepend_known (drop count (held_of old.block)) (remaining old.input) ≡ Some (drop_through 10 bytes))
@@ -135,7 +136,70 @@ pub record MeetsLong {R Z : Type 0} (remaining : R → Option (List ℕ)) (old :
   pub took : IfSome (rest_of remaining old) (λ bytes. BeginsWith (before ++ line ∷ []) bytes rest)
   pub long : old.longest < length line
 
--- what holds where a line is said to be too long
+-- a reader holds more bytes of the next line than a line may have
+pub record HoldsLong {R Z : Type 0} (r : LineReader R Z) : Type 0 where
+  pub more : r.longest < length (held_of r.block)
+  pub front : HasNoFeed r.longest (held_of r.block)
+
+-- the bytes before a reader are the same, and more of the next line is held than a line may have
+pub record StandsLong {R Z : Type 0} (remaining : R → Option (List ℕ)) (old new : LineReader R Z) : Type 0 where
+  pub kept : IfSome (rest_of remaining old) (λ bytes. rest_of remaining new ≡ Some bytes)
+  pub holds : HoldsLong new
+
+-- the bytes from the front of a line on, whatever follows them, leave open whether it says something, or tell it
+abbrev pub NoteSoFar : Option ℕ → Option Bool → List ℕ → Type 0
+NoteSoFar mark None front = (tail : List ℕ) → words (front ++ tail) ≡ words tail
+NoteSoFar mark (Some b) front = (tail : List ℕ) → is_note mark (words (front ++ tail)) ≡ b
+
+-- bytes up to and with the first line feed, or without one
+abbrev pub IsPiece : List ℕ → Bool → Type 0
+IsPiece piece true = (front : List ℕ) × ((piece ≡ front ++ 10 ∷ []) × All (λ b. b ≢ 10) front)
+IsPiece piece false = All (λ b. b ≢ 10) piece
+
+-- the bytes that were held, up to and with the first line feed, were passed, and all of them where there is none
+pub record PassesPiece {R Z : Type 0} (old new : LineReader R Z) (ends : Bool) : Type 0 where
+  pub parts : held_of old.block ≡ line_of new ++ held_of new.block
+  pub piece : IsPiece (line_of new) ends
+  pub rest : ends ≡ false → held_of new.block ≡ []
+  pub counted : new.lines ≡ old.lines
+  pub longest : new.longest ≡ old.longest
+  pub input : new.input ≡ old.input
+
+-- the next line was passed, and says nothing
+pub record PassesNote {R Z : Type 0} (mark : Option ℕ) (remaining : R → Option (List ℕ)) (old new : LineReader R Z) : Type 0
+  where
+    pub line : List ℕ
+    pub took : IfSome (rest_of remaining old) (λ bytes. BeginsWith (line ∷ []) bytes (rest_of remaining new))
+    pub note : is_note mark (words line) ≡ true
+
+-- the next line has more bytes than a line may have, and says something
+pub record TellsLong {R Z : Type 0} (mark : Option ℕ) (remaining : R → Option (List ℕ)) (old : LineReader R Z) : Type 0
+  where
+    pub line : List ℕ
+    pub rest : Option (List ℕ)
+    pub took : IfSome (rest_of remaining old) (λ bytes. BeginsWith (line ∷ []) bytes rest)
+    pub long : old.longest < length line
+    pub says : is_note mark (words line) ≡ false
+
+-- one of them
+abbrev pub PassesIf : {R Z : Type 0} → Option ℕ → (R → Option (List ℕ)) → LineReader R Z → LineReader R Z → Bool → Type 0
+PassesIf mark remaining old new true = PassesNote mark remaining old new
+PassesIf mark remaining old new false = TellsLong mark remaining old
+
+-- lines without words and notes were read, and the next line, of this number, says something and has more bytes than a
+-- line may have
+pub record MeetsTelling {R Z : Type 0} (mark : Option ℕ) (remaining : R → Option (List ℕ)) (old : LineReader R Z)
+    (number : ℕ) : Type 0 where
+  pub before : List (List ℕ)
+  pub passed : telling mark before ≡ []
+  pub meets : MeetsLong remaining old before number
+  pub says : is_note mark (words meets.line) ≡ false
+
+-- whether a line is said to be too long, and what holds then
+abbrev pub is_long : LineCause → Bool
+is_long cause.Long = true
+is_long c = false
+
 abbrev pub IfLong : LineCause → Type 0 → Type 0
 IfLong cause.Long P = P
 IfLong c P = Unit {0}

@@ -6,7 +6,8 @@
 //! or, where that is what is wrong, the one that is too long.
 //!
 //! Words are parted by ASCII white space, which takes in the line's end. A line says nothing, and may be passed over,
-//! where it has no word or is a note: its first word begins with a byte that the caller names.
+//! where it has no word or is a note: its first word begins with a byte that the caller names. Such a line may have any
+//! length: it is passed block by block, and none of it is kept.
 #![tactic(auto)]
 
 mod blocks;

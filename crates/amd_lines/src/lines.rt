@@ -2,18 +2,19 @@
 // bytes that was read in one go. Called by the readers of formats: `amd_cases`, `amd_market`, and through the second
 // the lists of rows of `amd_request`.
 
-ghost use Rattle.std.specs.Prelude.{◌≡◌, ◌≢◌, ◌≤◌, ◌<◌, [], ℕ, List, All, IfOk, IfErr, IfSome, IsTrue, length, take, true};
+ghost use Rattle.std.specs.Prelude.{◌≡◌, ◌≢◌, ◌≤◌, ◌<◌, ◌++◌, ◌↔◌, [], ℕ, List, Some, All, IfOk, IfErr, IfSome, IsTrue, length, take, true, false};
 ghost use Rattle.std.specs.Io.KnownBytes.{IsAtEnd};
 ghost use Rattle.memchr.specs.Find.{IsFirstByte, is_byte};
 ghost use Rattle.amd_lines.specs.Words.{words};
 ghost use Rattle.amd_lines.specs.Blocks.{held_of};
 ghost use Rattle.amd_lines.specs.Lines.{TakesLine, TakesNext, FailsAt, EndsLine, HasNoFeed, is_note};
 ghost use Rattle.amd_lines.specs.Lines.{one_line_more, lines_read, line_of, rest_of, longest_of};
-ghost use Rattle.amd_lines.specs.Lines.{MeetsLong, IfLong, telling};
+ghost use Rattle.amd_lines.specs.Lines.{MeetsLong, MeetsTelling, IfLong, StandsLong, HoldsLong, KeepsRest};
+ghost use Rattle.amd_lines.specs.Lines.{NoteSoFar, PassesPiece, PassesIf, is_long};
 
 use crate::blocks::Block;
 use crate::errors::{LineCause, LineError};
-use crate::words::first_letter;
+use crate::words::{first_letter, word_start};
 use memchr::memchr;
 use std::alloc::Allocator;
 use std::io;
@@ -30,6 +31,41 @@ fn is_note(line: &[u8], mark: Option<u8>) -> bool
         None => false,
         Some(byte) => letter == byte,
     }
+}
+
+/// Whether a line says nothing, as far as the bytes at its front tell: `None` where they have no word.
+fn note_at(front: &[u8], mark: Option<u8>) -> Option<bool>
+    ensures { NoteSoFar mark result front.now }
+{
+    let place = word_start(front)?;
+    match mark {
+        None => Some(false),
+        Some(byte) => Some(front[place] == byte),
+    }
+}
+
+/// The same of a front and more bytes, where it is known of the front.
+fn note_behind(known: Option<bool>, more: &[u8], mark: Option<u8>) -> Option<bool>
+    ensures { (front : List ℕ) → NoteSoFar mark known front → NoteSoFar mark result (front ++ more.now) }
+{
+    match known {
+        Some(is) => Some(is),
+        None => note_at(more, mark),
+    }
+}
+
+/// Whether a line is known to say something.
+fn is_telling(known: Option<bool>) -> bool
+    ensures { IsTrue result ↔ known ≡ Some false }
+{
+    matches!(known, Some(false))
+}
+
+/// Whether a line was not read because it is too long.
+fn is_long(cause: &LineCause) -> bool
+    ensures { result ≡ is_long cause.now }
+{
+    matches!(cause, LineCause::Long)
 }
 
 /// Where the first line feed stands in bytes of which the first `seen` are none.
@@ -109,6 +145,7 @@ impl<R: Read + Drop, A: Allocator> LineReader<R, A> {
         ensures named { result.line ≡ one_line_more (lines_read self.old) }
         ensures counted { result.line ≡ lines_read self.new }
         ensures longest { longest_of self.new ≡ longest_of self.old }
+        ensures rest { (self.new.block ≡ self.old.block) × (self.new.input ≡ self.old.input) }
     {
         let line = self.lines.saturating_add(1);
         self.lines = line;
@@ -126,6 +163,7 @@ impl<R: Read + Drop, A: Allocator> LineReader<R, A> {
         ensures fails { IfErr result (λ e. FailsAt R.remaining self.old e.line) }
         ensures counted { IfErr result (λ e. e.line ≡ lines_read self.new) }
         ensures long { IfErr result (λ e. IfLong e.cause (MeetsLong R.remaining self.old [] e.line)) }
+        ensures stands { IfErr result (λ e. IfLong e.cause (StandsLong R.remaining self.old self.new)) }
         ensures longest { longest_of self.new ≡ longest_of self.old }
     {
         if count > self.longest {
@@ -145,6 +183,7 @@ impl<R: Read + Drop, A: Allocator> LineReader<R, A> {
         ensures fails { IfErr result (λ e. FailsAt R.remaining self.old e.line) }
         ensures counted { IfErr result (λ e. e.line ≡ lines_read self.new) }
         ensures long { IfErr result (λ e. IfLong e.cause (MeetsLong R.remaining self.old [] e.line)) }
+        ensures stands { IfErr result (λ e. IfLong e.cause (StandsLong R.remaining self.old self.new)) }
         ensures longest { longest_of self.new ≡ longest_of self.old }
     {
         let count = self.block.held().len();
@@ -188,6 +227,7 @@ impl<R: Read + Drop, A: Allocator> LineReader<R, A> {
         ensures fails { IfErr result (λ e. FailsAt R.remaining self.old e.line) }
         ensures counted { IfErr result (λ e. e.line ≡ lines_read self.new) }
         ensures long { IfErr result (λ e. IfLong e.cause (MeetsLong R.remaining self.old [] e.line)) }
+        ensures stands { IfErr result (λ e. IfLong e.cause (StandsLong R.remaining self.old self.new)) }
         ensures longest { longest_of self.new ≡ longest_of self.old }
     {
         let mut seen = 0;
@@ -209,8 +249,70 @@ impl<R: Read + Drop, A: Allocator> LineReader<R, A> {
         Err(self.at_line(LineCause::Lines))
     }
 
+    /// Passes what is held up to and with the first line feed, or all of it, and says whether there was one.
+    fn pass_piece(&mut self) -> bool
+        ensures { PassesPiece self.old self.new result }
+    {
+        let held = self.block.held();
+        match memchr(b'\n', held) {
+            Some(place) => {
+                self.block.pass(place + 1);
+                true
+            }
+            None => {
+                let count = held.len();
+                self.block.pass(count);
+                false
+            }
+        }
+    }
+
+    /// Reads more bytes, and says whether there may be more behind them.
+    fn read_more(&mut self) -> Result<bool, LineError>
+        ensures keeps { IfOk result (λ _. KeepsRest R.remaining self.old self.new) }
+        ensures held { IfOk result (λ _. (more : List ℕ) × (held_of self.new.block ≡ held_of self.old.block ++ more)) }
+        ensures end { IfOk result (λ some. some ≡ false → (held_of self.new.block ≡ held_of self.old.block) ×
+            IsAtEnd (R.remaining self.new.input)) }
+        ensures named { IfErr result (λ e. e.line ≡ lines_read self.old) }
+        ensures cause { IfErr result (λ e. IfLong e.cause ⊥) }
+        ensures counted { lines_read self.new ≡ lines_read self.old }
+    {
+        match self.block.fill(&mut self.input) {
+            Ok(0) => Ok(false),
+            Ok(_) => Ok(true),
+            Err(error) if error.kind() == ErrorKind::Interrupted => Ok(true),
+            Err(error) => Err(self.at_input(error)),
+        }
+    }
+
+    /// Passes the next line, which is too long, piece by piece where it says nothing, and says whether it does not.
+    fn pass_note(&mut self, mark: Option<u8>) -> Result<bool, LineError>
+        requires { HoldsLong self.old }
+        ensures passes { IfOk result (PassesIf mark R.remaining self.old self.new) }
+        ensures named { IfErr result (λ e. e.line ≡ lines_read self.old) }
+        ensures cause { IfErr result (λ e. IfLong e.cause ⊥) }
+        ensures counted { lines_read self.new ≡ lines_read self.old }
+        ensures longest { IfOk result (λ _. longest_of self.new ≡ longest_of self.old) }
+    {
+        let mut told = None;
+        'pieces: for _ in 0..u64::MAX {
+            let ends = self.pass_piece();
+            told = note_behind(told, self.line(), mark);
+            if is_telling(told) {
+                return Ok(false);
+            }
+            if ends {
+                return Ok(true);
+            }
+            if !self.read_more()? {
+                return Ok(true);
+            }
+        }
+        Err(self.at_line(LineCause::Lines))
+    }
+
     /// Reads lines up to the next one that says something, and says whether there was one. The byte that marks a note
-    /// may be left out: then a line with a word says something.
+    /// may be left out: then a line with a word says something. A line that says nothing may have any length.
     ///
     /// # Errors
     ///
@@ -218,16 +320,25 @@ impl<R: Read + Drop, A: Allocator> LineReader<R, A> {
     pub fn take_telling(&mut self, mark: Option<u8>) -> Result<bool, LineError>
         ensures takes { IfOk result (TakesNext mark R.remaining self.old self.new) }
         ensures fails { IfErr result (λ e. FailsAt R.remaining self.old e.line) }
-        ensures long { IfErr result (λ e. IfLong e.cause ((before : List (List ℕ)) ×
-            (telling mark before ≡ []) × MeetsLong R.remaining self.old before e.line)) }
+        ensures long { IfErr result (λ e. IfLong e.cause (MeetsTelling mark R.remaining self.old e.line)) }
         ensures counted { IfErr result (λ e. e.line ≡ lines_read self.new) }
     {
         'lines: for _ in 0..u64::MAX {
-            if !self.take_line()? {
-                return Ok(false);
-            }
-            if !is_note(self.line(), mark) {
-                return Ok(true);
+            match self.take_line() {
+                Ok(false) => return Ok(false),
+                Ok(true) => {
+                    if !is_note(self.line(), mark) {
+                        return Ok(true);
+                    }
+                }
+                Err(error) => {
+                    if !is_long(&error.cause) {
+                        return Err(error);
+                    }
+                    if !self.pass_note(mark)? {
+                        return Err(error);
+                    }
+                }
             }
         }
         Err(self.at_line(LineCause::Lines))

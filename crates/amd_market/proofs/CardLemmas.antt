@@ -261,7 +261,8 @@ Pointed front digits w = SpellsNumber front (pos w) × ((m : ℕ) × SpellsNumbe
 pub width-parts : (back front digits : List ℕ) → back ≡ front ++ 46 ∷ digits → All (λ b. is_point b ≡ false) front → (w : ℕ) →
     SpellsWidth back w → Pointed front digits w
 width-parts back front digits parts none w h = elim h [
-  | bare s ↦ absurd (none-at is_point front digits 46 (subst (NoneOf is_point) parts (number-none is_point point-foreign back s.numeral.1)) refl)
+  | bare s ↦ absurd (none-at is_point front digits 46
+      (subst (NoneOf is_point) parts (number-none is_point point-foreign back s.numeral.1)) refl)
   | pointed f d least whole a b ↦
       let same = parted is_point front f digits d 46 46 (none-of is_point front none)
       (number-none is_point point-foreign f a.numeral.1) refl refl (sym parts ∙ whole) in (

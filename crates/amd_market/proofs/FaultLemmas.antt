@@ -3,7 +3,8 @@ use Rattle.std.proofs.Common.{◌≡◌, ◌≢◌, ℕ, false, List, [], ◌∷
 use Rattle.std.proofs.Common.{Option, Some, None, append-nil, append_assoc, Result, Ok, Err, refl, arith, length-append}
 use Rattle.std.specs.Prelude.{◌⊎◌, ◌^◌, IfSome, IfErr, IsErrAnd}
 use Rattle.amd_lines.specs.Lines.{BeginsWith, line_number, TakesLine, TakesLines, TakesTelling, TakesNotes, FailsAt, rest_of, percent}
-use Rattle.amd_lines.specs.Lines.{MeetsLong, telling}
+use Rattle.amd_lines.specs.Lines.{MeetsLong, MeetsTelling, telling}
+use Rattle.amd_market.specs.declared.found.Found.{Found}
 use Rattle.amd_lines.proofs.LineLemmas.{known-append, number-append, telling-both, telling-one}
 use Rattle.amd_market.specs.Faults.{named_line}
 use Rattle.amd_market.specs.Faults.{IsTold, IsUnread, IsOfMachine, IfTooLong}
@@ -25,9 +26,9 @@ stops-more : {counted : List (List ℕ) → List (List ℕ)} {HasFault : ReadFau
 stops-more {counted} ls before s both (at_line passed line parts quiet here has) =
     at_line (ls ++ passed) line (ap (λ z. ls ++ z) parts ∙ sym (append_assoc ls passed (line ∷ [])))
     (both passed ∙ ap (λ z. counted ls ++ z) quiet) here has
-stops-more {counted} ls before s both (at_long passed line parts quiet long is) =
+stops-more {counted} ls before s both (at_long passed line parts quiet here long is) =
     at_long (ls ++ passed) line (ap (λ z. ls ++ z) parts ∙ sym (append_assoc ls passed (line ∷ [])))
-    (both passed ∙ ap (λ z. counted ls ++ z) quiet) long is
+    (both passed ∙ ap (λ z. counted ls ++ z) quiet) here long is
 stops-more {counted} ls before s both (at_end quiet none is) =
     at_end (both s.lines ∙ ap (λ z. counted ls ++ z) quiet) none is
 
@@ -55,7 +56,7 @@ says-first {HasFault} {IsEnd} ls told s tells h =
 pub any-line : {HasFault : ReadFault → List ℕ → Type 0} {IsEnd : ReadFault → Type 0} (before : List (List ℕ)) (s : Stop) →
     StopsBehind all NoLine IsEnd before s → StopsBehind all HasFault IsEnd before s
 any-line before s (at_line passed line parts quiet here has) = absurd has
-any-line before s (at_long passed line parts quiet long is) = at_long passed line parts quiet long is
+any-line before s (at_long passed line parts quiet here long is) = at_long passed line parts quiet here long is
 any-line before s (at_end quiet none is) = at_end quiet none is
 
 -- what an error says of lines that were read behind others
@@ -111,38 +112,47 @@ pub for-machine : {R Z : Type 0} {P : Stop → Type 0} (remaining : R → Option
 for-machine remaining a b is e f h same m = for-here remaining a b is e f h same (inl m)
 
 -- the next line was not read: it is too long, or no text has the fault
-pub for-unread : {R Z : Type 0} {counted : List (List ℕ) → List (List ℕ)} {HasFault : ReadFault → List ℕ → Type 0}
-    {IsEnd : ReadFault → Type 0} (remaining : R → Option (List ℕ)) (a : LineReader R Z) (e : ReadError) →
+for-stop : {R Z : Type 0} {P : Stop → Type 0} (remaining : R → Option (List ℕ)) (a : LineReader R Z) (e : ReadError) →
     FailsAt remaining a (named_line e) → IsUnread e →
-    IfTooLong e ((before : List (List ℕ)) × (counted before ≡ []) × MeetsLong remaining a before (named_line e)) →
-    FailsFor (StopsBehind counted HasFault IsEnd []) remaining a e
-for-unread remaining a (error.Line n fault.Long found) h u long = record {
-  lines = long.0 ++ long.2.line ∷ [];
-  rest = long.2.rest;
-  named = long.2.named;
-  took = long.2.took;
-  cause = inr (at_long long.0 long.2.line refl long.1 long.2.long refl);
-}
-for-unread remaining a (error.Line n fault.Lines found) h u long =
+    ((n : ℕ) → (found : Option Found) → e ≡ error.Line n fault.Long found → FailsFor P remaining a e) → FailsFor P remaining a e
+for-stop remaining a (error.Line n fault.Long found) h u long = long n found refl
+for-stop remaining a (error.Line n fault.Lines found) h u long =
     record { lines = h.lines; rest = h.rest; named = h.named; took = h.took; cause = inl tt }
-for-unread remaining a (error.Line n fault.OutOfMemory found) h u long =
+for-stop remaining a (error.Line n fault.OutOfMemory found) h u long =
     record { lines = h.lines; rest = h.rest; named = h.named; took = h.took; cause = inl tt }
-for-unread remaining a (error.Line n f found) h u long = absurd u
-for-unread remaining a (error.Input n x) h u long =
+for-stop remaining a (error.Line n f found) h u long = absurd u
+for-stop remaining a (error.Input n x) h u long =
     record { lines = h.lines; rest = h.rest; named = h.named; took = h.took; cause = tt }
 
-if-too-long : (e : ReadError) {P Q : Type 0} → (P → Q) → IfTooLong e P → IfTooLong e Q
-if-too-long (error.Line n fault.Long found) more h = more h
-if-too-long (error.Line n f found) more h = tt
-if-too-long (error.Input n x) more h = tt
+-- of the next line that says something
+pub for-unread : {R Z : Type 0} {HasFault : ReadFault → List ℕ → Type 0} {IsEnd : ReadFault → Type 0} (remaining : R → Option (List ℕ))
+    (a : LineReader R Z) (e : ReadError) → FailsAt remaining a (named_line e) → IsUnread e →
+    IfTooLong e (MeetsTelling percent remaining a (named_line e)) → FailsFor (StopsBehind says HasFault IsEnd []) remaining a e
+for-unread {HasFault} {IsEnd} remaining a e h u long =
+    for-stop {P = StopsBehind says HasFault IsEnd []} remaining a e h u (λ n found is.
+    let m = subst (λ x. IfTooLong x (MeetsTelling percent remaining a (named_line x))) is long in
+    subst (λ x. FailsFor (StopsBehind says HasFault IsEnd []) remaining a x) (sym is) (record {
+      lines = m.before ++ m.meets.line ∷ [];
+      rest = m.meets.rest;
+      named = m.meets.named;
+      took = m.meets.took;
+      cause = inr (at_long m.before m.meets.line refl m.passed (telling-one percent m.meets.line m.says) m.meets.long refl);
+    }))
 
--- the same of the next line of all
+-- of the next line of all
 pub for-no-line : {R Z : Type 0} {HasFault : ReadFault → List ℕ → Type 0} {IsEnd : ReadFault → Type 0} (remaining : R → Option (List ℕ))
     (a : LineReader R Z) (e : ReadError) → FailsAt remaining a (named_line e) → IsUnread e →
     IfTooLong e (MeetsLong remaining a [] (named_line e)) → FailsFor (StopsBehind all HasFault IsEnd []) remaining a e
-for-no-line remaining a e h u long = for-unread {counted = all} remaining a e h u
-    (if-too-long e {Q = (before : List (List ℕ)) × (all before ≡ []) × MeetsLong remaining a before (named_line e)}
-    (λ m. ([], refl, m)) long)
+for-no-line {HasFault} {IsEnd} remaining a e h u long =
+    for-stop {P = StopsBehind all HasFault IsEnd []} remaining a e h u (λ n found is.
+    let m = subst (λ x. IfTooLong x (MeetsLong remaining a [] (named_line x))) is long in
+    subst (λ x. FailsFor (StopsBehind all HasFault IsEnd []) remaining a x) (sym is) (record {
+      lines = m.line ∷ [];
+      rest = m.rest;
+      named = m.named;
+      took = m.took;
+      cause = inr (at_long [] m.line refl refl refl m.long refl);
+    }))
 
 -- the text ends, and no line is left
 pub for-last : {R Z : Type 0} {HasFault : ReadFault → List ℕ → Type 0} {IsEnd : ReadFault → Type 0} (remaining : R → Option (List ℕ))

@@ -56,7 +56,8 @@ pub data StopsBehind (counted : List (List ℕ) → List (List ℕ)) (HasFault :
   at_line : (passed : List (List ℕ)) → (line : List ℕ) → s.lines ≡ passed ++ line ∷ [] → counted passed ≡ before →
       counted (line ∷ []) ≡ line ∷ [] → HasFault s.fault line → StopsBehind counted HasFault IsEnd before s
   at_long : (passed : List (List ℕ)) → (line : List ℕ) → s.lines ≡ passed ++ line ∷ [] → counted passed ≡ before →
-      s.longest < length line → s.fault ≡ fault.Long → StopsBehind counted HasFault IsEnd before s
+      counted (line ∷ []) ≡ line ∷ [] → s.longest < length line → s.fault ≡ fault.Long →
+      StopsBehind counted HasFault IsEnd before s
   at_end : counted s.lines ≡ before → s.rest ≡ Some [] → IsEnd s.fault → StopsBehind counted HasFault IsEnd before s
 
 -- at the first line

@@ -40,7 +40,8 @@
 //! Refused are: another first line; a size of other than three numbers, of an array two, and one that is not square; an
 //! entry whose row or column is no number from 1 to the number of rows, whose value is no number, or with more or fewer
 //! words; more or fewer entries than the size says; pointers that do not rise from 1 to one more than the number of
-//! entries; a matrix that is not assembled; and a line of more than 65,536 bytes.
+//! entries; a matrix that is not assembled; and a line of more than 65,536 bytes that is neither blank nor a comment of
+//! the Matrix Market.
 #![tactic(auto)]
 
 pub mod arrays;

@@ -1,9 +1,10 @@
 // The lines of a matrix file: how long they may be, which of them are notes, and the error that names one. Called by
 // `reader`, `dense` and `boeing`, and by the lists of rows of the crate `amd_request`. The reader of lines is that of
-// the crate `amd_lines`; no more is read of a line that is too long than a block.
+// the crate `amd_lines`; no more is read of a line that is too long than a block, and a note that is longer is passed
+// piece by piece.
 
 ghost use Rattle.std.specs.Prelude.{◌≡◌, [], ℕ, List, IfOk, IfErr};
-ghost use Rattle.amd_lines.specs.Lines.{TakesLine, TakesNext, FailsAt, MeetsLong, lines_read, percent, telling};
+ghost use Rattle.amd_lines.specs.Lines.{TakesLine, TakesNext, FailsAt, MeetsLong, MeetsTelling, lines_read, percent};
 ghost use Rattle.amd_market.specs.Faults.{IsTold, IsUnread, IfTooLong, named_line};
 
 use crate::faults::{ReadError, ReadFault};
@@ -62,8 +63,7 @@ pub fn take_telling<R: Read + Drop, A: Allocator>(
     ensures takes { IfOk result (TakesNext percent R.remaining lines.old lines.new) }
     ensures fails { IfErr result (λ e. FailsAt R.remaining lines.old (named_line e)) }
     ensures unread { IfErr result IsUnread }
-    ensures long { IfErr result (λ e. IfTooLong e ((before : List (List ℕ)) × (telling percent before ≡ []) ×
-        MeetsLong R.remaining lines.old before (named_line e))) }
+    ensures long { IfErr result (λ e. IfTooLong e (MeetsTelling percent R.remaining lines.old (named_line e))) }
 {
     Ok(lines.take_telling(Some(b'%'))?)
 }

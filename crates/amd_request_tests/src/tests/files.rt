@@ -546,6 +546,54 @@ fn long_lines(rt: HostRuntime) -> Result<(), Fail> {
     Ok(())
 }
 
+/// A file that ends in a line of so many spaces, and then this text.
+fn ended(alloc: Global, spaces: usize, text: &str) -> Result<String, AllocError> {
+    let mut file = String::from_str(
+        alloc,
+        "%%MatrixMarket matrix coordinate pattern general\n2 2 1\n",
+    )?;
+    for _ in 0..spaces {
+        file.push_str(" ")?;
+    }
+    file.push_str(text)?;
+    Ok(file)
+}
+
+/// How many spaces a third line has, what stands behind them, and what is told of the file.
+static LONG_NOTES: [(usize, &str, &str); 5] = [
+    (300_000, "\n2 1\n", "[0, 1, 1] [1]"),
+    (65_536, "% a note\n2 1\n", "[0, 1, 1] [1]"),
+    (300_000, "%\n2 1\n%", "[0, 1, 1] [1]"),
+    (
+        300_000,
+        "2 1\n",
+        "line 3: the line has more than 65536 bytes",
+    ),
+    (
+        300_000,
+        "%",
+        "line 3: the file ends too early: 0 entries of 1",
+    ),
+];
+
+/// A line that says nothing may have any length.
+#[test]
+fn long_notes(rt: HostRuntime) -> Result<(), Fail> {
+    for (spaces, text, wanted) in &LONG_NOTES {
+        let file = ended(rt.alloc(), *spaces, text)?;
+        let shown = told(rt.alloc(), &file)?;
+        check!(&rt; shown.as_str() == *wanted, wanted);
+    }
+    let mut file = ended(rt.alloc(), 0, "%")?;
+    for _ in 0..200_000 {
+        file.push_str("a 1")?;
+    }
+    file.push_str("\n2 1\n")?;
+    let shown = told(rt.alloc(), &file)?;
+    check!(&rt; shown.as_str() == "[0, 1, 1] [1]", "a long note");
+    Ok(())
+}
+
 /// Texts that name rows to hold last, and what is told of each: the marks, or why there are none.
 static HELD: [(&str, &str); 6] = [
     ("", "[false, false, false]"),
