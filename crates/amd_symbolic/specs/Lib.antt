@@ -29,3 +29,5 @@ pub mod Meetings
 pub mod Supernodes
 pub mod Partitions
 pub mod SupernodeLaws
+-- the memory of a workspace in a lent block
+pub mod Blocks

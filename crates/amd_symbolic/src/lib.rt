@@ -79,4 +79,4 @@ pub use into::{Frame, columns_into};
 pub use refusal::Refusal;
 pub use room::{SupernodeSizes, supernode_sizes};
 pub use supernodal::{supernode_partition, supernodes};
-pub use workspace::FactorWorkspace;
+pub use workspace::{FactorWorkspace, factor_bytes};

@@ -1,8 +1,11 @@
 // The exact factor in memory that was taken before: behind the making of a workspace no call asks for any. Source:
 // Rose, Tarjan and Lueker 1976; Liu 1986 and 1990; Gilbert, Ng and Peyton 1994; Davis 2005.
 
-ghost use Rattle.std.specs.Prelude.{ℕ, ◌≡◌, ◌≢◌, ◌≤◌, ◌⊎◌, [], pos, length, map, IfOk, IfErr, MatchOption};
+ghost use Rattle.std.specs.Prelude.{ℕ, ◌≡◌, ◌≢◌, ◌≤◌, ◌<◌, ◌+◌, ◌*◌, ◌^◌, ◌⊎◌, [], pos, length, map, IfOk, IfErr};
+ghost use Rattle.std.specs.Prelude.{MatchOption};
+ghost use Rattle.std.specs.Option.{SomeIff};
 ghost use Rattle.amd_model.specs.Input.Columns.{IsColumnForm};
+ghost use Rattle.amd_symbolic.specs.Blocks.{factor_bytes};
 ghost use Rattle.amd_symbolic.specs.Counted.{IsCountsOf};
 ghost use Rattle.amd_symbolic.specs.Factors.{WritesFactor};
 ghost use Rattle.amd_symbolic.specs.Within.{FitsIn, HasPlaces, HasPointers, IsCountsRefusal, IsRefusal, words};
@@ -14,6 +17,7 @@ use crate::inside::{columns_inside, counts_inside};
 use crate::needs::Need;
 use crate::refusal::{Refusal, refusal_for};
 use amd::internal::count_at;
+use amd_lent::{Lodged, Piece};
 use amd_types::index::Index;
 use num_traits::PrimInt;
 use std::alloc::{AllocError, Allocator};
@@ -69,6 +73,44 @@ fn fitting_rows<I: Index>(
         return Err(Refusal::TooLarge);
     }
     Ok(size)
+}
+
+/// The bytes of the memory of exact factors for so many rows and entries in a block, where they are a number of 64 bits:
+/// 16 for each entry, 104 for each row, and 56, in whole units of 16.
+pub fn factor_bytes(rows: usize, entries: usize) -> Option<usize>
+    ensures { SomeIff result (factor_bytes rows entries < 2 ^ 64) (factor_bytes rows entries) }
+{
+    let words = 2 * entries as u128 + 11 * rows as u128 + 7;
+    usize::try_from((8 * words + 15) / 16 * 16 + 16 * rows as u128).ok()
+}
+
+impl FactorWorkspace<Lodged> {
+    /// The memory of the exact factors of all matrices with at most so many rows and entries, in a block that the caller
+    /// lends; none, exactly where it has fewer than [`crate::factor_bytes`] bytes.
+    pub fn in_block(block: Piece, rows: usize, entries: usize) -> Option<FactorWorkspace<Lodged>>
+        ensures { MatchOption result (block.size < factor_bytes rows entries)
+            (λ w. (factor_bytes rows entries ≤ block.size) × (w.rows ≡ rows) × (w.entries ≡ entries)) }
+    {
+        let (size, block) = block.with_size();
+        if factor_bytes(rows, entries)? > size {
+            return None;
+        }
+        let count = 2 * entries + 11 * rows + 7;
+        let (mut numbers, block) = block.split_list(count, (8 * count + 15) / 16 * 16);
+        let (mut links, _) = block.split_list(rows, 16 * rows);
+        let Ok(()) = numbers.resize(count, 0) else {
+            unreachable!()
+        };
+        let Ok(()) = links.resize(rows, None) else {
+            unreachable!()
+        };
+        Some(FactorWorkspace {
+            rows,
+            entries,
+            numbers,
+            links,
+        })
+    }
 }
 
 impl<A: Allocator + Copy> FactorWorkspace<A> {

@@ -3,7 +3,7 @@
 
 use crate::tests::comparison::{UNTOUCHED, are_written};
 use crate::tests::worked::FOUR_CYCLE;
-use amd_symbolic::{FactorWorkspace, Refusal};
+use amd_symbolic::{FactorWorkspace, Refusal, factor_bytes};
 use amd_testing::check;
 use amd_testing::refusing::{Refusing, each_refused};
 use std::alloc::{Allocator, Global};
@@ -112,4 +112,12 @@ fn what_is_no_input_of_a_workspace(rt: HostRuntime) {
     check!(&rt; no_form == Some(Refusal::NotColumnForm));
     let no_order = refusal_of(rt.alloc(), 4, 4, case.a_p, &[3, 0, 1, 1], 5);
     check!(&rt; no_order == Some(Refusal::NotPermutation));
+}
+
+/// The bytes in a block: for 5 rows and 14 entries eight for each of 2 * 14 + 11 * 5 + 7 numbers, and 16 for each row; none
+/// where they are no number of 64 bits.
+#[test]
+fn bytes_of_a_block(rt: HostRuntime) {
+    check!(&rt; factor_bytes(5, 14) == Some(720 + 80));
+    check!(&rt; factor_bytes(usize::MAX, usize::MAX).is_none());
 }
