@@ -9,14 +9,16 @@
  *
  * What a caller must uphold is what the head of rimopaku.h says, but for malloc, and this of the block:
  *
- *   - `start` is a multiple of 16, and so is `size`.
+ *   - `start` is a multiple of 16, and so is `size`, which is below 2^63.
  *   - The block is `size` bytes that may be read and written, and that nothing else uses during the call: no argument, no other call. What
  *     stands in it at first does not matter.
  *
  * A call takes its memory from the front of the block, each list behind the one before it, and none of it twice. It asks for memory
- * nowhere else. If the block is too small, it returns RIMOPAKU_OUT_OF_MEMORY, and nothing but the block has changed. A call keeps no
- * address of the block, and what it leaves there means nothing. So the same block may be lent to call after call. The contracts do not
- * say this, since they do not give the block back: it is tested. Calls with other blocks may run at the same time. */
+ * nowhere else. If the block is too small, it returns RIMOPAKU_OUT_OF_MEMORY, and nothing but the block has changed. An ordering returns
+ * RIMOPAKU_OUT_OF_MEMORY exactly where the call is valid otherwise, n is not 0, and the block has fewer than
+ * rimopaku_workspace_bytes_i32(n, a_p[n]) bytes: that is proved. A call keeps no address of the block, and what it leaves there means
+ * nothing. So the same block may be lent to call after call. The contracts do not say this, since they do not give the block back: it is
+ * tested. Calls with other blocks may run at the same time. */
 
 #ifndef RIMOPAKU_BARE_H
 #define RIMOPAKU_BARE_H
@@ -48,7 +50,7 @@ static inline struct rimopaku_block rimopaku_block_in(void *memory, size_t bytes
     return block;
 }
 
-/* rimopaku_order_i32, rimopaku_order_holding_i32, rimopaku_counts_i32 and rimopaku_columns_i32 of rimopaku.h in memory that is lent. */
+/* The calls of rimopaku.h for int32_t in memory that is lent: orderings, the counts and the columns of a factor. */
 int32_t rimopaku_order_within_i32(struct rimopaku_block block, int32_t n, const int32_t *a_p, size_t a_p_len, const int32_t *a_i,
                                   size_t a_i_len, const struct rimopaku_parameters *parameters, int32_t *p, size_t p_len, int32_t *p_inv,
                                   size_t p_inv_len, struct rimopaku_statistics *statistics);
@@ -63,39 +65,50 @@ int32_t rimopaku_columns_within_i32(struct rimopaku_block block, int32_t n, cons
                                     size_t a_i_len, const int32_t *p, size_t p_len, int32_t *ptr, size_t ptr_len, int32_t *rows,
                                     size_t rows_len, int32_t *parent, size_t parent_len);
 
-/* How many bytes are enough, for every matrix with at most so many rows and entries, a_p[n], whatever its columns: sorted or not, with or
- * without duplicates. The macros are the same for constants: the size of a static array. Their arguments are read more than once. Rows and
- * entries are numbers of an int32_t that are not negative.
+/* The calls of rimopaku.h for int64_t in memory that is lent: orderings, the counts and the columns of a factor. */
+int32_t rimopaku_order_within_i64(struct rimopaku_block block, int64_t n, const int64_t *a_p, size_t a_p_len, const int64_t *a_i,
+                                  size_t a_i_len, const struct rimopaku_parameters *parameters, int64_t *p, size_t p_len, int64_t *p_inv,
+                                  size_t p_inv_len, struct rimopaku_statistics *statistics);
+int32_t rimopaku_order_holding_within_i64(struct rimopaku_block block, int64_t n, const int64_t *a_p, size_t a_p_len, const int64_t *a_i,
+                                          size_t a_i_len, const struct rimopaku_parameters *parameters, const bool *hold,
+                                          size_t hold_len, int64_t *p, size_t p_len, int64_t *p_inv, size_t p_inv_len,
+                                          struct rimopaku_statistics *statistics);
+int32_t rimopaku_counts_within_i64(struct rimopaku_block block, int64_t n, const int64_t *a_p, size_t a_p_len, const int64_t *a_i,
+                                   size_t a_i_len, const int64_t *p, size_t p_len, int64_t *sizes, size_t sizes_len, int64_t *parent,
+                                   size_t parent_len, struct rimopaku_needs *needs);
+int32_t rimopaku_columns_within_i64(struct rimopaku_block block, int64_t n, const int64_t *a_p, size_t a_p_len, const int64_t *a_i,
+                                    size_t a_i_len, const int64_t *p, size_t p_len, int64_t *ptr, size_t ptr_len, int64_t *rows,
+                                    size_t rows_len, int64_t *parent, size_t parent_len);
+
+/* How many bytes an ordering takes of a block, for every matrix with at most so many rows and entries, a_p[n], whatever its columns: sorted
+ * or not, with or without duplicates. With as many bytes it orders, and with fewer than its own matrix takes it does not: that is proved.
+ * SIZE_MAX where they are no size_t, and no block is so large. The two are one function. */
+size_t rimopaku_workspace_bytes_i32(size_t rows, size_t entries);
+size_t rimopaku_workspace_bytes_i64(size_t rows, size_t entries);
+
+/* How many bytes are enough for constants: the size of a static array. The macros read their arguments more than once. Rows and entries are
+ * not negative, and their sums are within a size_t. RIMOPAKU_ORDER_BYTES_I32 is rimopaku_workspace_bytes_i32, which is tested: 48 bytes for
+ * a row and 12 for an entry, with rows and entries rounded up to multiples of 4, and 16; twice that where twice the entries and the rows
+ * are more than 2147483645 in sum.
  *
- * These are tested, not proved: no contract says how much is enough. For each of the four calls there are matrices that need every unit of
- * 16 bytes that is counted here. Roughly: 108 bytes for a row and 18.4 for an entry in an ordering, 112 and 16 in counts, 72 and 8 in
- * columns. An ordering with some 7 million entries or more takes up to 58 MB besides. One with more than INT32_MAX words for its lists, 2.4
- * for each entry and one for each row, is counted in numbers of 64 bits; it was not tested. */
+ * The sums of the two others are tested, not proved: roughly 112 bytes for a row and 16 for an entry in counts, and 72 and 8 in columns.
+ * There are matrices that need every unit of 16 bytes that is counted here. */
 #define RIMOPAKU_ORDER_BYTES_I32(rows, entries) RIMOPAKU_ORDER_BYTES_(RIMOPAKU_SIZE_(rows), RIMOPAKU_SIZE_(entries))
 #define RIMOPAKU_COUNTS_BYTES_I32(rows, entries) RIMOPAKU_COUNTS_BYTES_(RIMOPAKU_SIZE_(rows), RIMOPAKU_SIZE_(entries))
 #define RIMOPAKU_COLUMNS_BYTES_I32(rows, entries) RIMOPAKU_COLUMNS_BYTES_(RIMOPAKU_SIZE_(rows), RIMOPAKU_SIZE_(entries))
+#define RIMOPAKU_ORDER_BYTES_I64(rows, entries) RIMOPAKU_ORDER_BYTES_(RIMOPAKU_SIZE_(rows), RIMOPAKU_SIZE_(entries))
+#define RIMOPAKU_COUNTS_BYTES_I64(rows, entries) RIMOPAKU_COUNTS_BYTES_(RIMOPAKU_SIZE_(rows), RIMOPAKU_SIZE_(entries))
+#define RIMOPAKU_COLUMNS_BYTES_I64(rows, entries) RIMOPAKU_COLUMNS_BYTES_(RIMOPAKU_SIZE_(rows), RIMOPAKU_SIZE_(entries))
 
 /* What follows, with names that end in a line, serves these macros alone: the sums of the lists that a call makes. */
 #define RIMOPAKU_SIZE_(number) ((size_t)(number))
-#define RIMOPAKU_LESS_(a, b) ((a) < (b) ? (a) : (b))
 /* A list takes whole units of 16 bytes, and nothing if it is empty. */
 #define RIMOPAKU_LIST_(count, width) (((count) * (width) + 15) / 16 * 16)
 
-/* An ordering first asks for most of its memory at once, which on a machine with malloc makes the rest quick, and gives it back; but a
- * block takes nothing back. Then there are nine lists with a place for each row, of which one has two numbers in a place; the pointers and
- * the indices of the transpose, for columns that are not sorted; the words of the lists of neighbours; and the result. */
-#define RIMOPAKU_ORDER_BYTES_(n, e) \
-    ((n) == 0 ? 0 \
-              : RIMOPAKU_FIRST_(n, (e) + (e) / 5 + (n)) + RIMOPAKU_LISTS_(n, e, RIMOPAKU_WIDTH_(n, 2 * (e) + 2 * (e) / 5 + (n))) \
-                    + 2 * RIMOPAKU_LIST_(n, 4))
-#define RIMOPAKU_FIRST_(n, words) \
-    (RIMOPAKU_LIST_(RIMOPAKU_LESS_(12 * (n) + (words), RIMOPAKU_SIZE_(8380000)), 4) \
-     + ((words) > 8380000 ? 2 * RIMOPAKU_LIST_(RIMOPAKU_LESS_(12 * (n) + (words), RIMOPAKU_SIZE_(14400000)) / 2, 4) : 0))
-#define RIMOPAKU_WIDTH_(n, words) ((words) <= 2147483647 && (n) <= 2147483645 ? RIMOPAKU_SIZE_(4) : RIMOPAKU_SIZE_(8))
-#define RIMOPAKU_LISTS_(n, e, width) \
-    (8 * RIMOPAKU_LIST_(n, width) + RIMOPAKU_LIST_(2 * (n), width) + RIMOPAKU_LIST_((n) + 1, width) + RIMOPAKU_LIST_(e, width) \
-     + RIMOPAKU_WORDS_(n, RIMOPAKU_LESS_(2 * (e), (n) * ((n) - 1)), width))
-#define RIMOPAKU_WORDS_(n, neighbours, width) RIMOPAKU_LIST_((neighbours) + (neighbours) / 5 + (n), width)
+/* An ordering: three numbers for each entry and twelve for each row, in lists with places for a multiple of 4. */
+#define RIMOPAKU_ORDER_BYTES_(n, e) (RIMOPAKU_WIDTH_(n, e) * (3 * RIMOPAKU_FOURS_(e) + 12 * RIMOPAKU_FOURS_(n) + 4))
+#define RIMOPAKU_WIDTH_(n, e) (2 * (e) + (n) <= 2147483645 ? RIMOPAKU_SIZE_(4) : RIMOPAKU_SIZE_(8))
+#define RIMOPAKU_FOURS_(count) (((count) + 3) / 4 * 4)
 
 /* Counts: places of the rows, sizes; parents, of 16 bytes each; pointers and neighbours twice, to earlier and to later places; and the work
  * of the count, eight numbers for each row and five. */
@@ -114,14 +127,29 @@ static inline size_t rimopaku_order_bytes_i32(int32_t rows, int32_t entries)
     return RIMOPAKU_ORDER_BYTES_I32(rows, entries);
 }
 
+static inline size_t rimopaku_order_bytes_i64(int64_t rows, int64_t entries)
+{
+    return RIMOPAKU_ORDER_BYTES_I64(rows, entries);
+}
+
 static inline size_t rimopaku_counts_bytes_i32(int32_t rows, int32_t entries)
 {
     return RIMOPAKU_COUNTS_BYTES_I32(rows, entries);
 }
 
+static inline size_t rimopaku_counts_bytes_i64(int64_t rows, int64_t entries)
+{
+    return RIMOPAKU_COUNTS_BYTES_I64(rows, entries);
+}
+
 static inline size_t rimopaku_columns_bytes_i32(int32_t rows, int32_t entries)
 {
     return RIMOPAKU_COLUMNS_BYTES_I32(rows, entries);
+}
+
+static inline size_t rimopaku_columns_bytes_i64(int64_t rows, int64_t entries)
+{
+    return RIMOPAKU_COLUMNS_BYTES_I64(rows, entries);
 }
 
 #ifdef __cplusplus

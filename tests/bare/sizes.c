@@ -1,6 +1,7 @@
 /* How many bytes a call in lent memory needs, for drawn matrices of many kinds: with as many as rimopaku_bare.h says each call succeeds,
- * with fewer than the least number it tells so and writes nothing, and nothing outside the block is written. The permutation is
- * SuiteSparse's, if compiled with -DSUITESPARSE, and the counts and columns are those of an elimination on a square of bits.
+ * with fewer than the least number it tells so and writes nothing, and nothing outside the block is written. An ordering needs exactly as
+ * many. The permutation is SuiteSparse's, if compiled with -DSUITESPARSE, and the counts and columns are those of an elimination on a
+ * square of bits. The calls for int64_t give the same. The macros are rimopaku_workspace_bytes_i32.
  * Usage: sizes COUNT [SEED]. */
 #include <stdio.h>
 #include <stdlib.h>
@@ -37,7 +38,6 @@ static void need(int holds, const char *what, int32_t n, int32_t entries)
 
 struct matrix {
     int32_t n, p[MOST_ROWS + 1], i[MOST_ENTRIES];
-    int needs_all; /* whether it needs every byte: its columns are not sorted, and it has no pair twice, mirrored or on the diagonal */
 };
 
 enum kind { JUMBLED, ONE_WAY, SORTED, SYMMETRIC, LOWER, UPPER, DENSE, EMPTY, DIAGONAL, REPEATED, KINDS };
@@ -77,33 +77,27 @@ static int32_t add_column(const struct matrix *a, int32_t at, enum kind kind, in
     return at;
 }
 
-/* Exchanges entries of a column, and tells whether it is in another order then. */
-static int jumble(int32_t *i, int32_t count)
+/* Exchanges entries of a column. */
+static void jumble(int32_t *i, int32_t count)
 {
-    int is_moved = 0;
     for (int32_t k = count - 1; k > 0; k--) {
         int32_t other = (int32_t)draw((unsigned)k + 1), kept = i[k];
         i[k] = i[other];
         i[other] = kept;
     }
-    for (int32_t k = 1; k < count; k++)
-        is_moved |= i[k - 1] > i[k];
-    return is_moved;
 }
 
 static void draw_matrix(enum kind kind, struct matrix *a)
 {
     static unsigned char square[MOST_ROWS * MOST_ROWS];
-    int is_jumbled = 0;
     a->n = (int32_t)draw(MOST_ROWS + 1);
     draw_square(kind, a->n, square);
     a->p[0] = 0;
     for (int32_t column = 0; column < a->n; column++) {
         a->p[column + 1] = add_column(a, a->p[column], kind, column, square, a->i);
         if (kind == JUMBLED || kind == ONE_WAY || kind == REPEATED)
-            is_jumbled |= jumble(a->i + a->p[column], a->p[column + 1] - a->p[column]);
+            jumble(a->i + a->p[column], a->p[column + 1] - a->p[column]);
     }
-    a->needs_all = kind == ONE_WAY && is_jumbled;
 }
 
 /* ---- A block of so many bytes, with guards around it. */
@@ -172,6 +166,59 @@ static int columns(const struct matrix *a, size_t bytes, struct results *r)
     size_t n = (size_t)a->n;
     return rimopaku_columns_within_i32(lend(bytes), a->n, a->p, n + 1, a->i, (size_t)a->p[n], last_first(a->n), n, r->ptr, n + 1, r->rows,
                                        MOST_ROWS * MOST_ROWS, r->parent, n);
+}
+
+/* The same calls for int64_t, into arrays of their own. */
+
+struct wide {
+    int64_t a_p[MOST_ROWS + 1], a_i[MOST_ENTRIES], order[MOST_ROWS];
+    int64_t p[MOST_ROWS], p_inv[MOST_ROWS], sizes[MOST_ROWS], parent[MOST_ROWS], ptr[MOST_ROWS + 1], rows[MOST_ROWS * MOST_ROWS];
+    struct rimopaku_statistics told;
+    struct rimopaku_needs needs;
+};
+
+static void widen(size_t count, const int32_t *narrow, int64_t *wide)
+{
+    for (size_t k = 0; k < count; k++)
+        wide[k] = narrow[k];
+}
+
+static int are_equal(size_t count, const int32_t *narrow, const int64_t *wide)
+{
+    for (size_t k = 0; k < count; k++)
+        if (wide[k] != narrow[k])
+            return 0;
+    return 1;
+}
+
+static int order_wide(const struct matrix *a, size_t bytes, struct wide *w)
+{
+    size_t n = (size_t)a->n;
+    return rimopaku_order_within_i64(lend(bytes), a->n, w->a_p, n + 1, w->a_i, (size_t)a->p[n], &defaults, w->p, n, w->p_inv, n, &w->told);
+}
+
+/* An ordering for int64_t is that for int32_t, in as many bytes and in no fewer. */
+static void try_wide_order(const struct matrix *a, size_t enough, const struct results *r, struct wide *w)
+{
+    size_t n = (size_t)a->n;
+    need(order_wide(a, enough, w) >= 0 && guards_are_kept(enough), "order of 64 bits", a->n, a->p[n]);
+    need(are_equal(n, r->p, w->p) && are_equal(n, r->p_inv, w->p_inv), "another order of 64 bits", a->n, a->p[n]);
+    need(memcmp(&r->told, &w->told, sizeof w->told) == 0, "other statistics of 64 bits", a->n, a->p[n]);
+    need(n == 0 || order_wide(a, enough - 16, w) == RIMOPAKU_OUT_OF_MEMORY, "order of 64 bits in less", a->n, a->p[n]);
+}
+
+static void try_wide_factor(const struct matrix *a, const struct results *r, struct wide *w)
+{
+    size_t n = (size_t)a->n, entries = (size_t)a->p[n];
+    widen(n, last_first(a->n), w->order);
+    need(rimopaku_counts_within_i64(lend(rimopaku_counts_bytes_i64(a->n, a->p[n])), a->n, w->a_p, n + 1, w->a_i, entries, w->order, n,
+                                    w->sizes, n, w->parent, n, &w->needs) == 0,
+         "counts of 64 bits", a->n, a->p[n]);
+    need(are_equal(n, r->sizes, w->sizes) && are_equal(n, r->parent, w->parent), "other counts of 64 bits", a->n, a->p[n]);
+    need(rimopaku_columns_within_i64(lend(rimopaku_columns_bytes_i64(a->n, a->p[n])), a->n, w->a_p, n + 1, w->a_i, entries, w->order, n,
+                                     w->ptr, n + 1, w->rows, MOST_ROWS * MOST_ROWS, w->parent, n) == 0,
+         "columns of 64 bits", a->n, a->p[n]);
+    need(are_equal(n + 1, r->ptr, w->ptr) && are_equal((size_t)r->ptr[n], r->rows, w->rows), "other columns of 64 bits", a->n, a->p[n]);
 }
 
 /* ---- What the results are to be. */
@@ -300,18 +347,33 @@ static void try_matrix(const struct matrix *a)
 {
     static struct results r;
     int32_t n = a->n, entries = a->p[n];
+    static struct wide w;
     size_t enough = rimopaku_order_bytes_i32(n, entries);
 
-    try_call("order", order, a, enough, a->needs_all, &r);
+    widen((size_t)n + 1, a->p, w.a_p);
+    widen((size_t)entries, a->i, w.a_i);
+    try_call("order", order, a, enough, n > 0, &r);
     need(is_the_order(a, &r), "another order", n, entries);
-    try_call("order_holding", order_holding, a, enough, a->needs_all, &r);
+    try_wide_order(a, enough, &r, &w);
+    try_call("order_holding", order_holding, a, enough, n > 0, &r);
     need(is_inverse(a, &r), "no order", n, entries);
     need(n < 4 || (r.p_inv[0] < r.p_inv[3] && r.told.n_dense >= 2), "rows are not held", n, entries);
     try_call("counts", counts, a, rimopaku_counts_bytes_i32(n, entries), !has_diagonal(a), &r);
     try_call("columns", columns, a, rimopaku_columns_bytes_i32(n, entries), !has_diagonal(a), &r);
     need(is_the_factor(a, &r), "another factor", n, entries);
+    try_wide_factor(a, &r, &w);
     /* A block for more rows and entries is enough too. */
     need(rimopaku_order_bytes_i32(n + (int32_t)draw(9), entries + (int32_t)draw(9)) >= enough, "fewer for more", n, entries);
+}
+
+/* The macros are the function, for numbers of all sizes. */
+static void try_macros(void)
+{
+    size_t rows = (size_t)draw(1u << 30) >> draw(30), entries = ((size_t)draw(1u << 30) << 4) >> draw(34);
+    size_t bytes = rimopaku_workspace_bytes_i32(rows, entries);
+    need(bytes == RIMOPAKU_ORDER_BYTES_I32(rows, entries) && bytes % 16 == 0, "other bytes", (int32_t)rows, (int32_t)entries);
+    need(bytes == rimopaku_workspace_bytes_i64(rows, entries), "other bytes of 64 bits", (int32_t)rows, (int32_t)entries);
+    need(rimopaku_order_bytes_i64((int64_t)rows, (int64_t)entries) == bytes, "other bytes for more", (int32_t)rows, (int32_t)entries);
 }
 
 /* ---- Larger ones, by their sizes alone: a band of entries in each column, from the last row up. */
@@ -327,7 +389,7 @@ static void make_band(int32_t n, int32_t in_column, int32_t *p, int32_t *i)
     p[n] = at;
 }
 
-static void try_large(int32_t n, int32_t in_column, int needs_all)
+static void try_large(int32_t n, int32_t in_column)
 {
     size_t rows = (size_t)n, entries = rows * (size_t)in_column, bytes = rimopaku_order_bytes_i32(n, n * in_column);
     int32_t *p = malloc(4 * (rows + 1)), *i = malloc(4 * entries), *order = malloc(4 * rows), *inverse = malloc(4 * rows);
@@ -344,7 +406,7 @@ static void try_large(int32_t n, int32_t in_column, int needs_all)
     need(status == RIMOPAKU_OK_BUT_JUMBLED, "large", n, in_column);
     block.size -= 16;
     status = rimopaku_order_within_i32(block, n, p, rows + 1, i, entries, &defaults, order, rows, inverse, rows, &told);
-    need(!needs_all || status == RIMOPAKU_OUT_OF_MEMORY, "not every byte is needed", n, in_column);
+    need(status == RIMOPAKU_OUT_OF_MEMORY, "not every byte is needed", n, in_column);
     free(p), free(i), free(order), free(inverse), free(memory);
 }
 
@@ -362,11 +424,12 @@ int main(int argc, char **argv)
         draw_matrix((enum kind)(k % KINDS), &a);
         try_matrix(&a);
     }
-    try_large(200000, 3, 1);
-    try_large(5000, 1430, 1); /* so many words that two blocks more are asked for */
-    try_large(6000, 1989, 1); /* nearly as many as they are asked for */
-    try_large(6500, 2000, 0); /* and so many that they are not */
-    try_large(3000, 2400, 0); /* mirrored pairs */
+    for (long k = 0; k < 100000; k++)
+        try_macros();
+    need(rimopaku_workspace_bytes_i32(SIZE_MAX, SIZE_MAX) == SIZE_MAX, "bytes that are no size_t", 0, 0);
+    try_large(200000, 3);
+    try_large(6500, 2000);
+    try_large(3000, 2400); /* mirrored pairs */
     printf("%ld matrices, %zu of %ld calls needed every byte, at most %zu were left\n", count, needed_all, 4 * count, most_left);
     free(arena);
     return 0;

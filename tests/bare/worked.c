@@ -125,7 +125,9 @@ static int faults(void)
     CHECK(rimopaku_order_within_i32(all, 5, five_p, 6, five_i, 13, &defaults, p, 5, q, 5, &told) == RIMOPAKU_INVALID);
     CHECK(rimopaku_order_within_i32(all, 5, five_p, 6, five_i, 14, &defaults, p, 5, q, 4, &told) == RIMOPAKU_INVALID);
     CHECK(rimopaku_order_within_i32(lend(0), 5, five_p, 6, five_i, 14, &defaults, p, 5, q, 5, &told) == RIMOPAKU_OUT_OF_MEMORY);
-    CHECK(rimopaku_order_within_i32(lend(128), 5, five_p, 6, five_i, 14, &defaults, p, 5, q, 5, &told) == RIMOPAKU_OUT_OF_MEMORY);
+    /* four bytes for each of three words of an entry and twelve of a row, as of 16 entries and 8 rows, and four */
+    CHECK(rimopaku_workspace_bytes_i32(5, 14) == 592);
+    CHECK(rimopaku_order_within_i32(lend(591), 5, five_p, 6, five_i, 14, &defaults, p, 5, q, 5, &told) == RIMOPAKU_OUT_OF_MEMORY);
     CHECK(rimopaku_counts_within_i32(all, 5, five_p, 6, five_i, 14, wrong, 5, p, 5, q, 5, &needs) == RIMOPAKU_NOT_PERMUTATION);
     CHECK(rimopaku_columns_within_i32(all, 5, five_p, 6, five_i, 14, five_order, 5, p, 6, rows, 4, q, 5) == RIMOPAKU_ROOM_TOO_SMALL);
     CHECK(equal(p, unwritten, 5) && equal(q, unwritten, 5) && p[5] == -7);

@@ -1,16 +1,26 @@
 // The exports for `int32_t`. Each is a thin call of `amd_calls` over the memory that is lent, and says its contract
 // again.
 
-ghost use Rattle.std.specs.Prelude.{None, Some};
-ghost use Rattle.amd_calls.specs.Calls.{OrdersInto, memory};
+ghost use Rattle.std.specs.Prelude.{◌≡◌, None, Some, min};
+ghost use Rattle.amd.specs.Blocks.{workspace_bytes};
+ghost use Rattle.amd_calls.specs.Calls.{OrdersWithin, memory};
 ghost use Rattle.amd_calls.specs.Columns.{ColumnsInto, arrays};
 ghost use Rattle.amd_calls.specs.Counting.{CountsInto, tallies};
 
 use amd_calls::counting::counts_into;
 use amd_calls::factors::{columns_into, number_of_end};
 use amd_calls::records::{Needs, Parameters, Statistics};
-use amd_calls::writing::order_into;
+use amd_calls::within::{bytes_or_most, order_within};
 use amd_lent::{Lent, Piece};
+
+/// How many bytes of a block an ordering takes, for every matrix with so many rows and entries; `SIZE_MAX` where that is
+/// no `size_t`, and no block is so large.
+#[unsafe(no_mangle)]
+pub extern "C" fn rimopaku_workspace_bytes_i32(rows: usize, entries: usize) -> usize
+    ensures { result ≡ min (workspace_bytes rows entries) 18446744073709551615 }
+{
+    bytes_or_most(rows, entries)
+}
 
 /// Orders a matrix in memory that is lent, as `order` of the crate `amd`, and returns the number of the status.
 ///
@@ -21,8 +31,8 @@ use amd_lent::{Lent, Piece};
 /// # Errors
 ///
 /// A negative number; `p`, `p_inv` and `statistics` stay as they were. It is -2, `Invalid`, exactly where `p` or
-/// `p_inv` has not `n` places, or `n` is not 0 and the input is no column form; and -1, `OutOfMemory`, as `order` says:
-/// the memory was too small.
+/// `p_inv` has not `n` places, or `n` is not 0 and the input is no column form; and -1, `OutOfMemory`, exactly where the
+/// call is valid otherwise, `n` is not 0, and the block has fewer bytes than `rimopaku_workspace_bytes_i32(n, a_p[n])`.
 ///
 /// Source: AMD user guide; Amestoy, Davis and Duff 1996 and 2004.
 #[unsafe(no_mangle)]
@@ -36,11 +46,10 @@ pub extern "C" fn rimopaku_order_within_i32(
     p_inv: &mut [i32],
     statistics: &mut Statistics,
 ) -> i32
-    ensures { OrdersInto None n parameters.now a_p.now a_i.now (memory p.old p_inv.old statistics.old)
+    ensures { OrdersWithin None n parameters.now a_p.now a_i.now lent.size (memory p.old p_inv.old statistics.old)
         (memory p.new p_inv.new statistics.new) result }
 {
-    let heap = Lent::new(lent);
-    order_into(&heap, n, a_p, a_i, parameters, None, p, p_inv, statistics)
+    order_within(lent, n, a_p, a_i, parameters, None, p, p_inv, statistics)
 }
 
 /// Orders a matrix with rows held last in memory that is lent, as `order_holding` of the crate `amd`, and returns the
@@ -52,7 +61,8 @@ pub extern "C" fn rimopaku_order_within_i32(
 ///
 /// A negative number; `p`, `p_inv` and `statistics` stay as they were. It is -2, `Invalid`, exactly where `p` or
 /// `p_inv` has not `n` places, or `n` is not 0 and either the input is no column form or `hold` has not `n` marks; and
-/// -1, `OutOfMemory`, as `order_holding` says: the memory was too small.
+/// -1, `OutOfMemory`, exactly where the call is valid otherwise, `n` is not 0, and the block has fewer bytes than
+/// `rimopaku_workspace_bytes_i32(n, a_p[n])`.
 ///
 /// Source: AMD user guide; Amestoy, Davis and Duff 1996 and 2004.
 #[unsafe(no_mangle)]
@@ -67,12 +77,11 @@ pub extern "C" fn rimopaku_order_holding_within_i32(
     p_inv: &mut [i32],
     statistics: &mut Statistics,
 ) -> i32
-    ensures { OrdersInto (Some hold.now) n parameters.now a_p.now a_i.now (memory p.old p_inv.old statistics.old)
-        (memory p.new p_inv.new statistics.new) result }
+    ensures { OrdersWithin (Some hold.now) n parameters.now a_p.now a_i.now lent.size
+        (memory p.old p_inv.old statistics.old) (memory p.new p_inv.new statistics.new) result }
 {
-    let heap = Lent::new(lent);
     let hold = Some(hold);
-    order_into(&heap, n, a_p, a_i, parameters, hold, p, p_inv, statistics)
+    order_within(lent, n, a_p, a_i, parameters, hold, p, p_inv, statistics)
 }
 
 /// Writes the columns of a factor in memory that is lent, as `columns` of the crate `amd_symbolic` returns them, and

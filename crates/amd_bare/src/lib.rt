@@ -6,3 +6,4 @@
 #![tactic(auto)]
 
 pub mod int32;
+pub mod int64;

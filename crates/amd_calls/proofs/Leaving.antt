@@ -23,7 +23,7 @@ not_invalid hold (pos (suc k)) t aggressive a_p a_i p q info o e =
     is (o.form (λ z. cc))
 not_invalid hold (negsuc k) t aggressive a_p a_i p q info o e = absurd (o.form (λ z. cc))
 
-not_without_memory : (hold : Option (List Bool)) (n t : ℤ) (aggressive : Bool) (a_p a_i p q : List ℤ) (info : Info) →
+pub not_without_memory : (hold : Option (List Bool)) (n t : ℤ) (aggressive : Bool) (a_p a_i p q : List ℤ) (info : Info) →
     IsOrderingHolding hold n t aggressive a_p a_i p q info → info.status ≡ OutOfMemory → ⊥
 not_without_memory hold (pos zero) t aggressive a_p a_i p q info o e =
     let fresh : OK ≡ OutOfMemory = sym (ap (λ x. x.status) (o.nothing refl).fresh) ∙ e in cc
@@ -68,20 +68,29 @@ memory_of_values p q statistics =
     ap (λ x. memory x (values q) statistics) (map-id p) ∙ ap (λ x. memory p x statistics) (map-id q)
 
 -- what a call leaves in the values is what it leaves in the integers
+pub leaves_values : (hold : Option (List Bool)) (m n : ℤ) (choice : Parameters) (a_p a_i p q r s : List ℤ) (before after : Statistics)
+    (status : Status) → m ≡ n →
+    Leaves hold m choice (values a_p) (values a_i) (memory (values p) (values q) before) (memory (values r) (values s) after) status →
+    Leaves hold n choice a_p a_i (memory p q before) (memory r s after) status
+leaves_values hold m n choice a_p a_i p q r s before after status same left =
+    let old : Memory = memory (values p) (values q) before in
+    let new : Memory = memory (values r) (values s) after in
+    let one = subst (λ x. Leaves hold x choice (values a_p) (values a_i) old new status) same left in
+    let two = subst (λ x. Leaves hold n choice x (values a_i) old new status) (map-id a_p) one in
+    let three = subst (λ x. Leaves hold n choice a_p x old new status) (map-id a_i) two in
+    let four = subst (λ x. Leaves hold n choice a_p a_i x new status) (memory_of_values p q before) three in
+    subst (λ x. Leaves hold n choice a_p a_i (memory p q before) x status) (memory_of_values r s after) four
+
 pub orders_into : (hold : Option (List Bool)) (m n : ℤ) (choice : Parameters) (a_p a_i p q r s : List ℤ) (before after : Statistics)
     (number : ℤ) → m ≡ n →
     OrdersInto hold m choice (values a_p) (values a_i) (memory (values p) (values q) before) (memory (values r) (values s) after)
     number →
     OrdersInto hold n choice a_p a_i (memory p q before) (memory r s after) (to_z w32 (of_z w32 number))
-orders_into hold m n choice a_p a_i p q r s before after number same o =
-    let old : Memory = memory (values p) (values q) before in
-    let new : Memory = memory (values r) (values s) after in
-    let one = subst (λ x. Leaves hold x choice (values a_p) (values a_i) old new o.status) same o.left in
-    let two = subst (λ x. Leaves hold n choice x (values a_i) old new o.status) (map-id a_p) one in
-    let three = subst (λ x. Leaves hold n choice a_p x old new o.status) (map-id a_i) two in
-    let four = subst (λ x. Leaves hold n choice a_p a_i x new o.status) (memory_of_values p q before) three in
-    let five = subst (λ x. Leaves hold n choice a_p a_i (memory p q before) x o.status) (memory_of_values r s after) four in
-    record { status = o.status; answer = answer_is o.status number o.answer; left = five }
+orders_into hold m n choice a_p a_i p q r s before after number same o = record {
+  status = o.status;
+  answer = answer_is o.status number o.answer;
+  left = leaves_values hold m n choice a_p a_i p q r s before after o.status same o.left;
+}
 
 -- and so for the status of an input
 pub classifies_input : (k l m n : ℤ) (a_p a_i : List ℤ) (status : Status) (number : ℤ) → k ≡ m → l ≡ n →

@@ -4,3 +4,5 @@ pub mod Leaving
 pub mod ColumnsLeft
 -- What the counts of those columns leave, and the same in the numbers of C.
 pub mod CountsLeft
+-- What an ordering in a lent block leaves.
+pub mod Blocks

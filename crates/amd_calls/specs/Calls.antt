@@ -1,10 +1,11 @@
 -- What the calls leave in a caller's arrays and record, and which number they answer.
-use Rattle.std.specs.Prelude.{◌≡◌, ℤ, pos, Bool, Option, List, length}
+use Rattle.std.specs.Prelude.{◌≡◌, ℕ, ℤ, pos, Bool, Option, List, length}
 use Rattle.amd_types.specs.Statuses.{IsStatusOf}
 use Rattle.amd_types.specs.declared.amd.Info.{Info}
 use Rattle.amd_types.specs.declared.amd.Status.{Status}
 use Rattle.amd_types.specs.declared.amd.Status.TheVariants.{OK, Invalid, OkButJumbled, OutOfMemory}
 use Rattle.amd.specs.Answers.{IsOrderingHolding, IsRefusalHolding}
+use Rattle.amd.specs.Blocks.{FitsInBlock}
 use Rattle.amd_calls.specs.declared.records.Parameters.{Parameters}
 use Rattle.amd_calls.specs.declared.records.Statistics.{Statistics}
 use Rattle.amd_calls.specs.Numbers.{number_of, statistics_of}
@@ -53,6 +54,22 @@ pub record OrdersInto (hold : Option (List Bool)) (n : ℤ) (choice : Parameters
     pub status : Status
     pub answer : number ≡ number_of status
     pub left : Leaves hold n choice ap ai old new status
+
+-- a block of so many bytes is enough for the matrix, exactly where it is ordered or the call is not valid
+abbrev pub TellsBlock : ℤ → List ℤ → ℕ → Status → Type 0
+TellsBlock n ap size OK = FitsInBlock n ap size
+TellsBlock n ap size OkButJumbled = FitsInBlock n ap size
+TellsBlock n ap size Invalid = Unit {0}
+TellsBlock n ap size OutOfMemory = ¬ (FitsInBlock n ap size)
+
+-- the same for a call in a block of so many bytes: for `OutOfMemory` there is no other reason than that it has too few
+pub record OrdersWithin (hold : Option (List Bool)) (n : ℤ) (choice : Parameters) (ap ai : List ℤ) (size : ℕ) (old new : Memory)
+    (number : ℤ) : Type 0
+  where
+    pub status : Status
+    pub answer : number ≡ number_of status
+    pub left : Leaves hold n choice ap ai old new status
+    pub block : TellsBlock n ap size status
 
 -- the number is that of the status of an input with n columns and m rows
 pub record ClassifiesInput (m n : ℤ) (ap ai : List ℤ) (number : ℤ) : Type 0 where

@@ -1,9 +1,11 @@
 //! What the calls for other languages share, over any allocator: an ordering, the counts and the columns of a factor,
-//! written into a caller's arrays; the records that cross, and the numbers of the statuses.
+//! written into a caller's arrays; an ordering in a block that the caller lends; the records that cross, and the numbers
+//! of the statuses.
 #![tactic(auto)]
 
 pub mod counting;
 pub mod factors;
 pub mod records;
 pub mod signed;
+pub mod within;
 pub mod writing;

@@ -1,0 +1,13 @@
+use Rattle.std.proofs.Common.{w64}
+use Rattle.std.specs.Prelude.{Some}
+use Rattle.std.proofs.lemmas.Int.{to_z-of_z}
+use Rattle.amd_calls.proofs.Blocks.{orders_within}
+use Rattle.amd_bare.proofs.int64.rimopaku_order_holding_within_i64.Goals as goal
+
+pub returns : goal.returns
+returns c =
+    let a = c.args in
+    let order = c.order_within in
+    orders_within (Some c.args.hold.now) _ a.n a.parameters.now a.a_p.now a.a_i.now a.lent.size a.p.now a.p_inv.now order.new.p order.new.p_inv
+    a.statistics.now
+    order.new.statistics _ (to_z-of_z w64 a.n c.ranges.n) order.ensures

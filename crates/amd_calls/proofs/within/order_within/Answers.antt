@@ -1,0 +1,68 @@
+-- What stands in the caller's arrays is what the ordering answered.
+use Rattle.std.proofs.Common.{List, ℤ, ◌≡◌, map, subst, rules, SFits, w32}
+use Rattle.std.specs.Option.{option_copied}
+use Rattle.std.proofs.lemmas.Int.{to_z-of_z}
+use Rattle.amd.specs.Answers.{IsOrderingHolding}
+use Rattle.amd.specs.Blocks.{IsBlockRefusal}
+use Rattle.amd_types.specs.declared.amd.Status.TheVariants.{Invalid, OutOfMemory}
+use Rattle.amd_calls.specs.Calls.{memory}
+use Rattle.amd_calls.proofs.Blocks.{refuses_invalid, refuses_short, tells_ordered}
+use Rattle.amd_calls.proofs.Leaving.{answer_is, leaves_ordering}
+use Rattle.amd_calls.proofs.within.order_within.Goals as goal
+
+pub returns-in-Ok : goal.returns-in-Ok
+returns-in-Ok g c =
+    let value = g.I.Number.value in
+    let hold = option_copied c.args.hold in
+    let z : ℤ = value c.args.n in
+    let t : ℤ = c.args.parameters.now.dense in
+    let aggressive = c.args.parameters.now.aggressive in
+    let a_p : List ℤ = map value c.args.a_p.now in
+    let a_i : List ℤ = map value c.args.a_i.now in
+    let p : List ℤ = map value c.order_in_block.new.p in
+    let q : List ℤ = map value c.order_in_block.new.p_inv in
+    let info = c.in-Ok.info in
+    let fits : SFits w32 t = search rules in
+    let ordered = subst (λ x. IsOrderingHolding hold z x aggressive a_p a_i p q info) (to_z-of_z w32 t fits) c.in-Ok.ensures.ordering in
+    let old = memory (map value c.args.p.now) (map value c.args.p_inv.now) c.args.statistics.now in
+    record {
+      status = info.status;
+      answer = answer_is info.status _ c.number_of.ensures;
+      left = leaves_ordering hold z c.args.parameters.now a_p a_i old (memory p q c.statistics_of.result) info ordered
+          c.statistics_of.ensures;
+      block = tells_ordered hold z t aggressive a_p a_i p q c.args.block.size info ordered c.in-Ok.ensures.inside;
+    }
+
+pub returns-in-Err-Invalid : goal.returns-in-Err-Invalid
+returns-in-Err-Invalid g c =
+    let value = g.I.Number.value in let told = c.args.statistics.now in let hold = option_copied c.args.hold in
+    let z : ℤ = value c.args.n in let a_p : List ℤ = map value c.args.a_p.now in let a_i : List ℤ = map value c.args.a_i.now in
+    let p : List ℤ = map value c.args.p.now in let q : List ℤ = map value c.args.p_inv.now in
+    let e = c.in-Err-Invalid.ensures in
+    let refusal = subst (λ r. IsBlockRefusal hold z a_p a_i p q c.args.block.size r) c.in-Err-Invalid.field-0-is e.refusal in
+    record {
+      status = Invalid;
+      answer = answer_is Invalid _ c.number_of-in-Err-Invalid.ensures;
+      left = (
+        refuses_invalid hold z a_p a_i (memory p q told) refusal,
+        λ i. memory (map value (e.kept.0 i)) (map value (e.kept.1 i)) told,
+      );
+      block = tt;
+    }
+
+pub returns-in-Err-TooLarge : goal.returns-in-Err-TooLarge
+returns-in-Err-TooLarge g c =
+    let value = g.I.Number.value in let told = c.args.statistics.now in let hold = option_copied c.args.hold in
+    let z : ℤ = value c.args.n in let a_p : List ℤ = map value c.args.a_p.now in let a_i : List ℤ = map value c.args.a_i.now in
+    let p : List ℤ = map value c.args.p.now in let q : List ℤ = map value c.args.p_inv.now in
+    let size = c.args.block.size in let e = c.in-Err-TooLarge.ensures in
+    let refusal = subst (λ r. IsBlockRefusal hold z a_p a_i p q size r) c.in-Err-TooLarge.field-0-is e.refusal in
+    record {
+      status = OutOfMemory;
+      answer = answer_is OutOfMemory _ c.number_of-in-Err-TooLarge.ensures;
+      left = (
+        refuses_short hold z a_p a_i size (memory p q told) refusal.0 refusal.1,
+        λ i. memory (map value (e.kept.0 i)) (map value (e.kept.1 i)) told,
+      );
+      block = refusal.1;
+    }

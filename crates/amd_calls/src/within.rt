@@ -1,0 +1,60 @@
+// Writes an ordering into a caller's arrays, for any integer type, in a block of memory that the caller lends. Nothing but
+// the input and the size of the block is a reason to refuse.
+
+ghost use Rattle.std.specs.Prelude.{◌≡◌, map, min};
+ghost use Rattle.std.specs.Option.{option_copied};
+ghost use Rattle.amd.specs.Blocks.{workspace_bytes};
+ghost use Rattle.amd_calls.specs.Calls.{OrdersWithin, memory};
+
+use crate::records::{Parameters, Statistics, number_of, statistics_of};
+use amd::{Control, Piece, Refusal, Status, order_in_block, workspace_bytes};
+use num_traits::PrimInt;
+
+/// The bytes of a workspace in a block for so many rows and entries, or the greatest count where they are more.
+pub fn bytes_or_most(rows: usize, entries: usize) -> usize
+    ensures { result ≡ min (workspace_bytes rows entries) 18446744073709551615 }
+{
+    workspace_bytes(rows, entries).unwrap_or(usize::MAX)
+}
+
+/// Orders a matrix into the caller's arrays as [`crate::writing::order_into`] does, in memory that the caller lends, and returns the
+/// number of the status.
+///
+/// # Errors
+///
+/// A status that is an error; all stays as it was. `Invalid` exactly where `p` or `p_inv` has not `n` places, or `order`,
+/// with marks `order_holding`, returns it. `OutOfMemory` exactly where the call is valid otherwise, `n` is not 0, and the
+/// block has fewer bytes than `workspace_bytes` of the crate `amd` tells for `n` rows and `a_p[n]` entries.
+///
+/// Source: AMD user guide; Amestoy, Davis and Duff 1996 and 2004.
+pub fn order_within<I: PrimInt>(
+    block: Piece,
+    n: I,
+    a_p: &[I],
+    a_i: &[I],
+    parameters: &Parameters,
+    hold: Option<&[bool]>,
+    p: &mut [I],
+    p_inv: &mut [I],
+    statistics: &mut Statistics,
+) -> i32
+    // A number of a primitive type is always in range.
+    requires fits { I.fits (I.value n) }
+    ensures { OrdersWithin (option_copied hold.entry) (I.value n) parameters.now
+        (map I.value a_p.now) (map I.value a_i.now) block.size
+        (memory (map I.value p.old) (map I.value p_inv.old) statistics.old)
+        (memory (map I.value p.new) (map I.value p_inv.new) statistics.new) result }
+{
+    let control = Control {
+        dense: parameters.dense,
+        aggressive: parameters.aggressive,
+    };
+    match order_in_block(block, n, a_p, a_i, &control, hold, p, p_inv) {
+        Ok(info) => {
+            *statistics = statistics_of(&info);
+            number_of(&info.status)
+        }
+        Err(Refusal::Invalid) => number_of(&Status::Invalid),
+        Err(Refusal::TooLarge) => number_of(&Status::OutOfMemory),
+    }
+}
