@@ -15,6 +15,7 @@ ghost use Rattle.amd_workspace.specs.Lists.{HasRoom};
 ghost use Rattle.amd.specs.Answers.{OrdersMatrix};
 
 use amd_engine::amd_1::order_within;
+use amd_engine::rows::Choice;
 use amd_input::aat::{DegreeCounter, aat_within};
 use amd_types::amd::{Control, Info};
 use amd_types::index::Index;
@@ -94,5 +95,10 @@ pub fn order_sorted<I: Index, J: Index, S: Signed, P: Signed, U: Unsigned, A: Al
     ensures status { info.new.status ≡ info.old.status }
     ensures room { (n count : ℕ) → HasRoom n count memory.old → HasRoom n count memory.new }
 {
-    order_within(memory, 2, a_p, a_i, room, control, hold, p, p_inv, info);
+    let choice = Choice {
+        control,
+        hold,
+        flag: 2,
+    };
+    order_within(memory, a_p, a_i, room, &choice, p, p_inv, info);
 }

@@ -20,8 +20,9 @@ use amd::valid::valid;
 use amd::{Control, Info, Status};
 use amd_cases::matrix::BinaryMatrix;
 use amd_engine::amd_1::holds;
-use amd_engine::ended::list_rows;
+use amd_engine::ended::{finish, list_rows};
 use amd_engine::fresh::{fill_lists, memory_for, room_for};
+use amd_engine::rows::{Choice, RowLists};
 use amd_engine::running::run_growing;
 use amd_types::dense::dense_threshold;
 use amd_types::index::Index;
@@ -123,45 +124,36 @@ fn time_rounds<R: time::Clock + Alloc<A = Global>, I: Index, S: Signed, P: Signe
         (room ≤ vec_capacity iw.old) }
     requires narrow { AreWideEnough S.MOST P.MOST U.MOST (length len.old) room }
 {
-    let control = Control::default();
+    let choice = Choice {
+        control: &Control::default(),
+        hold: None,
+        flag: 2,
+    };
     let size = len.len();
-    let threshold = dense_threshold(size, &control);
+    let threshold = dense_threshold(size, choice.control);
     let mut degree = Vec::with_capacity(rt.alloc(), size)?;
     let mut lists = Lists::with_room(rt.alloc(), size)?;
     let mut p = room_for(rt.alloc(), size)?;
     let mut p_inv = room_for(rt.alloc(), size)?;
     fill_lists(size, &mut degree, &mut lists);
     clock.end(rt, "lists");
-    run_growing(
-        iw,
-        pe,
-        len,
-        &mut lists.e_len,
-        &mut lists.nv,
-        &mut degree,
-        &mut lists.w,
-        &mut lists.head,
-        &mut lists.sides,
-        &mut lists.hash,
-        free,
-        2,
-        &control,
-        None,
-        threshold,
-        room,
-    );
+    let mut rows = RowLists {
+        pe: &mut *pe,
+        len: &mut *len,
+        e_len: &mut lists.e_len,
+        nv: &mut lists.nv,
+        degree: &mut degree,
+        w: &mut lists.w,
+        head: &mut lists.head,
+        sides: &mut lists.sides,
+        hash: &mut lists.hash,
+    };
+    let told = run_growing(iw, &mut rows, free, room, threshold, &choice);
     clock.end(rt, "rounds");
-    list_rows(
-        pe,
-        &mut lists.e_len,
-        &mut lists.nv,
-        &mut degree,
-        &mut lists.w,
-        &mut lists.head,
-        &mut lists.hash,
-        &mut p,
-        &mut p_inv,
-    );
+    list_rows(&mut rows);
+    let head = &mut *rows.head;
+    let w = &mut *rows.w;
+    finish(&told, head, w, &mut p, &mut p_inv, &mut Info::new(size));
     clock.end(rt, "listing");
     Ok(p)
 }

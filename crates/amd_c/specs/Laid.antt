@@ -32,8 +32,8 @@ pub record HoldsElimination (choice : Parameters) (iw pe : List ℤ) (len : List
     (m : Eliminated) : Type 0 where
   pub info : Info
   pub answers : (g : Graph) (lists : ℕ → List ℕ) → LaysGraph g lists iw pe len →
-      AnswersInPlace g lists None (length len) choice.dense choice.aggressive m.p m.q m.nv m.e_len links
-      (fresh_info (length len)) info
+      AnswersInPlace g lists None (length len) (record { dense = choice.dense; aggressive = choice.aggressive })
+      (record { p = m.p; q = m.q; nv = m.nv; e_len = m.e_len; pe = links }) (fresh_info (length len)) info
   pub compactions : info.n_cmp_a ≤ length len
   pub told : m.statistics ≡ statistics_of info
 

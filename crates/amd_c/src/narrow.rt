@@ -10,6 +10,7 @@ ghost use Rattle.amd_c.specs.Laid.{HasPlacesFor, LeavesElimination, elimination}
 
 use amd_calls::records::{Parameters, Statistics, statistics_of};
 use amd_engine::amd_2::amd_2_from;
+use amd_engine::rows::Choice;
 use amd_types::amd::{Control, Info, Status};
 use amd_words::{Cell, Word, cell_of, put_word, word_at};
 use amd_workspace::filling::words;
@@ -97,8 +98,13 @@ fn eliminate_copies(
     requires laid { IsLaidOut (length len.now) iw.now pe.now len.now (length iw.now) }
     requires graph { (g : Graph) × (lists : ℕ → List ℕ) × LaysGraph g lists iw.now pe.now len.now }
     ensures orders { IfOk result (λ a. (g : Graph) (lists : ℕ → List ℕ) → LaysGraph g lists iw.now pe.now len.now →
-        AnswersInPlace g lists None (length len.now) control.now.dense control.now.aggressive a.p.items a.p_inv.items
-        a.nv.items a.e_len.items a.pe.items info.old info.new) }
+        AnswersInPlace g lists None (length len.now) control.now (record {
+          p = a.p.items;
+          q = a.p_inv.items;
+          nv = a.nv.items;
+          e_len = a.e_len.items;
+          pe = a.pe.items;
+        }) info.old info.new) }
     ensures links { IfOk result (λ a. length a.pe.items ≡ length len.now) }
     ensures compactions { OnOk result (info.new.n_cmp_a ≤ length len.now) }
     ensures refused { IfErr result (λ e. e ≡ Status.OutOfMemory) }
@@ -107,16 +113,19 @@ fn eliminate_copies(
     let mut links = words_from(alloc, pe, pe.len())?;
     let mut lists = words_from(alloc, iw, room)?;
     let mut counts = cells_from(alloc, len)?;
+    let choice = Choice {
+        control,
+        hold: None,
+        flag: 2,
+    };
     let (nv, p_inv, p, e_len) = amd_2_from(
         alloc,
-        2,
         n,
         &mut links,
         &mut lists,
         &mut counts,
         iw.len(),
-        control,
-        None,
+        &choice,
         info,
     )?;
     Ok(Answer {

@@ -10,6 +10,7 @@ use Rattle.amd_model.specs.State.{is_element, in_block}
 use Rattle.amd_words.specs.Words.{num, word, is_place}
 use Rattle.amd_rounds.specs.Workspaces.{flipped}
 use Rattle.amd_workspace.specs.Ending.{block_in, named_word}
+use Rattle.amd_engine.specs.declared.rows.RowLists.{RowLists}
 use Rattle.amd_engine.specs.InPlace.{AreOver}
 
 -- a list of the numbers of so many rows
@@ -30,7 +31,16 @@ numbers_at f (suc k) i l = let long = numbers_long f k in elim (cases_lt i k) [
   | inr a ↦ (let e : k ≡ i = omega (arith, a, l) in get_or_push (numbers_of f k) (f k) (pos 0) i (long ∙ e) ∙ ap f e)
 ]
 
-module _ {n : ℕ} {pe e_len nv : List ℤ} {degree w head hash : List ℕ} (over : AreOver n pe e_len nv degree w head hash) where
+module _ {S P U : Type 0} {n : ℕ} {rows : RowLists S P U} (over : AreOver n rows) where
+  abbrev pe : List ℤ
+  pe = rows.pe.now
+
+  abbrev e_len : List ℤ
+  e_len = rows.e_len.now
+
+  abbrev degree : List ℕ
+  degree = rows.degree.now
+
   link_at : ℕ → ℤ
   link_at i = cond (is_place (word e_len i)) (negsuc 0) (named_word (word pe i))
 
@@ -40,7 +50,7 @@ module _ {n : ℕ} {pe e_len nv : List ℤ} {degree w head hash : List ℕ} (ove
   block_at : ℕ → ℤ
   block_at i = pos (block_in e_len degree i)
 
-  pub block_few : (i : ℕ) → i < n → block_in e_len degree i ≤ n
+  pub block_few : (i : ℕ) → i < n → block_in rows.e_len.now rows.degree.now i ≤ n
   unfolding link_at front_at block_at
   block_few i l =
       let ended = over.ends (numbers_of link_at n) (numbers_of front_at n) (numbers_of block_at n) (λ k m. record {
@@ -51,7 +61,7 @@ module _ {n : ℕ} {pe e_len nv : List ℤ} {degree w head hash : List ℕ} (ove
       let size = sym ended.ended.fronts_long ∙ numbers_long front_at n in let here = sym (numbers_at block_at n i l) in
       let last = last_state ended.first ended.states in
       elim (cases_Bool (is_element last i)) [
-        | inl y ↦ (let rows = ap unsigned_abs (here ∙ ended.ended.blocks i y) in
-            let most = count_most ended.graph.size (in_block last i) in omega (arith, rows, most, size))
+        | inl y ↦ (let is = ap unsigned_abs (here ∙ ended.ended.blocks i y) in
+            let most = count_most ended.graph.size (in_block last i) in omega (arith, is, most, size))
         | inr out ↦ (let none = ap unsigned_abs (here ∙ ended.ended.no_element i out) in omega (arith, none))
       ]

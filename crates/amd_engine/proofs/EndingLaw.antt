@@ -16,7 +16,6 @@ use Rattle.amd_model.proofs.Patterns.StartingLists.{starting_lists}
 use Rattle.amd_model.proofs.States.EndState.{IsEnd, at_the_end}
 use Rattle.amd_types.specs.Permutations.{AreInverse}
 use Rattle.amd_types.specs.declared.amd.Info.{Info}
-use Rattle.amd_types.specs.declared.figures.Figures.{Figures}
 use Rattle.amd_edges.specs.Visits.{AreCounts}
 use Rattle.amd_lists.specs.Layout.{list_in}
 use Rattle.amd_words.specs.Words.{num, word, size_of, rows_in}
@@ -27,6 +26,8 @@ use Rattle.amd_model.proofs.Counting.Below.{count_pos}
 use Rattle.amd_workspace.specs.Ending.{EndsRows}
 use Rattle.amd_workspace.specs.Laying.{IsLaidOut}
 use Rattle.amd_engine_law.specs.Engine.{TellsElements}
+use Rattle.amd_engine.specs.declared.rows.RowLists.{RowLists}
+use Rattle.amd_engine.specs.declared.running.Told.{Told}
 use Rattle.amd_engine.specs.InPlace.{AnswersInPlace, EndsRounds, LaysGraph, RunsInPlace, TellsTree, parent_word}
 use Rattle.amd_engine_law.proofs.EngineLaw.{told_by, run, answer_of}
 use Rattle.amd_workspace.proofs.Ended.{ended}
@@ -34,23 +35,23 @@ use Rattle.amd_workspace.proofs.Ended.{ended}
 -- ---- one graph
 
 -- the lists that the rounds left, once its rows are ended
-module _ (g : Graph) (dense : ℕ → Bool) (aggressive : Bool) (lists : ℕ → List ℕ) (n_dense : ℕ) (figures : Figures)
-    (pe e_len nv : List ℤ) (degree : List ℕ) (e : EndsRounds g dense aggressive lists n_dense figures pe e_len nv degree)
-    (pe' e_len' nv' : List ℤ) (ends : EndsRows g.size pe e_len degree pe' e_len' nv')
+module _ {S P U : Type 0} (g : Graph) (dense : ℕ → Bool) (aggressive : Bool) (lists : ℕ → List ℕ) (told : Told) (left : RowLists S P U)
+    (e : EndsRounds g dense aggressive lists told left) (pe' e_len' nv' : List ℤ)
+    (ends : EndsRows g.size left.pe.now left.e_len.now left.degree.now pe' e_len' nv')
     (pe_long : length pe' ≡ g.size) (e_len_long : length e_len' ≡ g.size) (nv_long : length nv' ≡ g.size) where
   abbrev last : State
   last = last_state e.first e.reaches.states
 
   the_run : Run g dense aggressive e.first e.reaches.states
-  the_run = run g dense aggressive lists e.first n_dense figures e.reaches
+  the_run = run g dense aggressive lists e.first told.n_dense told.figures e.reaches
 
   is_end : IsEnd g dense last
   is_end = at_the_end g dense aggressive e.first e.reaches.states e.reaches.graph the_run
 
   ends_after : EndsRows g.size e.after.pe e.after.e_len e.after.degree pe' e_len' nv'
   ends_after = subst (λ xs. EndsRows g.size xs e.after.e_len e.after.degree pe' e_len' nv') (sym e.pe_is)
-      (subst (λ xs. EndsRows g.size pe xs e.after.degree pe' e_len' nv') (sym e.e_len_is)
-      (subst (λ xs. EndsRows g.size pe e_len xs pe' e_len' nv') (sym e.degree_is) ends))
+      (subst (λ xs. EndsRows g.size left.pe.now xs e.after.degree pe' e_len' nv') (sym e.e_len_is)
+      (subst (λ xs. EndsRows g.size left.pe.now left.e_len.now xs pe' e_len' nv') (sym e.degree_is) ends))
 
   is_ended : IsEnded g last pe' nv' e_len'
   is_ended = ended g dense e.words e.after e.reaches.end last e.stands is_end pe' e_len' nv' ends_after pe_long e_len_long nv_long
@@ -101,10 +102,9 @@ module _ (g : Graph) (dense : ℕ → Bool) (aggressive : Bool) (lists : ℕ →
 
 -- ---- whatever graph is laid
 
-module _ (hold : Option (List Bool)) (threshold : ℕ) (aggressive : Bool) (iw pe : List ℤ) (len : List ℕ) (n_dense : ℕ) (figures : Figures)
-    (pe1 e_len1 nv1 : List ℤ) (degree1 : List ℕ)
-    (runs : RunsInPlace hold threshold aggressive iw pe len n_dense figures pe1 e_len1 nv1 degree1)
-    (pe2 e_len2 nv2 : List ℤ) (ends : EndsRows (length len) pe1 e_len1 degree1 pe2 e_len2 nv2)
+module _ {S P U : Type 0} (hold : Option (List Bool)) (threshold : ℕ) (aggressive : Bool) (iw pe : List ℤ) (len : List ℕ) (told : Told)
+    (left : RowLists S P U) (runs : RunsInPlace hold threshold aggressive iw pe len told left) (pe2 e_len2 nv2 : List ℤ)
+    (ends : EndsRows (length len) left.pe.now left.e_len.now left.degree.now pe2 e_len2 nv2)
     (pe_long : length pe2 ≡ length len) (e_len_long : length e_len2 ≡ length len) (nv_long : length nv2 ≡ length len) where
   module _ (g : Graph) (lists : ℕ → List ℕ) (lays : LaysGraph g lists iw pe len) where
     abbrev dense : ℕ → Bool
@@ -113,44 +113,36 @@ module _ (hold : Option (List Bool)) (threshold : ℕ) (aggressive : Bool) (iw p
     size_is : length len ≡ g.size
     size_is = lays.neighbours.size
 
-    ends_here : EndsRows g.size pe1 e_len1 degree1 pe2 e_len2 nv2
-    ends_here = subst (λ k. EndsRows k pe1 e_len1 degree1 pe2 e_len2 nv2) size_is ends
+    ends_here : EndsRows g.size left.pe.now left.e_len.now left.degree.now pe2 e_len2 nv2
+    ends_here = subst (λ k. EndsRows k left.pe.now left.e_len.now left.degree.now pe2 e_len2 nv2) size_is ends
 
     -- the lists tell the end of some run
     pub is_over : HasEnded pe2 nv2 e_len2
-    is_over = has_ended g dense aggressive lists n_dense figures pe1 e_len1 nv1 degree1 (runs g lists lays) pe2 e_len2 nv2 ends_here
+    is_over = has_ended g dense aggressive lists told left (runs g lists lays) pe2 e_len2 nv2 ends_here
         (pe_long ∙ size_is) (e_len_long ∙ size_is) (nv_long ∙ size_is)
 
     -- the listing is an answer
     pub answers : (rows : List ℕ) → ListsEnded pe2 nv2 e_len2 rows → (t : ℤ) → 0 < length len → IsThreshold (length len) t threshold →
-        (p q : List ℤ) → p ≡ map pos rows → AreInverse (length len) p q → (compactions : ℕ) (before after : Info) →
-        after ≡ told_by n_dense figures compactions before → (links : List ℤ) → Shortens nv2 pe2 links →
-        AnswersInPlace g lists hold (length len) t aggressive p q nv2 e_len2 links before after
+        (p q : List ℤ) → p ≡ map pos rows → AreInverse (length len) p q → (before after : Info) →
+        after ≡ told_by told.n_dense told.figures told.n_cmp_a before → (links : List ℤ) → Shortens nv2 pe2 links →
+        AnswersInPlace g lists hold (length len) (record { dense = t; aggressive = aggressive })
+        (record { p = p; q = q; nv = nv2; e_len = e_len2; pe = links }) before after
     unfolding answer_of
-    answers rows all t some is_threshold p q is inverse compactions before after told links shortened =
+    answers rows all t some is_threshold p q is inverse before after tells' links shortened =
         let e = runs g lists lays in
         let order : IsPostorder g dense (last_state e.first e.reaches.states) rows =
-        listed g dense aggressive lists n_dense figures pe1 e_len1 nv1 degree1 e pe2 e_len2 nv2 ends_here
+        listed g dense aggressive lists told left e pe2 e_len2 nv2 ends_here
         (pe_long ∙ size_is) (e_len_long ∙ size_is) (nv_long ∙ size_is) rows all in
         record {
-          answer = answer_of g aggressive lists hold threshold e.first n_dense figures e.reaches rows order (length len) t (sym size_is)
-              some
-              is_threshold p q is inverse compactions before after told;
-          elements = tells g dense aggressive lists n_dense figures pe1 e_len1 nv1 degree1 e pe2 e_len2 nv2 ends_here
+          answer = answer_of g aggressive lists hold threshold e.first told.n_dense told.figures e.reaches rows order (length len) t
+              (sym size_is) some is_threshold p q is inverse told.n_cmp_a before after tells';
+          elements = tells g dense aggressive lists told left e pe2 e_len2 nv2 ends_here
               (pe_long ∙ size_is) (e_len_long ∙ size_is) (nv_long ∙ size_is);
-          tree = tree g dense aggressive lists n_dense figures pe1 e_len1 nv1 degree1 e pe2 e_len2 nv2 ends_here
+          tree = tree g dense aggressive lists told left e pe2 e_len2 nv2 ends_here
               (pe_long ∙ size_is) (e_len_long ∙ size_is) (nv_long ∙ size_is) links shortened;
         }
 
 -- ---- the same lists under other names
-
-pub ends_same : (n m : ℕ) (pe e_len e_len1 : List ℤ) (degree degree1 : List ℕ) (pe' e_len' nv' e_len2 nv2 : List ℤ) →
-    EndsRows n pe e_len degree pe' e_len' nv' → n ≡ m → e_len ≡ e_len1 → degree ≡ degree1 → e_len' ≡ e_len2 → nv' ≡ nv2 →
-    EndsRows m pe e_len1 degree1 pe' e_len2 nv2
-ends_same n m pe e_len e_len1 degree degree1 pe' e_len' nv' e_len2 nv2 ends size a b x y =
-    subst (λ k. EndsRows k pe e_len1 degree1 pe' e_len2 nv2) size
-    (subst (λ xs. EndsRows n pe xs degree1 pe' e_len2 nv2) a (subst (λ xs. EndsRows n pe e_len xs pe' e_len2 nv2) b
-    (subst (λ xs. EndsRows n pe e_len degree pe' xs nv2) x (subst (λ xs. EndsRows n pe e_len degree pe' e_len' xs) y ends))))
 
 pub laid_same : (n m : ℕ) (iw iw1 pe pe1 : List ℤ) (len len1 : List ℕ) (free : ℕ) → IsLaidOut n iw pe len free → n ≡ m → iw ≡ iw1 →
     pe ≡ pe1 → len ≡ len1 → IsLaidOut m iw1 pe1 len1 free
@@ -182,11 +174,6 @@ turned n p q inverse = record {
   there = inverse.back;
   back = inverse.there;
 }
-
--- the same pair under other names
-pub inverse_same : (n m : ℕ) (p q p' q' : List ℤ) → AreInverse n p q → n ≡ m → p' ≡ p → q' ≡ q → AreInverse m p' q'
-inverse_same n m p q p' q' inverse size a b = subst (λ k. AreInverse k p' q') size
-    (subst (λ xs. AreInverse n xs q') (sym a) (subst (λ xs. AreInverse n p xs) (sym b) inverse))
 
 -- ---- the start
 

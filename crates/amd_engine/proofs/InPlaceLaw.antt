@@ -1,5 +1,5 @@
 -- The engine in place runs the rules: it starts where an elimination starts, and its rounds come to an end.
-use Rattle.std.proofs.Common.{ℕ, ℤ, pos, Bool, List, Option, ◌≡◌, ◌≤◌, ◌<◌, ◌+◌, ◌||◌, ap, sym, subst, refl, arith, length, reverse}
+use Rattle.std.proofs.Common.{◌∙◌, ℕ, ℤ, pos, Bool, List, Option, ◌≡◌, ◌≤◌, ◌<◌, ◌+◌, ◌||◌, ap, sym, subst, refl, arith, length, reverse}
 use Rattle.std.specs.Prelude.{nat_lt, replicate}
 use Rattle.amd_model.specs.Below.{count_below}
 use Rattle.amd_model.specs.Graph.{Graph}
@@ -21,9 +21,30 @@ use Rattle.amd_workspace.specs.Laying.{IsLaidOut}
 use Rattle.amd_workspace.specs.Starting.{Rows, BeginsRows, held_in, begins_class, classes_of}
 use Rattle.amd_workspace.proofs.Begun.{rows_of, begun_view, begun_laid, listed_row}
 use Rattle.amd_workspace.proofs.AtStart.{stands_at_start}
-use Rattle.amd_engine.specs.InPlace.{AreOver, LaysGraph, RunsInPlace, StandsAtStart, first_sums}
+use Rattle.amd_engine.specs.declared.rows.RowLists.{RowLists}
+use Rattle.amd_engine.specs.declared.running.Numbers.{Numbers}
+use Rattle.amd_engine.specs.declared.running.Told.{Told}
+use Rattle.amd_engine.specs.InPlace.{AreOver, KeepsRows, LaysGraph, RunsInPlace, StandsAtStart, first_sums, workspace_in}
 use Rattle.amd_engine.proofs.EndingLaw.{is_over}
 use Rattle.amd_engine_law.proofs.EngineLaw.{degree_small}
+
+-- what a run tells that ended with these numbers
+abbrev pub told_of : Numbers → Told
+told_of numbers = record { n_dense = numbers.n_dense; n_cmp_a = numbers.n_cmp_a; figures = numbers.figures }
+
+-- lists that are lent on are those that were lent
+pub keeps_rows : {S P U : Type 0} (a b c : RowLists S P U) → KeepsRows a b → KeepsRows b c → KeepsRows a c
+keeps_rows a b c l m = (
+  m.0 ∙ l.0,
+  m.1 ∙ l.1,
+  m.2 ∙ l.2,
+  m.3 ∙ l.3,
+  m.4 ∙ l.4,
+  m.5 ∙ l.5,
+  m.6 ∙ l.6,
+  m.7 ∙ l.7,
+  m.8 ∙ l.8,
+)
 
 -- what the lists of a workspace say before its first round, beside its rows
 pub record IsFresh (n : ℕ) (held : ℕ → Bool) (degrees : List ℕ) (v : Workspace) : Type 0 where
@@ -105,26 +126,30 @@ module _ (hold : Option (List Bool)) (threshold : ℕ) (p : Rows) (v : Workspace
       × Stands g (is_held_last hold g threshold) nzaat v (start_quotient g (is_held_last hold g threshold) lists) first
   stands_start = (first_state g dense, v.free, starts g dense, stands_first)
 
--- rounds from the start of an elimination came to an end
-module _ (hold : Option (List Bool)) (threshold : ℕ) (aggressive : Bool) (iw pe : List ℤ) (len : List ℕ) (before after : Workspace)
-    (start : StandsAtStart hold threshold iw pe len before) (rounds : AreRounds aggressive before after) where
+-- rounds from the start of an elimination came to an end, with these words, lists and numbers
+module _ {S P U : Type 0} (hold : Option (List Bool)) (threshold : ℕ) (aggressive : Bool) (iw pe : List ℤ) (len : List ℕ)
+    (before : Workspace) (words : List ℤ) (rows : RowLists S P U) (numbers : Numbers)
+    (start : StandsAtStart hold threshold iw pe len before) (rounds : AreRounds aggressive before (workspace_in words rows numbers)) where
+  abbrev after : Workspace
+  after = workspace_in words rows numbers
+
   -- what they lead to, of a graph that is laid
   abbrev pub reached : (g : Graph) (lists : ℕ → List ℕ) (lays : LaysGraph g lists iw pe len) → (u : QuotientGraph)
       × ((states : List State)
       × Follows g aggressive (start_quotient g (is_held_last hold g threshold) lists) (start g lists lays).0 states u
-      × Stands g (is_held_last hold g threshold) (start g lists lays).1 after u (last_state (start g lists lays).0 states))
+      × Stands g (is_held_last hold g threshold) (start g lists lays).1 (workspace_in words rows numbers) u
+      (last_state (start g lists lays).0 states))
   reached g lists lays = let from = start g lists lays in let dense : ℕ → Bool = is_held_last hold g threshold in
       rounds g dense from.1 (start_quotient g dense lists) from.0 from.3
 
-  pub is_sized : (g : Graph) (lists : ℕ → List ℕ) → LaysGraph g lists iw pe len → IsSized (length len) after
+  pub is_sized : (g : Graph) (lists : ℕ → List ℕ) → LaysGraph g lists iw pe len → IsSized (length len) (workspace_in words rows numbers)
   is_sized g lists lays = subst (λ n. IsSized n after) (sym lays.neighbours.size) (reached g lists lays).1.2.laid.sized
 
-  pub packs_few : (g : Graph) (lists : ℕ → List ℕ) → LaysGraph g lists iw pe len → after.n_cmp_a ≤ length len
+  pub packs_few : (g : Graph) (lists : ℕ → List ℕ) → LaysGraph g lists iw pe len → numbers.n_cmp_a ≤ length len
   packs_few g lists lays = let p = (reached g lists lays).1.2.laid.packs in let s = lays.neighbours.size in omega (arith, p, s)
 
-  module _ (over : NoRowIsLive after) where
-    pub runs_in_place : RunsInPlace hold threshold aggressive iw pe len after.n_dense after.figures after.pe after.e_len after.nv
-        after.degree
+  module _ (over : NoRowIsLive (workspace_in words rows numbers)) where
+    pub runs_in_place : RunsInPlace hold threshold aggressive iw pe len (told_of numbers) rows
     runs_in_place g lists lays =
         let dense : ℕ → Bool = is_held_last hold g threshold in
         let from = start g lists lays in let to = reached g lists lays in let stands = to.1.2 in let k = stands.view.fronts in record {
@@ -155,15 +180,13 @@ module _ (hold : Option (List Bool)) (threshold : ℕ) (aggressive : Bool) (iw p
         }
 
     -- what they left can be listed
-    pub are_over : (g : Graph) (lists : ℕ → List ℕ) → LaysGraph g lists iw pe len →
-        AreOver (length len) after.pe after.e_len after.nv after.degree after.w after.head after.hash
+    pub are_over : (g : Graph) (lists : ℕ → List ℕ) → LaysGraph g lists iw pe len → AreOver (length len) rows
     are_over g lists lays = let z = is_sized g lists lays in record {
       words = (z.pe, z.e_len, z.nv, z.degree);
       counters = z.w;
       links = (z.head, z.hash);
-      ends = λ link f_size blocks ends link_long f_size_long blocks_long. is_over hold threshold aggressive iw pe len after.n_dense
-          after.figures after.pe after.e_len after.nv after.degree runs_in_place link f_size blocks ends link_long f_size_long
-          blocks_long g lists lays;
+      ends = λ link f_size blocks ends link_long f_size_long blocks_long. is_over hold threshold aggressive iw pe len (told_of numbers)
+          rows runs_in_place link f_size blocks ends link_long f_size_long blocks_long g lists lays;
     }
 
 -- a workspace that stands for the start of an elimination of a graph that is laid stands for something

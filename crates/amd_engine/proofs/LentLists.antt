@@ -1,52 +1,46 @@
--- The lists of an elimination under the names by which a run is lent them, and what it left under the names of its lists.
-use Rattle.std.proofs.Common.{ℕ, ℤ, Bool, List, Option, ◌≡◌, ◌<◌, length, refl, subst, ap, arith, ◌∙◌}
+-- The lists of an elimination under the names by which a run is lent them, and what it left, listed.
+use Rattle.std.proofs.Common.{ℕ, ℤ, Bool, List, Option, ◌≡◌, ◌<◌, ap, arith, length, map, pos, refl, subst, ◌∙◌}
 use Rattle.std.proofs.lemmas.List.{length-replicate, get_or-replicate}
 use Rattle.amd_model.specs.Graph.{Graph}
 use Rattle.amd_model.specs.Input.Dense.{IsThreshold}
 use Rattle.amd_types.specs.Permutations.{AreInverse}
+use Rattle.amd_types.specs.declared.amd.Control.{Control}
 use Rattle.amd_types.specs.declared.amd.Info.{Info}
-use Rattle.amd_types.specs.declared.figures.Figures.{Figures}
-use Rattle.amd_engine.specs.InPlace.{AnswersInPlace, AreEmpty, AreFresh, AreListed, AreOver, LaysGraph, RunsInPlace, told_info}
-use Rattle.amd_engine.proofs.EndingLaw.{answers, ends_same}
+use Rattle.amd_words.specs.Sides.{nexts, lasts}
+use Rattle.amd_workspace.specs.Ending.{EndsRows}
+use Rattle.amd_workspace.specs.declared.lists.Lists.{Lists}
+use Rattle.amd_engine.specs.declared.rows.RowLists.{RowLists}
+use Rattle.amd_engine.specs.declared.running.Told.{Told}
+use Rattle.amd_engine.specs.InPlace.{AnswersInPlace, AreEmpty, AreFresh, AreListed, LaysGraph, RunsInPlace, listing_in, told_info}
+use Rattle.amd_engine.proofs.EndingLaw.{answers}
 
 -- lists as they are when they are made name no row, also lent
-pub lent_empty : {n : ℕ} {e_len nv e_len' nv' : List ℤ} {degree w head hash degree' w' head' hash' : List ℕ} {X : Type 0}
-    {sides sides' : List X} (next last : List X → List ℕ) → AreFresh n e_len nv degree w head (next sides) (last sides) hash →
-    e_len' ≡ e_len → nv' ≡ nv → degree' ≡ degree → w' ≡ w → head' ≡ head → sides' ≡ sides → hash' ≡ hash →
-    AreEmpty n e_len' nv' degree' w' head' (next sides') (last sides') hash'
-lent_empty {n} next last fresh a b d f h i j = rw (a, b, d, f, h, i, j) (record {
-  words = fresh.words;
-  figures = fresh.figures;
+pub lent_empty : {S P U A : Type 0} {n m : ℕ} {degree : List ℕ} {l : Lists S P U A} (rows : RowLists S P U) → AreFresh n degree l → m ≡ n →
+    rows.e_len.now ≡ l.e_len.items → rows.nv.now ≡ l.nv.items → rows.degree.now ≡ degree → rows.w.now ≡ l.w.items →
+    rows.head.now ≡ l.head.items → rows.sides.now ≡ l.sides.items → rows.hash.now ≡ l.hash.items → AreEmpty m rows
+lent_empty {n = n} rows fresh size a b d f h i j = rw size (record {
+  words = (ap length a ∙ fresh.words.0, ap length b ∙ fresh.words.1);
+  figures = (ap length d ∙ fresh.figures.0, ap length f ∙ fresh.figures.1);
   links = (
-    ap length fresh.heads.0 ∙ length-replicate n n,
-    fresh.links.0,
-    fresh.links.1,
-    ap length fresh.heads.1 ∙ length-replicate n n,
+    ap length h ∙ ap length fresh.heads.0 ∙ length-replicate n n,
+    ap (λ xs. length (nexts xs)) i ∙ fresh.links.0,
+    ap (λ xs. length (lasts xs)) i ∙ fresh.links.1,
   );
-  heads = λ b small. let is = get_or-replicate n b n 0 small in rw (fresh.heads.0, fresh.heads.1) (omega (arith, is), omega (arith, is));
+  buckets = ap length j ∙ ap length fresh.heads.1 ∙ length-replicate n n;
+  heads = λ b small. let is = get_or-replicate n b n 0 small in
+      rw (h, j, fresh.heads.0, fresh.heads.1) (omega (arith, is), omega (arith, is));
 })
 
--- what is over is so under other names
-pub over_named : {n m : ℕ} {pe e_len nv pe' e_len' nv' : List ℤ} {degree w head hash degree' w' head' hash' : List ℕ} →
-    AreOver n pe e_len nv degree w head hash → m ≡ n → pe' ≡ pe → e_len' ≡ e_len → nv' ≡ nv → degree' ≡ degree → w' ≡ w →
-    head' ≡ head → hash' ≡ hash → AreOver m pe' e_len' nv' degree' w' head' hash'
-over_named over k p a b d f h i = rw (k, p, a, b, d, f, h, i) over
-
 -- what a run left of a graph that is laid, listed, is an answer
-pub answers_listed : (hold : Option (List Bool)) (threshold : ℕ) (aggressive : Bool) (iw pe : List ℤ) (len : List ℕ) (n_dense : ℕ)
-    (figures : Figures) (pe1 e_len1 nv1 : List ℤ) (degree1 : List ℕ) →
-    RunsInPlace hold threshold aggressive iw pe len n_dense figures pe1 e_len1 nv1 degree1 → length pe1 ≡ length len →
-    (pe2 e_len2 : List ℤ) (degree2 : List ℕ) → pe2 ≡ pe1 → e_len2 ≡ e_len1 → degree2 ≡ degree1 → (f_size blocks p q links : List ℤ) →
-    AreListed (length pe2) pe2 e_len2 degree2 f_size blocks p q links → (t : ℤ) → 0 < length len → IsThreshold (length len) t threshold →
-    (compactions : ℕ) (before after : Info) → after ≡ told_info n_dense compactions figures before →
-    (g : Graph) (lists : ℕ → List ℕ) → LaysGraph g lists iw pe len →
-    AnswersInPlace g lists hold (length len) t aggressive p q blocks f_size links before after
-answers_listed hold threshold aggressive iw pe len n_dense figures pe1 e_len1 nv1 degree1 runs rows pe2 e_len2 degree2 pe_is a b f_size
-    blocks p q links listed' t some is_threshold compactions before after tells g lists lays =
-    let listed = rw pe_is at listed' in
-    let ends = ends_same (length pe1) (length len) pe1 e_len2 e_len1 degree2 degree1 listed.link f_size blocks f_size blocks listed.ends
-    rows a b refl refl in
+pub answers_listed : {S P U : Type 0} (hold : Option (List Bool)) (threshold : ℕ) (control : Control) (iw pe : List ℤ) (len : List ℕ)
+    (told : Told) (left new : RowLists S P U) → RunsInPlace hold threshold control.aggressive iw pe len told left →
+    length left.pe.now ≡ length len → AreListed (length left.pe.now) left new → 0 < length len →
+    IsThreshold (length len) control.dense threshold → (g : Graph) (lists : ℕ → List ℕ) (info : Info) → LaysGraph g lists iw pe len →
+    AnswersInPlace g lists hold (length len) control (listing_in new) info (told_info told info)
+answers_listed hold threshold control iw pe len told left new runs rows listed some is_threshold g lists info lays =
+    let p : List ℤ = map pos new.head.now in let q : List ℤ = map pos new.w.now in
+    let ends = subst (λ k. EndsRows k left.pe.now left.e_len.now left.degree.now listed.link new.e_len.now new.nv.now) rows listed.ends in
     let inverse = subst (λ k. AreInverse k p q) rows listed.inverse in
-    answers hold threshold aggressive iw pe len n_dense figures pe1 e_len1 nv1 degree1 runs listed.link f_size blocks ends
-    (listed.long.0 ∙ rows) (listed.long.1 ∙ rows) (listed.long.2 ∙ rows) g lists lays listed.rows listed.lists t some is_threshold p q
-    listed.listed inverse compactions before after tells links listed.shortens
+    answers hold threshold control.aggressive iw pe len told left runs listed.link new.e_len.now new.nv.now ends
+    (listed.long.0 ∙ rows) (listed.long.1 ∙ rows) (listed.long.2 ∙ rows) g lists lays listed.rows listed.lists control.dense some
+    is_threshold p q listed.listed inverse info (told_info told info) refl new.pe.now listed.shortens

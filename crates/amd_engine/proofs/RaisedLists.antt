@@ -14,9 +14,10 @@ use Rattle.amd_workspace.specs.Laying.{IsLaidOut}
 use Rattle.amd_model.specs.Below.{count_below}
 use Rattle.amd_model.specs.State.{State, is_element, in_block}
 use Rattle.amd_model.proofs.Counting.Below.{count_most}
+use Rattle.amd_types.specs.declared.amd.Control.{Control}
 use Rattle.amd_types.specs.declared.amd.Info.{Info}
 use Rattle.amd_engine_law.specs.Engine.{TellsElements}
-use Rattle.amd_engine.specs.InPlace.{AnswersInPlace, LaysGraph}
+use Rattle.amd_engine.specs.InPlace.{AnswersInPlace, LaysGraph, Listing}
 use Rattle.amd_engine.proofs.EndingLaw.{lays_same}
 
 -- ---- one number
@@ -112,14 +113,10 @@ module _ (g : Graph) (s : State) (nv e_len : List ℤ) (tells : TellsElements g 
   count_placed = ap is_place count_told.1
 
 -- an answer of the engine in place, under other names
-pub answers_same : (g : Graph) (lists : ℕ → List ℕ) (hold : Option (List Bool)) (n m : ℕ) (t : ℤ) (aggressive : Bool)
-    (p q nv nv' e_len e_len' pe pe' : List ℤ) (old new : Info) → AnswersInPlace g lists hold n t aggressive p q nv e_len pe old new →
-    n ≡ m → nv ≡ nv' → e_len ≡ e_len' → pe ≡ pe' → AnswersInPlace g lists hold m t aggressive p q nv' e_len' pe' old new
-answers_same g lists hold n m t aggressive p q nv nv' e_len e_len' pe pe' old new answer size a b d =
-    subst (λ k. AnswersInPlace g lists hold k t aggressive p q nv' e_len' pe' old new) size
-    (subst (λ xs. AnswersInPlace g lists hold n t aggressive p q xs e_len' pe' old new) a
-    (subst (λ xs. AnswersInPlace g lists hold n t aggressive p q nv xs pe' old new) b
-    (subst (λ xs. AnswersInPlace g lists hold n t aggressive p q nv e_len xs old new) d answer)))
+pub answers_same : (g : Graph) (lists : ℕ → List ℕ) (hold : Option (List Bool)) (n m : ℕ) (control : Control) (rows rows' : Listing)
+    (old new : Info) → AnswersInPlace g lists hold n control rows old new → n ≡ m → rows'.p ≡ rows.p → rows'.q ≡ rows.q →
+    rows'.nv ≡ rows.nv → rows'.e_len ≡ rows.e_len → rows'.pe ≡ rows.pe → AnswersInPlace g lists hold m control rows' old new
+answers_same g lists hold n m control rows rows' old new answer size a b d e f = rw (sym size, a, b, d, e, f) answer
 
 -- the same lists in words
 pub lays_over : (g : Graph) (lists : ℕ → List ℕ) (iw pe iw' pe' : List ℤ) (len len' : List ℕ) → LaysGraph g lists iw pe len →

@@ -1,9 +1,11 @@
 // The engine in place: the lists of the neighbours are laid in one workspace, whose words have 32 bits where that is
 // wide enough, and the rows are eliminated in it. Source: Amestoy, Davis and Duff 1996 and 2004.
 
-ghost use Rattle.std.specs.Prelude.{◌≡◌, ◌<◌, ◌≤◌, ◌+◌, ◌^◌, ◌↔◌, ℕ, IsTrue, pos, map, length, slice_index, IfOk, IfErr};
-ghost use Rattle.std.specs.Prelude.{OnOk};
+ghost use Rattle.std.specs.Prelude.{◌≡◌, ◌<◌, ◌≤◌, ◌+◌, ◌^◌, ◌↔◌, ℕ, IsTrue, List, pos, map, length};
+ghost use Rattle.std.specs.Prelude.{slice_index, IfOk, IfErr, OnOk};
 ghost use Rattle.std.specs.Option.{option_copied};
+ghost use Rattle.std.specs.Vec.{vec_capacity};
+ghost use Rattle.amd_model.specs.Graph.{Graph};
 ghost use Rattle.amd_model.specs.Input.Columns.{IsColumnForm, IsSorted};
 ghost use Rattle.amd_model.specs.Input.Held.{HasMarks};
 ghost use Rattle.amd_model.specs.Input.Pattern.{graph_of};
@@ -11,21 +13,25 @@ ghost use Rattle.amd_edges.specs.Visits.{AreCounts, start_of};
 ghost use Rattle.amd_engine_law.specs.Engine.{IsEngineAnswer};
 ghost use Rattle.amd_rounds.specs.Laid.{AreWideEnough};
 ghost use Rattle.amd_types.specs.Counts.{counts};
+ghost use Rattle.amd_engine.specs.InPlace.{AnswersInPlace, CanRun, KeepsLaid, LaysGraph, rows_in, told_info};
 ghost use Rattle.amd_workspace.specs.Lists.{HasRoom};
 ghost use Rattle.amd_workspace.specs.Lower.{AreNeighbourCounts, own_start};
 
-use crate::ended::finish;
+use crate::ended::{finish, list_rows};
 use crate::fresh::{fill_lists, memory_for, room_for};
-use crate::running::run_growing;
+use crate::rows::{Choice, Laid, RowLists};
+use crate::running::{Told, run_growing};
 use amd_types::amd::{Control, Info, Status};
 use amd_types::dense::dense_threshold;
 use amd_types::index::Index;
 use amd_types::internal::count_at;
-use amd_words::{Signed, Unsigned, Word};
+use amd_words::sides::Sides;
+use amd_words::{Cell, Signed, Unsigned, Word};
 use amd_workspace::laying::lay;
 use amd_workspace::lists::Memory;
 use num_traits::PrimInt;
 use std::alloc::{AllocError, Allocator};
+use std::mem::replace;
 
 /// Whether words, places and cells of these widths hold all numbers of an elimination of `n` rows in `iwlen` words from
 /// flag `flag` on.
@@ -88,15 +94,64 @@ pub fn ask_for_most<A: Allocator + Copy>(
     Ok(())
 }
 
+/// Runs in lists that are laid, with words in a vector, and lists the rows: `head` then has the permutation, and `w` its
+/// inverse. The lists are lent one by one: of a vector that is lent in a field nothing would be known afterwards.
+fn order_lent<S: Signed, P: Signed, U: Unsigned, A: Allocator>(
+    iw: &mut Vec<Word<S>, A>,
+    laid: &mut Laid<'_, '_, '_, '_, P, U>,
+    e_len: &mut [Word<P>],
+    nv: &mut [Word<S>],
+    w: &mut [Cell<U>],
+    head: &mut [Cell<U>],
+    sides: &mut [Sides<U>],
+    hash: &mut [Cell<U>],
+) -> Told
+    requires can { CanRun {S = S} iw.old.items laid.old.free (rows_in laid.old e_len nv w head sides hash) }
+    requires some { 0 < length laid.old.len.now }
+    requires narrow { AreWideEnough S.MOST P.MOST U.MOST (length laid.old.len.now) laid.old.room }
+    requires room { (length iw.old.items ≤ laid.old.room) × (laid.old.room ≤ vec_capacity iw.old) }
+    requires marks { HasMarks (option_copied laid.old.choice.now.hold) (length laid.old.len.now) }
+    requires flag { 2 ≤ laid.old.choice.now.flag }
+    ensures orders { (g : Graph) (lists : ℕ → List ℕ) (info : Info) →
+        LaysGraph g lists iw.old.items laid.old.pe.now laid.old.len.now →
+        AnswersInPlace g lists (option_copied laid.old.choice.now.hold) (length laid.old.len.now)
+        laid.old.choice.now.control.now (record {
+          p = map pos head.new;
+          q = map pos w.new;
+          nv = nv.new;
+          e_len = e_len.new;
+          pe = laid.new.pe.now;
+        }) info (told_info result info) }
+    ensures packs { result.n_cmp_a ≤ length laid.old.len.now }
+    ensures unpacked { length iw.new.items < laid.old.room → result.n_cmp_a ≡ 0 }
+    ensures capacity { vec_capacity iw.new ≡ vec_capacity iw.old }
+    ensures loans { KeepsLaid laid.old laid.new }
+{
+    let threshold = dense_threshold(laid.len.len(), laid.choice.control);
+    let mut rows = RowLists {
+        pe: laid.pe,
+        len: laid.len,
+        e_len,
+        nv,
+        degree: laid.degree,
+        w,
+        head,
+        sides,
+        hash,
+    };
+    let told = run_growing(iw, &mut rows, laid.free, laid.room, threshold, laid.choice);
+    list_rows(&mut rows);
+    told
+}
+
 /// Orders the rows of a matrix with sorted columns by elimination in at most `room` words of memory that was asked for
 /// before. It asks for none, and so nothing can be refused.
 ///
 /// The input is a column form with `n` rows and columns, at least one, each strictly ascending. The memory has the
 /// degree of each row in `len`, and room for `n` rows and `room` words; what its other lists hold is not read.
 /// `room` is at least the sum of the degrees plus `n`. The widths hold an elimination of `n` rows in `room` words, and
-/// a cell holds each pointer. `flag`, the first one, is 2 or more: the result is the same with each. The rows marked in
-/// `hold`, which has one mark for each row where it is given, are held last beside the dense ones. The permutation may
-/// be of another type than the input.
+/// a cell holds each pointer. The rows that are marked in `choice`, where it has a mark for each row, are held last
+/// beside the dense ones. The permutation may be of another type than the input.
 ///
 /// Writes the permutation into `p` and its inverse into `p_inv`, which have `n` places, and of `info` the number of
 /// rows held last, the figures of the fronts, and how often the workspace was compacted, at most `n` times. The memory
@@ -105,12 +160,10 @@ pub fn ask_for_most<A: Allocator + Copy>(
 /// Source: Amestoy, Davis and Duff 1996 and 2004.
 pub fn order_within<I: Index, J: Index, S: Signed, P: Signed, U: Unsigned, A: Allocator + Copy>(
     memory: &mut Memory<S, P, U, A>,
-    flag: usize,
     a_p: &[J],
     a_i: &[J],
     room: usize,
-    control: &Control,
-    hold: Option<&[bool]>,
+    choice: &Choice<'_>,
     p: &mut [I],
     p_inv: &mut [I],
     info: &mut Info,
@@ -127,44 +180,43 @@ pub fn order_within<I: Index, J: Index, S: Signed, P: Signed, U: Unsigned, A: Al
     requires room { HasRoom (length p.old) room memory.old }
     requires narrow { AreWideEnough S.MOST P.MOST U.MOST (length p.old) room }
     requires pointers { slice_index (counts (map J.value a_p.now)) (length p.old) ≤ U.MOST }
-    requires flag { 2 ≤ flag }
-    requires marks { HasMarks (option_copied hold) (length p.old) }
-    ensures orders { IsEngineAnswer (option_copied hold.entry) (length p.old) control.now.dense control.now.aggressive
-        (map J.value a_p.now) (map J.value a_i.now) (map I.value p.new) (map I.value p_inv.new) info.old info.new }
+    requires marks { HasMarks (option_copied choice.now.hold) (length p.old) }
+    requires flag { 2 ≤ choice.now.flag }
+    ensures orders { IsEngineAnswer (option_copied choice.now.hold) (length p.old) choice.now.control.now.dense
+        choice.now.control.now.aggressive (map J.value a_p.now) (map J.value a_i.now) (map I.value p.new)
+        (map I.value p_inv.new) info.old info.new }
     ensures compactions { info.new.n_cmp_a ≤ length p.old }
     ensures room { (n count : ℕ) → HasRoom n count memory.old → HasRoom n count memory.new }
 {
     let size = p.len();
     let free = lay(size, a_p, a_i, room, memory);
-    let threshold = dense_threshold(size, control);
     fill_lists(size, &mut memory.words.next, &mut memory.lists);
-    let told = run_growing(
+    let alloc = *memory.pe.allocator();
+    let mut pe = replace(&mut memory.pe, Vec::new(alloc));
+    let mut len = replace(&mut memory.len, Vec::new(alloc));
+    let mut degree = replace(&mut memory.words.next, Vec::new(alloc));
+    let mut laid = Laid {
+        pe: &mut pe,
+        len: &mut len,
+        degree: &mut degree,
+        free,
+        room,
+        choice,
+    };
+    let told = order_lent(
         &mut memory.words.iw,
-        &mut memory.pe,
-        &mut memory.len,
+        &mut laid,
         &mut memory.lists.e_len,
         &mut memory.lists.nv,
-        &mut memory.words.next,
         &mut memory.lists.w,
         &mut memory.lists.head,
         &mut memory.lists.sides,
         &mut memory.lists.hash,
-        free,
-        flag,
-        control,
-        hold,
-        threshold,
-        room,
     );
-    finish(
-        &told,
-        &mut memory.pe,
-        &mut memory.words.next,
-        &mut memory.lists,
-        p,
-        p_inv,
-        info,
-    );
+    memory.pe = pe;
+    memory.len = len;
+    memory.words.next = degree;
+    finish(&told, &memory.lists.head, &memory.lists.w, p, p_inv, info);
 }
 
 /// As `amd_1`, in words of these widths, and with a first flag of 2 or more: the result is the same with each.
@@ -179,14 +231,12 @@ pub fn order_within<I: Index, J: Index, S: Signed, P: Signed, U: Unsigned, A: Al
 /// Source: Amestoy, Davis and Duff 1996 and 2004.
 pub fn order_in<I: Index, S: Signed, P: Signed, U: Unsigned, A: Allocator + Copy>(
     alloc: A,
-    flag: usize,
     n: I,
     a_p: &[I],
     a_i: &[I],
     len: &[usize],
     iwlen: usize,
-    control: &Control,
-    hold: Option<&[bool]>,
+    choice: &Choice<'_>,
     info: &mut Info,
 ) -> Result<(Vec<I, A>, Vec<I, A>), Status>
     requires fits { I.fits (I.value n) }
@@ -199,11 +249,11 @@ pub fn order_in<I: Index, S: Signed, P: Signed, U: Unsigned, A: Allocator + Copy
     requires room { start_of (graph_of (length len.now) (map I.value a_p.now) (map I.value a_i.now)) (length len.now)
         + length len.now ≤ iwlen }
     requires narrow { AreWideEnough S.MOST P.MOST U.MOST (length len.now) iwlen }
-    requires flag { 2 ≤ flag }
-    requires marks { HasMarks (option_copied hold) (length len.now) }
-    ensures orders { IfOk result (λ a. IsEngineAnswer (option_copied hold.entry) (length len.now) control.now.dense
-        control.now.aggressive (map I.value a_p.now) (map I.value a_i.now) (map I.value a.0.items)
-        (map I.value a.1.items) info.old info.new) }
+    requires marks { HasMarks (option_copied choice.now.hold) (length len.now) }
+    requires flag { 2 ≤ choice.now.flag }
+    ensures orders { IfOk result (λ a. IsEngineAnswer (option_copied choice.now.hold) (length len.now)
+        choice.now.control.now.dense choice.now.control.now.aggressive (map I.value a_p.now) (map I.value a_i.now)
+        (map I.value a.0.items) (map I.value a.1.items) info.old info.new) }
     ensures compactions { OnOk result (info.new.n_cmp_a ≤ length len.now) }
     ensures refused { IfErr result (λ e. e ≡ Status.OutOfMemory) }
 {
@@ -217,12 +267,10 @@ pub fn order_in<I: Index, S: Signed, P: Signed, U: Unsigned, A: Allocator + Copy
     let mut p_inv = room_for(alloc, size)?;
     order_within(
         &mut memory,
-        flag,
         a_p,
         a_i,
         iwlen,
-        control,
-        hold,
+        choice,
         &mut p,
         &mut p_inv,
         info,
@@ -276,26 +324,23 @@ pub fn amd_1<I: PrimInt, A: Allocator + Copy>(
     ensures degrees { len.new ≡ len.old }
 {
     let size = len.len();
+    let choice = Choice {
+        control,
+        hold,
+        flag: 2,
+    };
     ask_for_most(alloc, size, iwlen)?;
     if holds::<i32, i32, u32>(size, iwlen, 2) {
-        return order_in::<I, i32, i32, u32, A>(
-            alloc, 2, n, a_p, a_i, len, iwlen, control, hold, info,
-        );
+        return order_in::<I, i32, i32, u32, A>(alloc, n, a_p, a_i, len, iwlen, &choice, info);
     }
     if holds::<i32, isize, u32>(size, iwlen, 2) {
-        return order_in::<I, i32, isize, u32, A>(
-            alloc, 2, n, a_p, a_i, len, iwlen, control, hold, info,
-        );
+        return order_in::<I, i32, isize, u32, A>(alloc, n, a_p, a_i, len, iwlen, &choice, info);
     }
     if holds::<i32, isize, usize>(size, iwlen, 2) {
-        return order_in::<I, i32, isize, usize, A>(
-            alloc, 2, n, a_p, a_i, len, iwlen, control, hold, info,
-        );
+        return order_in::<I, i32, isize, usize, A>(alloc, n, a_p, a_i, len, iwlen, &choice, info);
     }
     if holds::<isize, isize, usize>(size, iwlen, 2) {
-        return order_in::<I, isize, isize, usize, A>(
-            alloc, 2, n, a_p, a_i, len, iwlen, control, hold, info,
-        );
+        return order_in::<I, isize, isize, usize, A>(alloc, n, a_p, a_i, len, iwlen, &choice, info);
     }
     Err(Status::OutOfMemory)
 }

@@ -1,6 +1,5 @@
 // The elimination of a workspace that is laid and does not grow: its start, its rounds, and the listing at the end. All
-// memory is asked for before the first round. Source: Amestoy, Davis and Duff 1996 and 2004. `amd_2` is called by
-// tests, `amd_2_from` by it and by `narrow` of the crate `amd_c`.
+// memory is asked for before the first round. Source: Amestoy, Davis and Duff 1996 and 2004.
 
 ghost use Rattle.std.specs.Prelude.{◌≡◌, ◌<◌, ◌≤◌, ◌+◌, ℕ, pos, true, List, None, map, length, IfOk, IfErr, OnOk};
 ghost use Rattle.std.specs.Option.{option_copied};
@@ -10,28 +9,77 @@ ghost use Rattle.amd_views.specs.Views.{raised};
 ghost use Rattle.amd_words.specs.Words.{is_place, word};
 ghost use Rattle.amd_rounds.specs.Laid.{AreWideEnough};
 ghost use Rattle.amd_workspace.specs.Laying.{IsLaidOut};
-ghost use Rattle.amd_engine.specs.InPlace.{AnswersInPlace, LaysGraph};
+ghost use Rattle.amd_engine.specs.InPlace.{AnswersInPlace, CanRun, KeepsLaid, LaysGraph, rows_in, told_info};
 
-use crate::ended::finish;
+use crate::ended::{finish, list_rows};
 use crate::fresh::{fill_lists, room_for};
-use crate::running::run;
+use crate::rows::{Choice, Laid, RowLists};
+use crate::running::{Told, run};
 use amd_types::amd::{Control, Info, Status};
 use amd_types::dense::dense_threshold;
 use amd_types::index::Index;
 use amd_types::internal::from_count;
 use amd_views::{lend_cells, lend_words, raise};
+use amd_words::sides::Sides;
 use amd_words::{Cell, Signed, Unsigned, Word, put_word, row_at, word_at};
 use amd_workspace::filling::words;
 use amd_workspace::lists::Lists;
 use num_traits::PrimInt;
 use std::alloc::{AllocError, Allocator};
 
+/// Runs in lists that are laid, with words in a slice, and lists the rows: `head` then has the permutation, and `w` its
+/// inverse. The lists are lent one by one: of a vector that is lent in a field nothing would be known afterwards.
+fn eliminate_lent<S: Signed, P: Signed, U: Unsigned>(
+    iw: &mut [Word<S>],
+    laid: &mut Laid<'_, '_, '_, '_, P, U>,
+    e_len: &mut [Word<P>],
+    nv: &mut [Word<S>],
+    w: &mut [Cell<U>],
+    head: &mut [Cell<U>],
+    sides: &mut [Sides<U>],
+    hash: &mut [Cell<U>],
+) -> Told
+    requires can { CanRun {S = S} iw.old laid.old.free (rows_in laid.old e_len nv w head sides hash) }
+    requires some { 0 < length laid.old.len.now }
+    requires narrow { AreWideEnough S.MOST P.MOST U.MOST (length laid.old.len.now) (length iw.old) }
+    requires marks { HasMarks (option_copied laid.old.choice.now.hold) (length laid.old.len.now) }
+    requires flag { 2 ≤ laid.old.choice.now.flag }
+    ensures orders { (g : Graph) (lists : ℕ → List ℕ) (info : Info) →
+        LaysGraph g lists iw.old laid.old.pe.now laid.old.len.now →
+        AnswersInPlace g lists (option_copied laid.old.choice.now.hold) (length laid.old.len.now)
+        laid.old.choice.now.control.now (record {
+          p = map pos head.new;
+          q = map pos w.new;
+          nv = nv.new;
+          e_len = e_len.new;
+          pe = laid.new.pe.now;
+        }) info (told_info result info) }
+    ensures packs { result.n_cmp_a ≤ length laid.old.len.now }
+    ensures loans { KeepsLaid laid.old laid.new }
+{
+    let threshold = dense_threshold(laid.len.len(), laid.choice.control);
+    let mut rows = RowLists {
+        pe: laid.pe,
+        len: laid.len,
+        e_len,
+        nv,
+        degree: laid.degree,
+        w,
+        head,
+        sides,
+        hash,
+    };
+    let told = run(iw, &mut rows, laid.free, threshold, laid.choice);
+    list_rows(&mut rows);
+    told
+}
+
 /// As `amd_2`, in words, places and cells of these widths, with marks, and with a first flag of 2 or more: the result
-/// is the same with each. `amd_2` calls it, and the library for C.
+/// is the same with each.
 ///
 /// The arguments and results have the shapes that `amd_2` says, where `iwlen` is the length of `iw`. The widths hold an
-/// elimination of `n` rows in `iwlen` words, as `holds` tells. `hold`, where it is given, has one mark for each of the
-/// `n` rows: those marked are held last beside the dense ones.
+/// elimination of `n` rows in `iwlen` words, as `holds` tells. The rows that are marked in `choice`, where it has a
+/// mark for each of the `n` rows, are held last beside the dense ones.
 ///
 /// # Errors
 ///
@@ -40,14 +88,12 @@ use std::alloc::{AllocError, Allocator};
 /// Source: Amestoy, Davis and Duff 1996 and 2004.
 pub fn amd_2_from<I: Index, S: Signed, P: Signed, U: Unsigned, A: Allocator + Copy>(
     alloc: A,
-    flag: usize,
     n: I,
     pe: &mut [Word<P>],
     iw: &mut [Word<S>],
     len: &mut [Cell<U>],
     pfree: usize,
-    control: &Control,
-    hold: Option<&[bool]>,
+    choice: &Choice<'_>,
     info: &mut Info,
 ) -> Result<(Vec<Word<S>, A>, Vec<I, A>, Vec<I, A>, Vec<Word<P>, A>), Status>
     requires fits { I.fits (I.value n) }
@@ -57,39 +103,44 @@ pub fn amd_2_from<I: Index, S: Signed, P: Signed, U: Unsigned, A: Allocator + Co
     requires graph { (g : Graph) × (lists : ℕ → List ℕ) × LaysGraph g lists iw.old pe.old len.old }
     requires room { pfree + length len.old ≤ length iw.old }
     requires narrow { AreWideEnough S.MOST P.MOST U.MOST (length len.old) (length iw.old) }
-    requires flag { 2 ≤ flag }
-    requires marks { HasMarks (option_copied hold) (length len.old) }
+    requires marks { HasMarks (option_copied choice.now.hold) (length len.old) }
+    requires flag { 2 ≤ choice.now.flag }
     ensures orders { IfOk result (λ a. (g : Graph) (lists : ℕ → List ℕ) → LaysGraph g lists iw.old pe.old len.old →
-        AnswersInPlace g lists (option_copied hold.entry) (length len.old) control.now.dense control.now.aggressive
-        (map I.value a.2.items) (map I.value a.1.items) a.0.items a.3.items pe.new info.old info.new) }
+        AnswersInPlace g lists (option_copied choice.now.hold) (length len.old) choice.now.control.now (record {
+          p = map I.value a.2.items;
+          q = map I.value a.1.items;
+          nv = a.0.items;
+          e_len = a.3.items;
+          pe = pe.new;
+        }) info.old info.new) }
     ensures compactions { OnOk result (info.new.n_cmp_a ≤ length len.old) }
     ensures refused { IfErr result (λ e. e ≡ Status.OutOfMemory) }
 {
-    let threshold = dense_threshold(len.len(), control);
     let size = len.len();
     let mut degree = Vec::with_capacity(alloc, size)?;
     let mut lists = Lists::with_room(alloc, size)?;
     let mut p = room_for(alloc, size)?;
     let mut p_inv = room_for(alloc, size)?;
     fill_lists(size, &mut degree, &mut lists);
-    let told = run(
-        iw,
+    let mut laid = Laid {
         pe,
         len,
+        degree: &mut degree,
+        free: pfree,
+        room: size,
+        choice,
+    };
+    let told = eliminate_lent(
+        iw,
+        &mut laid,
         &mut lists.e_len,
         &mut lists.nv,
-        &mut degree,
         &mut lists.w,
         &mut lists.head,
         &mut lists.sides,
         &mut lists.hash,
-        pfree,
-        flag,
-        control,
-        hold,
-        threshold,
     );
-    finish(&told, pe, &mut degree, &mut lists, &mut p, &mut p_inv, info);
+    finish(&told, &lists.head, &lists.w, &mut p, &mut p_inv, info);
     Ok((lists.nv, p_inv, p, lists.e_len))
 }
 
@@ -162,8 +213,13 @@ fn eliminate_numbers<I: Index, A: Allocator + Copy>(
     requires graph { (g : Graph) × (lists : ℕ → List ℕ) × LaysGraph g lists iw.old pe.old len.old }
     requires room { pfree + length len.old ≤ length iw.old }
     ensures orders { IfOk result (λ a. (g : Graph) (lists : ℕ → List ℕ) → LaysGraph g lists iw.old pe.old len.old →
-        AnswersInPlace g lists None (length len.old) control.now.dense control.now.aggressive
-        (map I.value a.2.items) (map I.value a.1.items) (map I.value a.0.items) a.3.items pe.new info.old info.new) }
+        AnswersInPlace g lists None (length len.old) control.now (record {
+          p = map I.value a.2.items;
+          q = map I.value a.1.items;
+          nv = map I.value a.0.items;
+          e_len = a.3.items;
+          pe = pe.new;
+        }) info.old info.new) }
     ensures compactions { OnOk result (info.new.n_cmp_a ≤ length len.old) }
     ensures refused { IfErr result (λ e. e ≡ Status.OutOfMemory) }
 {
@@ -173,16 +229,19 @@ fn eliminate_numbers<I: Index, A: Allocator + Copy>(
     let mut links = words(alloc, size, 0)?;
     copy_raised(pe, &mut links);
     raise(iw);
+    let choice = Choice {
+        control,
+        hold: None,
+        flag: 2,
+    };
     let (blocks, p_inv, p, fronts) = amd_2_from(
         alloc,
-        2,
         n,
         &mut links,
         lend_words(iw),
         lend_cells(len),
         pfree,
-        control,
-        None,
+        &choice,
         info,
     )?;
     write_counts(&blocks, &mut nv);
@@ -227,8 +286,13 @@ pub fn amd_2<I: PrimInt, A: Allocator + Copy>(
     requires graph { (g : Graph) × (lists : ℕ → List ℕ) × LaysGraph g lists iw.old pe.old len.old }
     requires room { pfree + length len.old ≤ iwlen }
     ensures orders { IfOk result (λ a. (g : Graph) (lists : ℕ → List ℕ) → LaysGraph g lists iw.old pe.old len.old →
-        AnswersInPlace g lists None (length len.old) control.now.dense control.now.aggressive
-        (map I.value a.2.items) (map I.value a.1.items) (map I.value a.0.items) a.3.items pe.new info.old info.new) }
+        AnswersInPlace g lists None (length len.old) control.now (record {
+          p = map I.value a.2.items;
+          q = map I.value a.1.items;
+          nv = map I.value a.0.items;
+          e_len = a.3.items;
+          pe = pe.new;
+        }) info.old info.new) }
     ensures compactions { OnOk result (info.new.n_cmp_a ≤ length len.old) }
     ensures refused { IfErr result (λ e. e ≡ Status.OutOfMemory) }
 {

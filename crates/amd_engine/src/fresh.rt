@@ -2,7 +2,6 @@
 
 ghost use Rattle.std.specs.Prelude.{◌≡◌, ◌<◌, ◌≤◌, ℕ, length, IfOk};
 ghost use Rattle.std.specs.Vec.{vec_capacity};
-ghost use Rattle.amd_words.specs.Sides.{nexts, lasts};
 ghost use Rattle.amd_words.specs.Words.{num};
 ghost use Rattle.amd_workspace.specs.Lists.{HasRoom, HasRows};
 ghost use Rattle.amd_engine.specs.InPlace.{AreFresh};
@@ -69,8 +68,7 @@ pub fn fill_lists<S: Signed, P: Signed, U: Unsigned, A: Allocator + Copy>(
 )
     requires narrow { (n ≤ S.MOST) × (n ≤ P.MOST) × (n ≤ U.MOST) }
     requires room { (n ≤ vec_capacity degree.old) × HasRows n lists.old }
-    ensures fresh { AreFresh n lists.new.e_len.items lists.new.nv.items degree.new.items lists.new.w.items
-        lists.new.head.items (nexts lists.new.sides.items) (lasts lists.new.sides.items) lists.new.hash.items }
+    ensures fresh { AreFresh n degree.new.items lists.new }
     ensures degree { vec_capacity degree.new ≡ vec_capacity degree.old }
     ensures room { (k : ℕ) → HasRows k lists.old → HasRows k lists.new }
 {

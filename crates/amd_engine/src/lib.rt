@@ -8,6 +8,7 @@ pub mod amd_1;
 pub mod amd_2;
 pub mod ended;
 pub mod fresh;
+pub mod rows;
 pub mod running;
 
 pub use amd_engine_law::laws;

@@ -1,30 +1,24 @@
 // The run of the engine in place: its start, and its rounds until no row is live. It asks for no memory: a workspace
-// that grows takes words that were asked for before. Source: Amestoy, Davis and Duff 1996 and 2004. Called by `amd_2`
-// and `amd_1`.
+// that grows takes words that were asked for before. Source: Amestoy, Davis and Duff 1996 and 2004.
 
-ghost use Rattle.std.specs.Prelude.{◌≡◌, ◌<◌, ◌≤◌, ◌+◌, ◌^◌, ◌++◌, ℕ, ℤ, Bool, List, length};
+ghost use Rattle.std.specs.Prelude.{◌≡◌, ◌<◌, ◌≤◌, ◌+◌, ◌++◌, ℕ, ℤ, Bool, List, length};
 ghost use Rattle.std.specs.Option.{option_copied};
 ghost use Rattle.std.specs.Vec.{vec_capacity};
-ghost use Rattle.amd_words.specs.Sides.{nexts, lasts};
 ghost use Rattle.amd_model.specs.Graph.{Graph};
 ghost use Rattle.amd_model.specs.Input.Held.{HasMarks};
 ghost use Rattle.amd_model.specs.Quotient.{QuotientGraph};
 ghost use Rattle.amd_model.specs.State.{State};
-ghost use Rattle.amd_words.specs.Words.{num};
 ghost use Rattle.amd_rounds.specs.Keeps.{AreRounds, Stands};
 ghost use Rattle.amd_rounds.specs.Laid.{AreWideEnough, IsNarrow};
-ghost use Rattle.amd_lists.specs.Lengths.{HasLinks, HasWords};
-ghost use Rattle.amd_workspace.specs.Laying.{IsLaidOut};
-ghost use Rattle.amd_engine.specs.InPlace.{AreEmpty, AreOver, LaysGraph, RunsInPlace, StandsAtStart, first_sums};
+ghost use Rattle.amd_engine.specs.InPlace.{AreOver, CanRun, KeepsRows, RunsInPlace, StandsAtStart, first_sums};
 ghost use Rattle.amd_engine.specs.InPlace.{workspace_in};
 
+use crate::rows::{Choice, RowLists};
 use amd_rounds::round::eliminate_within;
 use amd_rounds::work::Work;
 use amd_types::amd::Control;
 use amd_types::figures::Figures;
-use amd_words::sides::Sides;
-use amd_words::{Cell, Signed, Unsigned, Word};
-use amd_workspace::lower::push_rows;
+use amd_words::{Signed, Unsigned, Word, word_of};
 use amd_workspace::starting::begin;
 use std::alloc::Allocator;
 
@@ -74,43 +68,39 @@ fn first_figures(n_dense: usize) -> Figures
     sums
 }
 
-/// Starts the elimination of rows whose lists fill the first `free` words of a workspace, from flag `flag` on.
+/// Starts the elimination of rows whose lists fill the first `free` words of a workspace.
 fn start<S: Signed, P: Signed, U: Unsigned>(
-    pe: &mut [Word<P>],
-    len: &mut [Cell<U>],
-    e_len: &mut [Word<P>],
-    nv: &mut [Word<S>],
-    degree: &mut [Cell<U>],
-    w: &mut [Cell<U>],
-    head: &mut [Cell<U>],
-    sides: &mut [Sides<U>],
+    rows: &mut RowLists<'_, '_, '_, S, P, U>,
     free: usize,
-    flag: usize,
-    hold: Option<&[bool]>,
     threshold: usize,
+    choice: &Choice<'_>,
 ) -> Numbers
-    requires words { HasWords (length len.old) pe.old e_len.old nv.old }
-    requires cells { (length degree.old ≡ length len.old) × (length w.old ≡ length len.old) }
-    requires links { HasLinks (length len.old) head.old (nexts sides.old) (lasts sides.old) }
-    requires narrow { (1 ≤ S.MOST) × (length len.old + 2 ≤ P.MOST) × (length len.old ≤ U.MOST) }
-    requires degrees { (i : ℕ) → i < length len.old → num len.old i < length len.old }
-    requires heads { (b : ℕ) → b < length len.old → length len.old ≤ num head.old b }
-    requires marks { HasMarks (option_copied hold) (length len.old) }
-    requires flag { 2 ≤ flag }
-    ensures starts { (iw : List ℤ) (hash : List ℕ) → length hash ≡ length len.old →
-        ((b : ℕ) → b < length len.old → length len.old ≤ num hash b) →
-        IsLaidOut (length len.old) iw pe.old len.old free → free + length len.old ≤ length iw →
-        StandsAtStart (option_copied hold.entry) threshold iw pe.old len.old
-        (workspace_in iw pe.new e_len.new nv.new len.new degree.new w.new head.new (nexts sides.new) (lasts sides.new)
-        hash result) }
+    requires can { (iw : List ℤ) × CanRun iw free rows.old }
+    requires narrow { (1 ≤ S.MOST) × (length rows.old.len.now + 2 ≤ P.MOST) × (length rows.old.len.now ≤ U.MOST) }
+    requires marks { HasMarks (option_copied choice.now.hold) (length rows.old.len.now) }
+    requires flag { 2 ≤ choice.now.flag }
+    ensures starts { (iw : List ℤ) → CanRun iw free rows.old → StandsAtStart (option_copied choice.now.hold) threshold
+        iw rows.old.pe.now rows.old.len.now (workspace_in iw rows.new result) }
     ensures unpacked { result.n_cmp_a ≡ 0 }
+    ensures loans { KeepsRows rows.old rows.new }
 {
-    let (live, n_dense) = begin(len, pe, e_len, nv, degree, w, head, sides, hold, threshold);
+    let (live, n_dense) = begin(
+        rows.len,
+        rows.pe,
+        rows.e_len,
+        rows.nv,
+        rows.degree,
+        rows.w,
+        rows.head,
+        rows.sides,
+        choice.hold,
+        threshold,
+    );
     Numbers {
         free,
         live,
         least: 0,
-        flag,
+        flag: choice.flag,
         most: 0,
         n_cmp_a: 0,
         n_dense,
@@ -122,48 +112,33 @@ fn start<S: Signed, P: Signed, U: Unsigned>(
 /// compact it.
 fn advance<S: Signed, P: Signed, U: Unsigned>(
     iw: &mut [Word<S>],
-    pe: &mut [Word<P>],
-    len: &mut [Cell<U>],
-    e_len: &mut [Word<P>],
-    nv: &mut [Word<S>],
-    degree: &mut [Cell<U>],
-    w: &mut [Cell<U>],
-    head: &mut [Cell<U>],
-    sides: &mut [Sides<U>],
-    hash: &mut [Cell<U>],
+    rows: &mut RowLists<'_, '_, '_, S, P, U>,
     numbers: Numbers,
     room: usize,
     control: &Control,
 ) -> Numbers
-    requires wide { IsNarrow S.MOST P.MOST U.MOST (length nv.old)
-        (workspace_in iw.old pe.old e_len.old nv.old len.old degree.old w.old head.old (nexts sides.old)
-        (lasts sides.old) hash.old numbers) }
+    requires wide { IsNarrow S.MOST P.MOST U.MOST (length rows.old.nv.now) (workspace_in iw.old rows.old numbers) }
     requires stands { (g : Graph) × (dense : ℕ → Bool) × (nzaat : ℕ) × (t : QuotientGraph) × (s : State) ×
-        Stands g dense nzaat
-        (workspace_in iw.old pe.old e_len.old nv.old len.old degree.old w.old head.old (nexts sides.old)
-        (lasts sides.old) hash.old numbers)
-        t s }
-    ensures rounds { AreRounds control.now.aggressive
-        (workspace_in iw.old pe.old e_len.old nv.old len.old degree.old w.old head.old (nexts sides.old)
-        (lasts sides.old) hash.old numbers)
-        (workspace_in iw.new pe.new e_len.new nv.new len.new degree.new w.new head.new (nexts sides.new)
-        (lasts sides.new) hash.new result) }
+        Stands g dense nzaat (workspace_in iw.old rows.old numbers) t s }
+    ensures rounds { AreRounds control.now.aggressive (workspace_in iw.old rows.old numbers)
+        (workspace_in iw.new rows.new result) }
     ensures end { 0 < result.live → (length iw.old < room) × (length iw.old < result.free + result.live) }
     ensures fewer { 0 < numbers.live → numbers.free + numbers.live ≤ length iw.old → result.live < numbers.live }
     ensures unpacked { length iw.old < room → result.n_cmp_a ≡ numbers.n_cmp_a }
-    ensures long { (length iw.new ≡ length iw.old) × (length nv.new ≡ length nv.old) }
+    ensures long { (length iw.new ≡ length iw.old) × (length rows.new.nv.now ≡ length rows.old.nv.now) }
+    ensures loans { KeepsRows rows.old rows.new }
 {
     let mut work = Work {
         iw,
-        pe,
-        e_len,
-        nv,
-        len,
-        degree,
-        w,
-        head,
-        sides,
-        hash,
+        pe: rows.pe,
+        e_len: rows.e_len,
+        nv: rows.nv,
+        len: rows.len,
+        degree: rows.degree,
+        w: rows.w,
+        head: rows.head,
+        sides: rows.sides,
+        hash: rows.hash,
         free: numbers.free,
         live: numbers.live,
         least: numbers.least,
@@ -191,52 +166,33 @@ fn advance<S: Signed, P: Signed, U: Unsigned>(
 /// `iw` is the workspace. The other lists have `n` places each, one for each row. The list of row `i` has `len[i]`
 /// words from `pe[i]` on: its neighbours. The lists fill the first `free` words, and `n` words or more follow them. In
 /// `head` and `hash` each number is `n` or more, so that it names no row; in `e_len`, `nv`, `degree`, `w` and `sides`
-/// any numbers are allowed. The widths hold an elimination of `n` rows in so many words. `flag`, the first one, is 2 or
-/// more.
+/// any numbers are allowed. The widths hold an elimination of `n` rows in so many words.
 ///
-/// The rows marked in `hold`, which has one mark for each row where it is given, and those of a degree above
-/// `threshold` are held last. All lists keep their lengths; the contract says so of all but `iw`, `len` and `sides`.
-/// What the elimination left is in `pe`, `e_len`, `nv` and `degree`, which `list_rows` can list. The workspace was
-/// compacted at most `n` times.
+/// The rows that are chosen, and those of a degree above `threshold`, are held last. All lists keep their lengths; the
+/// contract says so of all but `iw`, `len` and `sides`. What the elimination left is in `pe`, `e_len`, `nv` and
+/// `degree`, which `list_rows` can list. The workspace was compacted at most `n` times.
 ///
 /// Source: Amestoy, Davis and Duff 1996 and 2004.
 pub fn run<S: Signed, P: Signed, U: Unsigned>(
     iw: &mut [Word<S>],
-    pe: &mut [Word<P>],
-    len: &mut [Cell<U>],
-    e_len: &mut [Word<P>],
-    nv: &mut [Word<S>],
-    degree: &mut [Cell<U>],
-    w: &mut [Cell<U>],
-    head: &mut [Cell<U>],
-    sides: &mut [Sides<U>],
-    hash: &mut [Cell<U>],
+    rows: &mut RowLists<'_, '_, '_, S, P, U>,
     free: usize,
-    flag: usize,
-    control: &Control,
-    hold: Option<&[bool]>,
     threshold: usize,
+    choice: &Choice<'_>,
 ) -> Told
-    requires empty { AreEmpty (length len.old) e_len.old nv.old degree.old w.old head.old (nexts sides.old)
-        (lasts sides.old) hash.old }
-    requires narrow { AreWideEnough S.MOST P.MOST U.MOST (length len.old) (length iw.old) }
-    requires marks { HasMarks (option_copied hold) (length len.old) }
-    requires laid { IsLaidOut (length len.old) iw.old pe.old len.old free }
-    requires room { free + length len.old ≤ length iw.old }
-    requires flag { 2 ≤ flag }
-    requires graph { (g : Graph) × (lists : ℕ → List ℕ) × LaysGraph g lists iw.old pe.old len.old }
-    ensures runs { RunsInPlace (option_copied hold.entry) threshold control.now.aggressive iw.old pe.old len.old
-        result.n_dense result.figures pe.new e_len.new nv.new degree.new }
-    ensures packs { result.n_cmp_a ≤ length len.old }
-    ensures over { AreOver (length len.old) pe.new e_len.new nv.new degree.new w.new head.new hash.new }
+    requires can { CanRun iw.old free rows.old }
+    requires narrow { AreWideEnough S.MOST P.MOST U.MOST (length rows.old.len.now) (length iw.old) }
+    requires marks { HasMarks (option_copied choice.now.hold) (length rows.old.len.now) }
+    requires flag { 2 ≤ choice.now.flag }
+    ensures runs { RunsInPlace (option_copied choice.now.hold) threshold choice.now.control.now.aggressive iw.old
+        rows.old.pe.now rows.old.len.now result rows.new }
+    ensures packs { result.n_cmp_a ≤ length rows.old.len.now }
+    ensures over { AreOver (length rows.old.len.now) rows.new }
+    ensures loans { KeepsRows rows.old rows.new }
 {
-    let first = start(
-        pe, len, e_len, nv, degree, w, head, sides, free, flag, hold, threshold,
-    );
+    let first = start(rows, free, threshold, choice);
     let room = iw.len();
-    let last = advance(
-        iw, pe, len, e_len, nv, degree, w, head, sides, hash, first, room, control,
-    );
+    let last = advance(iw, rows, first, room, choice.control);
     Told {
         n_dense: last.n_dense,
         n_cmp_a: last.n_cmp_a,
@@ -245,7 +201,7 @@ pub fn run<S: Signed, P: Signed, U: Unsigned>(
 }
 
 /// Where fewer words than rows are live are free, appends as many as rows are live to the workspace, up to `room` words
-/// in all. What they hold is not read.
+/// in all. What they hold is not read. The vector has room for them and keeps it, so nothing is asked for.
 fn grow<S: Signed, A: Allocator>(iw: &mut Vec<Word<S>, A>, free: usize, live: usize, room: usize)
     requires room { (length iw.old.items ≤ room) × (room ≤ vec_capacity iw.old) }
     requires numbers { (free ≤ length iw.old.items) × (live ≤ length iw.old.items) × (live ≤ S.MOST) }
@@ -254,62 +210,49 @@ fn grow<S: Signed, A: Allocator>(iw: &mut Vec<Word<S>, A>, free: usize, live: us
     ensures due { length iw.new.items < room → free + live ≤ length iw.new.items }
     ensures few { length iw.new.items ≤ length iw.old.items + live }
     ensures kept { free + live ≤ length iw.old.items → iw.new.items ≡ iw.old.items }
-    ensures capacity { vec_capacity iw.old ≤ vec_capacity iw.new }
+    ensures capacity { vec_capacity iw.new ≡ vec_capacity iw.old }
 {
     let words = iw.len();
-    if words < free + live {
-        push_rows(iw, live, live.min(room - words));
+    if words >= free + live {
+        return;
+    }
+    'words: for _ in 0..live.min(room - words) {
+        iw.push_reserved(word_of(live as isize));
     }
 }
 
 /// As `run`, in a workspace that grows up to `room` words where there is no room for a new element: the result is the
 /// same as with so many words from the start. It is compacted only where it has all its words.
 ///
-/// The vector has capacity for `room` words, which the widths hold, and `n` words or more follow the lists.
+/// The vector has capacity for `room` words, which the widths hold, and keeps it: so nothing is asked for. `n` words or
+/// more follow the lists.
 ///
 /// Source: Amestoy, Davis and Duff 1996 and 2004.
 pub fn run_growing<S: Signed, P: Signed, U: Unsigned, A: Allocator>(
     iw: &mut Vec<Word<S>, A>,
-    pe: &mut [Word<P>],
-    len: &mut [Cell<U>],
-    e_len: &mut [Word<P>],
-    nv: &mut [Word<S>],
-    degree: &mut [Cell<U>],
-    w: &mut [Cell<U>],
-    head: &mut [Cell<U>],
-    sides: &mut [Sides<U>],
-    hash: &mut [Cell<U>],
+    rows: &mut RowLists<'_, '_, '_, S, P, U>,
     free: usize,
-    flag: usize,
-    control: &Control,
-    hold: Option<&[bool]>,
-    threshold: usize,
     room: usize,
+    threshold: usize,
+    choice: &Choice<'_>,
 ) -> Told
-    requires empty { AreEmpty (length len.old) e_len.old nv.old degree.old w.old head.old (nexts sides.old)
-        (lasts sides.old) hash.old }
-    requires narrow { AreWideEnough S.MOST P.MOST U.MOST (length len.old) room }
-    requires marks { HasMarks (option_copied hold) (length len.old) }
-    requires laid { IsLaidOut (length len.old) iw.old.items pe.old len.old free }
-    requires room { (free + length len.old ≤ length iw.old.items) × (length iw.old.items ≤ room) ×
-        (room ≤ vec_capacity iw.old) }
-    requires flag { 2 ≤ flag }
-    requires graph { (g : Graph) × (lists : ℕ → List ℕ) × LaysGraph g lists iw.old.items pe.old len.old }
-    ensures runs { RunsInPlace (option_copied hold.entry) threshold control.now.aggressive iw.old.items pe.old len.old
-        result.n_dense result.figures pe.new e_len.new nv.new degree.new }
-    ensures packs { result.n_cmp_a ≤ length len.old }
+    requires can { CanRun iw.old.items free rows.old }
+    requires narrow { AreWideEnough S.MOST P.MOST U.MOST (length rows.old.len.now) room }
+    requires room { (length iw.old.items ≤ room) × (room ≤ vec_capacity iw.old) }
+    requires marks { HasMarks (option_copied choice.now.hold) (length rows.old.len.now) }
+    requires flag { 2 ≤ choice.now.flag }
+    ensures runs { RunsInPlace (option_copied choice.now.hold) threshold choice.now.control.now.aggressive
+        iw.old.items rows.old.pe.now rows.old.len.now result rows.new }
+    ensures packs { result.n_cmp_a ≤ length rows.old.len.now }
     ensures unpacked { length iw.new.items < room → result.n_cmp_a ≡ 0 }
-    ensures capacity { vec_capacity iw.old ≤ vec_capacity iw.new }
-    ensures over { AreOver (length len.old) pe.new e_len.new nv.new degree.new w.new head.new hash.new }
+    ensures capacity { vec_capacity iw.new ≡ vec_capacity iw.old }
+    ensures over { AreOver (length rows.old.len.now) rows.new }
+    ensures loans { KeepsRows rows.old rows.new }
 {
-    let mut numbers = start(
-        pe, len, e_len, nv, degree, w, head, sides, free, flag, hold, threshold,
-    );
+    let mut numbers = start(rows, free, threshold, choice);
     'growths: while numbers.live > 0 {
         grow(iw, numbers.free, numbers.live, room);
-        numbers = advance(
-            iw, pe, len, e_len, nv, degree, w, head, sides, hash, numbers, room, control,
-        );
+        numbers = advance(iw, rows, numbers, room, choice.control);
     }
     Told {
         n_dense: numbers.n_dense,

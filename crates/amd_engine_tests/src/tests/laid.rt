@@ -12,6 +12,7 @@ use crate::tests::sorted::{Sorted, check_marks, degrees_of};
 use amd_engine::amd_1::holds;
 use amd_engine::amd_2::amd_2_from;
 use amd_engine::fresh::memory_for;
+use amd_engine::rows::Choice;
 use amd_types::amd::{Control, Info};
 use amd_types::internal::{count_at, flip};
 use amd_words::{Cell, Signed, Unsigned, Word, cell_at, word_at};
@@ -192,16 +193,19 @@ pub fn order_laid<S: Signed, P: Signed, U: Unsigned>(
     let (n, a_p, a_i) = (matrix.n, matrix.a_p, matrix.a_i);
     let mut laid = laid_of::<S, P, U>(rt, alloc, n, a_p, a_i, 0, info);
     check_marks(rt, matrix.hold, laid.memory.len.len());
+    let choice = Choice {
+        control,
+        hold: matrix.hold,
+        flag: 2,
+    };
     let Ok(answer) = amd_2_from(
         alloc,
-        2,
         n,
         &mut laid.memory.pe,
         &mut laid.memory.words.iw,
         &mut laid.memory.len,
         laid.free,
-        control,
-        matrix.hold,
+        &choice,
         info,
     ) else {
         panic!(rt; "no answer over laid lists");

@@ -10,6 +10,7 @@ ghost use Rattle.amd_model.specs.Input.Pattern.{graph_of};
 ghost use Rattle.amd_edges.specs.Visits.{AreCounts, start_of};
 
 use amd_engine::amd_1::{amd_1, holds, order_in};
+use amd_engine::rows::Choice;
 use amd_input::aat::aat;
 use amd_input::valid::valid;
 use amd_plain::plain::plain_1;
@@ -143,13 +144,16 @@ pub fn order_in_place<A: Allocator + Copy>(
     let (degrees, room) = degrees_of(rt, alloc, n, a_p, a_i, more, info);
     let len = degrees.as_slice();
     check_marks(rt, hold, len.len());
+    let choice = Choice {
+        control,
+        hold,
+        flag,
+    };
     if holds::<i32, i32, u32>(len.len(), room, flag) {
-        return order_in::<i64, i32, i32, u32, A>(
-            heap, flag, n, a_p, a_i, len, room, control, hold, info,
-        );
+        return order_in::<i64, i32, i32, u32, A>(heap, n, a_p, a_i, len, room, &choice, info);
     }
     assert!(rt; holds::<isize, isize, usize>(len.len(), room, flag));
-    order_in::<i64, isize, isize, usize, A>(heap, flag, n, a_p, a_i, len, room, control, hold, info)
+    order_in::<i64, isize, isize, usize, A>(heap, n, a_p, a_i, len, room, &choice, info)
 }
 
 /// First flags for a matrix of `size` rows: the one of the product, and in each width one far from a reset of the

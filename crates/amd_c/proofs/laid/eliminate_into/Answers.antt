@@ -8,7 +8,7 @@ use Rattle.amd_c.proofs.laid.eliminate_into.Goals as goal
 pub copy_from_slice-requires : goal.copy_from_slice-requires
 copy_from_slice-requires g c =
     let value = g.I.Number.value in let w = c.requires.graph in
-    let long = answers_long c.args.parameters.now _ _ _ _ _ _ _ _ _ _ _ c.in-Ok.ensures.orders w.0 w.1 w.2 in
+    let long = answers_long c.args.parameters.now _ _ _ _ _ _ _ c.in-Ok.ensures.orders w.0 w.1 w.2 in
     let here : length c.args.nv.now ≡ length c.args.len.now = sym (length-map c.args.nv.now value) ∙ c.requires.places.0 in
     let there : length c.args.len.now ≡ length c.deref.result.now = sym long.0 ∙ length-map _ value
     ∙ sym (ap length c.deref.ensures.value) in
@@ -17,7 +17,7 @@ copy_from_slice-requires g c =
 pub copy_from_slice-requires-2 : goal.copy_from_slice-requires-2
 copy_from_slice-requires-2 g c =
     let value = g.I.Number.value in let w = c.requires.graph in
-    let long = answers_long c.args.parameters.now _ _ _ _ _ _ _ _ _ _ _ c.in-Ok.ensures.orders w.0 w.1 w.2 in
+    let long = answers_long c.args.parameters.now _ _ _ _ _ _ _ c.in-Ok.ensures.orders w.0 w.1 w.2 in
     let here : length c.args.p_inv.now ≡ length c.args.len.now = sym (length-map c.args.p_inv.now value) ∙ c.requires.places.2 in
     let there : length c.args.len.now ≡ length c.deref-2.result.now = sym long.2 ∙ length-map _ value
     ∙ sym (ap length c.deref-2.ensures.value) in
@@ -26,7 +26,7 @@ copy_from_slice-requires-2 g c =
 pub copy_from_slice-requires-3 : goal.copy_from_slice-requires-3
 copy_from_slice-requires-3 g c =
     let value = g.I.Number.value in let w = c.requires.graph in
-    let long = answers_long c.args.parameters.now _ _ _ _ _ _ _ _ _ _ _ c.in-Ok.ensures.orders w.0 w.1 w.2 in
+    let long = answers_long c.args.parameters.now _ _ _ _ _ _ _ c.in-Ok.ensures.orders w.0 w.1 w.2 in
     let here : length c.args.p.now ≡ length c.args.len.now = sym (length-map c.args.p.now value) ∙ c.requires.places.1 in
     let there : length c.args.len.now ≡ length c.deref-3.result.now = sym long.1 ∙ length-map _ value
     ∙ sym (ap length c.deref-3.ensures.value) in
@@ -35,7 +35,7 @@ copy_from_slice-requires-3 g c =
 pub copy_from_slice-requires-4 : goal.copy_from_slice-requires-4
 copy_from_slice-requires-4 g c =
     let w = c.requires.graph in
-    let long = answers_long c.args.parameters.now _ _ _ _ _ _ _ _ _ _ _ c.in-Ok.ensures.orders w.0 w.1 w.2 in
+    let long = answers_long c.args.parameters.now _ _ _ _ _ _ _ c.in-Ok.ensures.orders w.0 w.1 w.2 in
     let here : length c.args.e_len.now ≡ length c.args.len.now = c.requires.places.3 in
     here ∙ sym long.3 ∙ sym (ap length c.deref-4.ensures.value)
 
@@ -44,8 +44,8 @@ returns g c =
     let value = g.I.Number.value in
     let choice = c.args.parameters.now in let info = c.amd_2.new.info in
     let fits : SFits w32 choice.dense = search rules in
-    holds_copies choice _ _ _ _ _ _ _ _ _ _ _ c.in-Ok.ensures.orders c.in-Ok.ensures.compactions
-    (to_z-of_z w32 choice.dense fits) c.new-info.ensures _ _
+    holds_copies choice _ _ _ _ _ _ _ c.in-Ok.ensures.orders c.in-Ok.ensures.compactions
+    (to_z-of_z w32 choice.dense fits) refl c.new-info.ensures _ _
     (ap (map value) (c.copy_from_slice.ensures.after ∙ c.deref.ensures.value))
     (ap (map value) (c.copy_from_slice-3.ensures.after ∙ c.deref-3.ensures.value))
     (ap (map value) (c.copy_from_slice-2.ensures.after ∙ c.deref-2.ensures.value))

@@ -1,7 +1,7 @@
 -- The copies are lists of the same graph, so that what the engine answers of them is an answer of the caller's lists.
-use Rattle.std.proofs.Common.{ℕ, ℤ, List, None, ◌≡◌, length, map, take, drop, sym, ◌∙◌, ap, subst, arith}
+use Rattle.std.proofs.Common.{ℕ, ℤ, List, None, ◌≡◌, length, map, take, drop, refl, sym, ◌∙◌, ap, arith}
 use Rattle.std.proofs.lemmas.List.{map-id, take_all, take_at}
-use Rattle.amd_engine.specs.InPlace.{AnswersInPlace}
+use Rattle.amd_engine.proofs.RaisedLists.{answers_same}
 use Rattle.amd_c.proofs.SameLists.{lays_copied}
 use Rattle.amd_c.proofs.Eliminated.{answers_copied}
 use Rattle.amd_c.proofs.narrow.eliminate_copies.Goals as goal
@@ -33,13 +33,8 @@ returns-clause-orders c = λ graph lists lays.
     let counts : c.deref_mut-3.result.now ≡ len = c.deref_mut-3.ensures.value ∙ c.in_ok-counts.ensures in
     let l = c.in_ok-links.links in let new_pe : List ℤ = c.amd_2_from.new.pe in let a = c.in_ok-nv in
     let long : length new_pe ≡ l.len = c.amd_2_from.auto.pe ∙ ap length c.deref_mut.ensures.value ∙ sym l.ok.0 in
-    let n = length len in let t = c.args.control.now.dense in let aggressive = c.args.control.now.aggressive in
-    let p : List ℤ = a.p.items in let q : List ℤ = a.p_inv.items in
-    let nv : List ℤ = a.nv.items in let e_len : List ℤ = a.e_len.items in
-    let old = c.args.info.now in let new = c.amd_2_from.new.info in let orders = a.ensures.orders in
-    let one = answers_copied _ iw _ pe _ len _ _ c.requires.laid words starts counts t aggressive _ _ nv e_len new_pe old new orders graph
+    let old = c.args.info.now in let new = c.amd_2_from.new.info in
+    let one = answers_copied _ iw _ pe _ len _ _ c.requires.laid words starts counts c.args.control.now _ old new a.ensures.orders graph
     lists lays in
-    let two = subst (λ xs. AnswersInPlace graph lists None n t aggressive xs (map (λ x. x) q) nv e_len new_pe old new) (map-id p) one in
-    let three = subst (λ xs. AnswersInPlace graph lists None n t aggressive p xs nv e_len new_pe old new) (map-id q) two in
-    subst (λ xs. AnswersInPlace graph lists None n t aggressive p q nv e_len xs old new)
-    (sym (take_at new_pe (drop (length new_pe) l.items) l.len long)) three
+    answers_same graph lists None _ _ c.args.control.now _ _ old new one refl (sym (map-id a.p.items)) (sym (map-id a.p_inv.items)) refl
+    refl (take_at new_pe (drop (length new_pe) l.items) l.len long)

@@ -1,4 +1,4 @@
-use Rattle.std.proofs.Common.{arith, ℕ, ℤ, List, map, length, drop, ap, sym, ◌≡◌, ◌∙◌}
+use Rattle.std.proofs.Common.{arith, ℕ, map, length, drop, ap, sym, ◌≡◌, ◌∙◌}
 use Rattle.std.proofs.lemmas.Int.{ints}
 use Rattle.std.proofs.lemmas.List.{take_at}
 use Rattle.amd_edges.proofs.Forms.{pointer_read}

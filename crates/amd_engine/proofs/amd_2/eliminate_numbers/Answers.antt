@@ -1,4 +1,4 @@
-use Rattle.std.proofs.Common.{ℕ, ℤ, List, None, pos, map, length, take, drop, ap, sym, subst, arith, ◌≡◌, ◌++◌, ◌∙◌}
+use Rattle.std.proofs.Common.{ℕ, ℤ, List, None, pos, map, length, take, drop, ap, refl, sym, subst, arith, ◌≡◌, ◌++◌, ◌∙◌}
 use Rattle.std.proofs.lemmas.Int.{ints}
 use Rattle.std.proofs.lemmas.List.{take_at, length-map, length-replicate}
 use Rattle.amd_model.specs.Graph.{Graph}
@@ -130,15 +130,10 @@ returns-clause-orders g c = λ graph lists lays.
     (c.write_counts.auto.numbers ∙ ap length c.deref_mut-3.ensures.value ∙ sym nv.ok.0) in
     let e_len_is = take_at words (drop (length words) e_len.items) e_len.len
     (c.write_words.auto.numbers ∙ ap length c.deref_mut-4.ensures.value ∙ sym e_len.ok.0) in
-    answers_same graph lists None (length c.lend_cells.result.now) (length c.args.len.now) c.args.control.now.dense
-    c.args.control.now.aggressive
-    (map value c.in_ok-blocks.p.items) (map value c.in_ok-blocks.p_inv.items) c.in_ok-blocks.blocks.items
-    (map value (take nv.len (counts ++ drop (length counts) nv.items))) c.in_ok-blocks.fronts.items
-    (take e_len.len (words ++ drop (length words) e_len.items)) c.amd_2_from.new.pe c.write_words-2.new.numbers c.args.info.now
-    c.amd_2_from.new.info
-    answer (ap length c.lend_cells.ensures.value) (sym (ap (map value) nv_is ∙ c.write_counts.ensures ∙ c.deref.ensures.value))
-    (sym (e_len_is ∙ c.write_words.ensures ∙ c.deref-2.ensures.value))
-    (sym (c.write_words-2.ensures ∙ links_left g at.After-deref-3 (starts_raised g at.After-lend_cells)))
+    answers_same graph lists None _ _ _ _ _ _ _ answer (ap length c.lend_cells.ensures.value) refl refl
+    (ap (map value) nv_is ∙ c.write_counts.ensures ∙ c.deref.ensures.value)
+    (e_len_is ∙ c.write_words.ensures ∙ c.deref-2.ensures.value)
+    (c.write_words-2.ensures ∙ links_left g at.After-deref-3 (starts_raised g at.After-lend_cells))
 
 pub returns-clause-compactions : goal.returns-clause-compactions
 returns-clause-compactions g c =

@@ -1,22 +1,13 @@
-use Rattle.std.proofs.Common.{length, drop, sym, ◌∙◌}
-use Rattle.std.proofs.lemmas.List.{take_at}
+use Rattle.std.proofs.Common.{map, pos, length}
+use Rattle.amd_words.specs.Words.{num}
+use Rattle.amd_engine.proofs.EndingLaw.{names_row, turned}
 use Rattle.amd_engine.proofs.ended.finish.Goals as goal
 
-pub returns-clause-listed : goal.returns-clause-listed
-returns-clause-listed g c =
-    let l = c.args.lists.now in let over = c.requires.over.words in
-    let new = c.list_rows.new in let listed = c.list_rows.ensures in
-    let e_len_is = take_at new.e_len (drop (length new.e_len) l.e_len.items) l.e_len.len
-    (listed.long.1 ∙ sym (l.e_len.ok.0 ∙ over.1)) in
-    let nv_is = take_at new.nv (drop (length new.nv) l.nv.items) l.nv.len (listed.long.2 ∙ sym (l.nv.ok.0 ∙ over.2)) in
-    rw (e_len_is, nv_is) (rw c.deref_mut.ensures.value at listed)
+pub write_numbers-requires-clause-fits : goal.write_numbers-requires-clause-fits
+write_numbers-requires-clause-fits g c = λ k l. let head = c.args.head.now in let inverse = c.requires.inverse in
+    c.requires.fits (num head k) (names_row (length head) head (map pos c.args.w.now) inverse k l)
 
-pub returns-clause-room : goal.returns-clause-room
-returns-clause-room g c = λ k h. record {
-  nv = h.nv;
-  e_len = h.e_len;
-  w = h.w;
-  head = h.head;
-  sides = h.sides;
-  hash = h.hash;
-}
+pub write_numbers-requires-2-clause-fits : goal.write_numbers-requires-2-clause-fits
+write_numbers-requires-2-clause-fits g c = λ k l. let head = c.args.head.now in let w = c.args.w.now in
+    c.requires.fits (num w k)
+    (names_row (length head) w (map pos head) (turned (length head) (map pos head) (map pos w) c.requires.inverse) k l)

@@ -1,4 +1,4 @@
-use Rattle.std.proofs.Common.{arith, ap, length}
+use Rattle.std.proofs.Common.{arith}
 use Rattle.amd_engine.proofs.fresh.memory_for.Goals as goal
 
 pub returns-clause-degrees : goal.returns-clause-degrees

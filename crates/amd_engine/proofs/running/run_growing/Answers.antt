@@ -1,48 +1,41 @@
-use Rattle.std.proofs.Common.{ℕ, ◌≡◌, ◌<◌, ◌+◌, ap, arith, drop, length, sym, ◌∙◌}
+use Rattle.std.proofs.Common.{ℕ, ◌≡◌, ◌<◌, ◌+◌, ap, arith, drop, length, refl, sym, ◌∙◌}
 use Rattle.std.proofs.lemmas.List.{take_at, length-append}
 use Rattle.std.specs.Option.{option_copied}
 use Rattle.amd_model.specs.Run.{last_state}
 use Rattle.amd_model.specs.Input.Held.{is_held_last}
-use Rattle.amd_words.specs.Sides.{nexts, lasts}
 use Rattle.amd_rounds.specs.Workspaces.{Workspace}
 use Rattle.amd_rounds.proofs.Rounds.{rounds_none, rounds_then, none_live, StandsForSome}
 use Rattle.amd_rounds.proofs.Grown.{stands_grown, rounds_grown}
 use Rattle.amd_engine.specs.InPlace.{workspace_in}
-use Rattle.amd_engine.proofs.InPlaceLaw.{degrees_small, reached, runs_in_place, packs_few, are_over}
+use Rattle.amd_engine.proofs.InPlaceLaw.{keeps_rows, reached, runs_in_place, packs_few, are_over}
 use Rattle.amd_engine.proofs.running.run_growing.Given.{Over}
 use Rattle.amd_engine.proofs.running.run_growing.Goals.{At-growths}
 use Rattle.amd_engine.proofs.running.run_growing.Goals as goal
 
 -- the workspace between two growths
 abbrev now : (g : Over) (c : At-growths g) → Workspace
-now g c = let l = c.growths in workspace_in l.iw.items l.pe l.e_len l.nv l.len l.degree l.w l.head (nexts l.sides) (lasts l.sides)
-    l.hash l.numbers
-
-pub start-numbers-requires-clause-degrees : goal.start-numbers-requires-clause-degrees
-start-numbers-requires-clause-degrees g c = let w = c.requires.graph in
-    degrees_small w.0 w.1 c.args.iw.now.items c.args.pe.now c.args.len.now w.2
+now g c = let l = c.growths in workspace_in l.iw.items l.rows l.numbers
 
 pub growths-init : goal.growths-init
-growths-init g c = let r = c.requires in let s = c.start-numbers.new in record {
+growths-init g c = let iw = c.args.iw.now.items in record {
   rounds = (
-    workspace_in c.args.iw.now.items s.pe s.e_len s.nv s.len s.degree s.w s.head (nexts s.sides) (lasts s.sides) c.args.hash.now
-        c.start-numbers.result,
-    c.start-numbers.ensures.starts c.args.iw.now.items c.args.hash.now r.empty.links.3 (λ b l. (r.empty.heads b l).1) r.laid r.room.0,
+    workspace_in iw c.start-numbers.new.rows c.start-numbers.result,
+    c.start-numbers.ensures.starts iw c.requires.can,
     rounds_none,
   );
-  room = (r.room.1, r.room.2);
+  room = c.requires.room;
   unpacked = λ short. c.start-numbers.ensures.unpacked;
-  capacity = omega arith;
+  capacity = refl;
+  loans = c.start-numbers.ensures.loans;
 }
 
 -- the workspace of the loop stands for a state
-stands : (g : Over) (c : At-growths g) → (w : StandsForSome (now g c)) × (w.0.size ≡ length c.args.len.now)
+stands : (g : Over) (c : At-growths g) → (w : StandsForSome (now g c)) × (w.0.size ≡ length c.args.rows.now.len.now)
 stands g c =
-    let a = c.args in let i = c.growths.invariant.rounds in let w = c.requires.graph in
-    let to = reached (option_copied a.hold) a.threshold a.control.now.aggressive a.iw.now.items a.pe.now a.len.now i.0 (now g c) i.1 i.2
-    w.0 w.1 w.2 in
+    let hold = option_copied c.args.choice.now.hold in let i = c.growths.invariant.rounds in let w = c.requires.can.graph in
+    let to = reached _ _ _ _ _ _ i.0 _ c.growths.rows _ i.1 i.2 w.0 w.1 w.2 in
     let from = i.1 w.0 w.1 w.2 in (
-      (w.0, is_held_last (option_copied a.hold) w.0 a.threshold, from.1, to.0, last_state from.0 to.1.0, to.1.2),
+      (w.0, is_held_last hold w.0 c.args.threshold, from.1, to.0, last_state from.0 to.1.0, to.1.2),
       sym w.2.neighbours.size,
     )
 
@@ -51,6 +44,18 @@ grow-requires-clause-numbers g c =
     let st = stands g (goal.at.grow-requires-clause-numbers g c).At-growths in let l = st.0.5.laid in
     let end = l.end in let room = l.room in let packs = l.packs in let size = st.1 in let most = c.requires.narrow.2 in
     (end, omega (arith, room, packs), omega (arith, packs, size, most))
+
+pub advance-numbers-requires-clause-wide : goal.advance-numbers-requires-clause-wide
+advance-numbers-requires-clause-wide g c =
+    let st = stands g (goal.at.advance-numbers-requires-clause-wide g c).At-growths in let rows = st.0.5.laid.sized.nv in
+    let size = st.1 in let n = c.requires.narrow in let lent = ap length c.deref_mut.ensures.value in let long = c.grow.ensures.long in
+    let place = n.0 in let cell = n.1 in let word = n.2 in let count = n.3 in (
+      omega (arith, lent, long, place),
+      omega (arith, lent, long, cell),
+      omega (arith, rows, size, word),
+      omega (arith, rows, size, count),
+      n.4,
+    )
 
 pub advance-numbers-requires-clause-stands : goal.advance-numbers-requires-clause-stands
 advance-numbers-requires-clause-stands g c =
@@ -79,28 +84,24 @@ growths-preserved g c =
       unpacked = λ short.
           c.advance-numbers.ensures.unpacked (lent_short _ _ _ c.args.room short long (ap length c.deref_mut.ensures.value))
           ∙ i.unpacked (grown_short _ _ _ _ c.args.room short long (ap length more.1 ∙ length-append c.growths.iw.items more.0));
-      capacity = (let a = i.capacity in let b = c.grow.ensures.capacity in omega (arith, a, b));
+      capacity = c.grow.ensures.capacity ∙ i.capacity;
+      loans = keeps_rows c.args.rows.now c.growths.rows new.rows i.loans c.advance-numbers.ensures.loans;
     })
 
 pub returns-clause-runs : goal.returns-clause-runs
 returns-clause-runs g c =
-    let a = c.args in let to = (goal.at.returns-clause-runs g c).At-growths in let i = c.growths.invariant.rounds in
-    runs_in_place (option_copied a.hold) a.threshold a.control.now.aggressive a.iw.now.items a.pe.now a.len.now i.0 (now g to) i.1 i.2
-    (none_live (now g to) (let e = c.growths-test.false in omega (arith, e)))
+    let i = c.growths.invariant.rounds in
+    runs_in_place _ _ _ _ _ _ i.0 _ _ _ i.1 i.2 (none_live _ (let e = c.growths-test.false in omega (arith, e)))
 
 pub returns-clause-packs : goal.returns-clause-packs
 returns-clause-packs g c =
-    let a = c.args in let to = (goal.at.returns-clause-packs g c).At-growths in let i = c.growths.invariant.rounds in
-    let w = c.requires.graph in
-    packs_few (option_copied a.hold) a.threshold a.control.now.aggressive a.iw.now.items a.pe.now a.len.now i.0 (now g to) i.1 i.2
-    w.0 w.1 w.2
+    let i = c.growths.invariant.rounds in let w = c.requires.can.graph in
+    packs_few _ _ _ _ _ _ i.0 _ c.growths.rows _ i.1 i.2 w.0 w.1 w.2
 
 pub returns-clause-over : goal.returns-clause-over
 returns-clause-over g c =
-    let a = c.args in let to = (goal.at.returns-clause-over g c).At-growths in let i = c.growths.invariant.rounds in
-    let w = c.requires.graph in
-    are_over (option_copied a.hold) a.threshold a.control.now.aggressive a.iw.now.items a.pe.now a.len.now i.0 (now g to) i.1 i.2
-    (none_live (now g to) (let e = c.growths-test.false in omega (arith, e))) w.0 w.1 w.2
+    let i = c.growths.invariant.rounds in let w = c.requires.can.graph in
+    are_over _ _ _ _ _ _ i.0 _ _ _ i.1 i.2 (none_live _ (let e = c.growths-test.false in omega (arith, e))) w.0 w.1 w.2
 
 pub returns-clause-capacity : goal.returns-clause-capacity
 returns-clause-capacity g c = c.growths.invariant.capacity
