@@ -1,17 +1,18 @@
 // The texts of the answers, made in memory before an output is written. Called by `program`, which says where they go.
 // What is written first of an answer is told by a contract here; which other parts it has is tested.
 
-ghost use Rattle.std.specs.Prelude.{◌≡◌, IfOk};
+ghost use Rattle.std.specs.Prelude.{◌≡◌, None, IfOk, MatchOption};
 ghost use Rattle.amd_command.specs.Answers.{AreCountsIn, AreNumbers, AreTwoNeeds, IsOrderingOf};
 ghost use Rattle.amd_command.specs.Answers.{TellsAnalysis, TellsColumns, TellsOrder, lines_of};
 ghost use Rattle.amd_command.specs.Needs.{IsNeedUnder};
+ghost use Rattle.amd_command.specs.Permuted.{TellsPermuted};
 
 use crate::analysis::{Analysis, analyze_matrix};
 use crate::faults::cause_of;
 use crate::lists::{places_in, write_numbers};
 use crate::needs::{need_under, standing_order, told};
 use crate::ordering::order_matrix;
-use crate::permuted::permuted;
+use crate::permuted::{pattern_text, valued_text};
 use amd::{Control, Info};
 use amd_market::reader::Matrix;
 use amd_report::compare::{Comparison, Needs, write_comparison_lines};
@@ -125,20 +126,24 @@ fn factor_text(
     Ok(Some(text))
 }
 
-/// The text of the permuted matrix, where it is asked for.
+/// The text of the permuted matrix, made from its text, where there is one: with its values, or, where the text does
+/// not list entries, as a pattern.
 fn permuted_text(
     alloc: Global,
-    options: &Options<'_>,
     matrix: &Matrix<Global>,
+    text: Option<&[u8]>,
     p: &[usize],
-) -> Result<Option<Vec<u8>>, Cause> {
-    if options.permuted.is_none() {
+) -> Result<Option<Vec<u8>>, Cause>
+    ensures { IfOk result (λ made. MatchOption text.entry (made ≡ None) (λ given. MatchOption made ⊥ (λ text.
+        TellsPermuted matrix.now.n matrix.now.a_p.items matrix.now.a_i.items p.now given.now text.items))) }
+{
+    let Some(given) = text else {
         return Ok(None);
+    };
+    if let Some(made) = valued_text(alloc, given, matrix.n, p)? {
+        return Ok(Some(made));
     }
-    let matrix = permuted(alloc, matrix, p)?;
-    let mut text = Vec::new(alloc);
-    write_matrix(&matrix, &mut text)?;
-    Ok(Some(text))
+    Ok(Some(pattern_text(alloc, matrix, p)?))
 }
 
 /// The text of the elimination tree and of its supernodes, where it is asked for.
@@ -221,6 +226,7 @@ pub fn order_texts(
     alloc: Global,
     options: &Options<'_>,
     matrix: &Matrix<Global>,
+    text: Option<&[u8]>,
     ordered: &Ordered,
 ) -> Result<Texts, Cause>
     ensures { IfOk result (λ t. TellsOrder options.now ordered.now.info matrix.now.repeats ordered.now.compared
@@ -236,7 +242,7 @@ pub fn order_texts(
         lines,
         figures,
         factor: factor_text(alloc, options, matrix, &ordered.p)?,
-        permuted: permuted_text(alloc, options, matrix, &ordered.p)?,
+        permuted: permuted_text(alloc, matrix, text, &ordered.p)?,
         tree: tree_text(alloc, options, matrix, &ordered.p)?,
     })
 }

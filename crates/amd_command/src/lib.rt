@@ -12,6 +12,7 @@ pub mod analysis;
 pub mod answers;
 pub mod drawn;
 pub mod faults;
+pub mod listed;
 pub mod lists;
 pub mod needs;
 pub mod ordering;

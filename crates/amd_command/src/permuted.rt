@@ -1,14 +1,17 @@
-// The permuted matrix: row `p[k]` and column `p[k]` of the matrix stand at place `k`. Called by `answers`.
+// The permuted matrix: row `p[k]` and column `p[k]` of the matrix stand at place `k`; as a pattern, and its text, made
+// from that of the matrix with the values, or as a pattern. Called by `answers`.
 
-ghost use Rattle.std.specs.Prelude.{◌≡◌, ◌++◌, slice_index, IfOk, OnOk};
-ghost use Rattle.amd_command.specs.Permuted.{IsPermuted, pairs_up_to, placed_pairs};
+ghost use Rattle.std.specs.Prelude.{◌≡◌, ◌++◌, slice_index, IfOk, MatchOption, OnOk};
+ghost use Rattle.amd_request.specs.Valued.{ListsNothing};
+ghost use Rattle.amd_command.specs.Permuted.{IsPatternText, IsPermuted, IsValuedText, pairs_up_to, placed_pairs};
 
 use amd_market::columns::columns_of;
 use amd_market::reader::Matrix;
-use amd_report::pattern::rows_of;
+use amd_report::pattern::{rows_of, write_matrix};
 use amd_request::causes::Cause;
+use amd_request::valued::text_at_places;
 use amd_symbolic::places::places;
-use std::alloc::Allocator;
+use std::alloc::{Allocator, Global};
 
 /// The place of a row.
 fn place_of(places: &[usize], row: usize) -> usize
@@ -79,4 +82,44 @@ pub fn permuted<A: Allocator + Copy>(
         a_i,
         repeats: 0,
     })
+}
+
+/// The text of the matrix with its rows and columns in an order, as a pattern with every entry.
+///
+/// # Errors
+///
+/// Those of `permuted`.
+pub fn pattern_text(alloc: Global, matrix: &Matrix<Global>, p: &[usize]) -> Result<Vec<u8>, Cause>
+    ensures { IfOk result (λ text. IsPatternText matrix.now.n matrix.now.a_p.items matrix.now.a_i.items p.now
+        text.items) }
+{
+    let made = permuted(alloc, matrix, p)?;
+    let mut text = Vec::new(alloc);
+    write_matrix(&made, &mut text)?;
+    Ok(text)
+}
+
+/// The text of a matrix with its `n` rows and columns in an order, with the entries and the values of its text, if
+/// that lists entries.
+///
+/// # Errors
+///
+/// `Form` where `p` is no permutation of the rows, or the text none of such a matrix; `Memory` where memory was refused.
+pub fn valued_text(
+    alloc: Global,
+    text: &[u8],
+    n: usize,
+    p: &[usize],
+) -> Result<Option<Vec<u8>>, Cause>
+    ensures { IfOk result (λ o. MatchOption o (ListsNothing text.now)
+        (λ made. IsValuedText n p.now text.now made.items)) }
+{
+    let Some(found) = places(alloc, n, p)? else {
+        return Err(Cause::Form);
+    };
+    let made = text_at_places(alloc, text, &found)?;
+    match made {
+        Some(made) => Ok(Some(made)),
+        None => Ok(None),
+    }
 }

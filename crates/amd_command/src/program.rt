@@ -7,6 +7,7 @@ use crate::answers::{
     Ordered, Texts, analysis_texts, facts_text, order_task, order_texts, two_needs,
 };
 use crate::faults::cause_of;
+use crate::listed::rows_listed;
 use crate::needs::{need_under, told};
 use crate::ordering::order_matrix;
 use crate::picture::{Drawn, MOST_ROWS, Source, write_picture};
@@ -17,9 +18,8 @@ use amd_report::tree_picture::write_tree_picture;
 use amd_request::advice::{Advice, advice_on, advice_on_words};
 use amd_request::causes::Cause;
 use amd_request::inputs::{
-    Complaint, Task, about, check_inputs, control_of, read_file, read_order, read_task,
+    Complaint, Task, about, check_inputs, control_of, read_file, read_listing, read_task,
 };
-use amd_request::order_faults::order_fault;
 use amd_request::places::{STANDARD, folder_and_name};
 use amd_request::progress::Progress;
 use amd_request::putting::put_file;
@@ -44,22 +44,37 @@ fn output_name<'a>(path: &'a str) -> &'a str {
     path
 }
 
-/// What the factor needs under the order of a file.
+/// What the factor needs under the order of a file, which lists the row at each place, or the place of each row.
 fn other_need<R: Files + Input + Clock + Eprint + AllocGlobal>(
     rt: &R,
     progress: &Progress,
     matrix: &Matrix<Global>,
     path: &str,
+    inverse: bool,
 ) -> Result<Needs, Cause> {
-    let rows = read_order(rt, progress, matrix.n, path)?;
+    let listing = read_listing(rt, progress, matrix.n, path)?;
+    let are_places = inverse || listing.paired;
+    let rows = rows_listed(rt.alloc(), matrix.n, listing.numbers, are_places)?;
     match need_under(rt.alloc(), matrix, &rows) {
         Ok(need) => Ok(told(&need)),
-        Err(Fault::NotPermutation) => match order_fault(rt.alloc(), matrix.n, &rows)? {
-            Some(fault) => Err(Cause::Order(fault)),
-            None => Err(Cause::Form),
-        },
         Err(fault) => Err(cause_of(fault)),
     }
+}
+
+/// What the factor needs under the order of the file that the words name, if they name one.
+fn named_need<'a, R: Files + Input + Clock + Eprint + AllocGlobal>(
+    rt: &R,
+    progress: &Progress,
+    options: &Options<'a>,
+    matrix: &Matrix<Global>,
+) -> Result<Option<Needs>, Complaint<'a>> {
+    let (path, inverse) = match (options.with, options.with_inverse) {
+        (Some(path), _) => (path, false),
+        (None, Some(path)) => (path, true),
+        (None, None) => return Ok(None),
+    };
+    let need = other_need(rt, progress, matrix, path, inverse);
+    Ok(Some(about(path, need)?))
 }
 
 /// What the factor needs under each order, where that is asked for.
@@ -74,10 +89,7 @@ fn compare_orders<'a, R: Files + Input + Clock + Eprint + AllocGlobal>(
     if !options.compare {
         return Ok(None);
     }
-    let other = match options.with {
-        Some(path) => Some(about(path, other_need(rt, progress, matrix, path))?),
-        None => None,
-    };
+    let other = named_need(rt, progress, options, matrix)?;
     let (stands, ordered) = about(options.file, two_needs(rt.alloc(), matrix, p))?;
     Ok(Some(Comparison {
         rows: info.n,
@@ -227,7 +239,8 @@ fn order_file<'a, R: Runtime + AllocGlobal>(
     let (p, info) = about(options.file, order_task(rt.alloc(), &task))?;
     let compared = compare_orders(rt, &task.progress, options, &task.matrix, &p, &info)?;
     let ordered = Ordered { p, info, compared };
-    let texts = order_texts(rt.alloc(), options, &task.matrix, &ordered);
+    let given = task.text.as_deref();
+    let texts = order_texts(rt.alloc(), options, &task.matrix, given, &ordered);
     let texts = about(options.file, texts)?;
     put_texts(rt, options, &texts)?;
     let told = tell_figures(rt, options.quiet, texts.figures);

@@ -10,22 +10,17 @@ use Rattle.amd_lines.proofs.LineLemmas.{end-append}
 use Rattle.amd_lines.specs.Lines.{TakesLines, TakesTelling, TakesNotes, telling, rest_of, percent}
 use Rattle.amd_lines.proofs.LineLemmas.{takes-append, takes-none, telling-both}
 use Rattle.amd_lines.specs.declared.lines.LineReader.{LineReader}
-use Rattle.amd_request.specs.Held.{SpellsRow, SpellsRows, AreMarks, MarksRows}
+use Rattle.std.specs.List.{AllZip}
+use Rattle.amd_request.specs.Held.{SpellsRow, AreMarks, MarksRows}
+use Rattle.amd_request.proofs.ListedLines.{each-more}
 
 -- lines were read whose telling ones are rows, and exactly these are marked
 pub record HeldSoFar {R Z : Type 0} (remaining : R → Option (List ℕ)) (old new : LineReader R Z) (n : ℕ) (marks : List Bool) : Type 0 where
   pub lines : List (List ℕ)
   pub takes : TakesLines remaining old new lines
   pub rows : List ℕ
-  pub spells : SpellsRows n (telling percent lines) rows
+  pub spells : AllZip (SpellsRow n) (telling percent lines) rows
   pub marked : AreMarks n rows marks
-
-pub spells-more : (n : ℕ) (ls : List (List ℕ)) (rs : List ℕ) (l : List ℕ) (r : ℕ) → SpellsRows n ls rs → SpellsRow n l r →
-    SpellsRows n (ls ++ l ∷ []) (rs ++ r ∷ [])
-spells-more n [] [] l r h one = (one, tt)
-spells-more n [] (s ∷ rs) l r h one = absurd h
-spells-more n (k ∷ ls) [] l r h one = absurd h
-spells-more n (k ∷ ls) (s ∷ rs) l r h one = (h.0, spells-more n ls rs l r h.1 one)
 
 none-held : (n v : ℕ) → slice_index_or (replicate n false) v false ≡ true → Contains {X = ℕ} [] v
 none-held n v h = at (cases_lt v n)
@@ -89,9 +84,9 @@ held-next remaining a b c n marks line row h t one = record {
   lines = h.lines ++ t.lines;
   takes = takes-append remaining a b c h.lines t.lines h.takes t.takes;
   rows = h.rows ++ row ∷ [];
-  spells = subst (λ ls. SpellsRows n ls (h.rows ++ row ∷ []))
+  spells = subst (λ ls. AllZip (SpellsRow n) ls (h.rows ++ row ∷ []))
       (sym (telling-both percent h.lines t.lines (telling percent h.lines) (line ∷ []) refl t.tells))
-      (spells-more n (telling percent h.lines) h.rows line row h.spells one);
+      (each-more (SpellsRow n) (telling percent h.lines) h.rows line row h.spells one);
   marked = record {
     size = length-set marks row true ∙ h.marked.size;
     each = λ v. one-marked h.rows marks row v (let l = one.index.0 in let s = h.marked.size in omega (arith, l, s)) (h.marked.each v);
@@ -111,7 +106,7 @@ held-whole remaining a b c input n marks same h end =
       lines = h.lines ++ end.lines;
       all = k;
       rows = h.rows;
-      spells = subst (λ ls. SpellsRows n ls h.rows)
+      spells = subst (λ ls. AllZip (SpellsRow n) ls h.rows)
           (sym (telling-both percent h.lines end.lines (telling percent h.lines)
           [] refl end.tells ∙ append-nil (telling percent h.lines))) h.spells;
       marked = h.marked;

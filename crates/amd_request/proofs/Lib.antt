@@ -1,3 +1,5 @@
 pub mod HeldLemmas
-pub mod RowFaults
-pub mod ListedRows
+pub mod LineFaults
+pub mod ListedLines
+pub mod ToldNumbers
+pub mod PlacedLines

@@ -43,6 +43,7 @@ pub record AreOptionsOf (m : ArgMatches) (o : Options) : Type 0 where
   pub progress : IsFlag m (codes "progress") o.progress
   pub compare : AsksComparison m o.compare
   pub with_order : IsText m (codes "with") o.with
+  pub with_inverse : IsText m (codes "with-inverse") o.with_inverse
   pub inverse : IsFlag m (codes "inverse") o.inverse
   pub zero_based : IsFlag m (codes "zero-based") o.zero_based
   pub quiet : IsFlag m (codes "quiet") o.quiet

@@ -4,6 +4,7 @@
 ghost use Rattle.amd_request.specs.Causes.{exit_status};
 ghost use Rattle.std.specs.Prelude.{◌≡◌};
 
+use crate::list_faults::ListFault;
 use crate::order_faults::OrderFault;
 use amd_market::faults::{ReadError, ReadFault};
 use amd_types::amd::Status;
@@ -35,9 +36,12 @@ pub enum Cause {
     /// The pattern is no column form.
     #[error("no column form")]
     Form,
-    /// A list of rows is no order of them.
+    /// A list of rows, or of places, is no order of them.
     #[error("no order of the rows: {0}")]
     Order(OrderFault),
+    /// A list of numbers tells no order.
+    #[error("{0}")]
+    List(ListFault),
     /// A file asks for much more memory than its entries justify.
     #[error("tells of {rows} rows, which take {gibibytes} GiB or more, in fewer bytes: give --yes to go on")]
     Large {
@@ -65,7 +69,8 @@ impl Cause {
     {
         match self {
             Cause::Dense | Cause::Open(_) | Cause::Folder | Cause::Twice => 2,
-            Cause::StandardInput | Cause::Form | Cause::Order(_) | Cause::Large { .. } => 2,
+            Cause::StandardInput | Cause::Form | Cause::Order(_) | Cause::List(_) => 2,
+            Cause::Large { .. } => 2,
             Cause::Text(ReadError::Line { fault, .. }) => {
                 if matches!(fault, ReadFault::OutOfMemory) {
                     1
@@ -100,7 +105,7 @@ impl Cause {
             Cause::Dense | Cause::Twice | Cause::StandardInput | Cause::Text(_) => {
                 Cause::Picture(io::Error::from(io::ErrorKind::InvalidInput))
             }
-            Cause::Form | Cause::Order(_) | Cause::Large { .. } => {
+            Cause::Form | Cause::Order(_) | Cause::List(_) | Cause::Large { .. } => {
                 Cause::Picture(io::Error::from(io::ErrorKind::InvalidInput))
             }
         }

@@ -2,22 +2,26 @@
 // them. Called by `program` of the crate `amd_command`. That a task has the control of the words is told by a contract;
 // files and messages are tested alone: no contract can speak of them.
 
-ghost use Rattle.std.specs.Prelude.{◌≡◌, Ok, IfOk, is_some};
+ghost use Rattle.std.specs.Prelude.{◌≡◌, Ok, IfOk, IfSome, is_some};
+ghost use Rattle.amd_market.specs.Files.{SpellsFile};
 ghost use Rattle.amd_request.specs.Requests.{IsControlOf};
 
 use crate::causes::Cause;
 use crate::held::read_held;
-use crate::listed::read_rows;
+use crate::listed::{Listed, read_listed};
+use crate::listing::{Listing, listing_of};
 use crate::places::{STANDARD, are_one_output, check_place, input_path, is_input};
 use crate::progress::Progress;
 use crate::request::Options;
 use crate::sizes::{gibibytes_for, rows_without_bytes};
 use crate::watched::Watched;
+use amd_market::faults::ReadError;
 use amd_market::reader::{Matrix, read_matrix};
 use amd_types::amd::Control;
 use std::alloc::Global;
 use std::fs;
 use std::fs::OpenFile;
+use std::io::{ErrorKind, Read};
 use std::rt::{Clock, Files};
 use thiserror::Error;
 
@@ -36,6 +40,8 @@ pub struct Task {
     pub control: Control,
     /// The matrix.
     pub matrix: Matrix<Global>,
+    /// Its text, where the permuted matrix is asked for.
+    pub text: Option<Vec<u8>>,
     /// The rows to hold last, where there is a file of them.
     pub hold: Option<Vec<bool>>,
 }
@@ -113,6 +119,55 @@ pub fn read_file<R: Files + Input + Clock + Eprint + AllocGlobal>(
     read_matrix(rt.alloc(), Watched::new(rt, input, size)).map_err(Cause::Text)
 }
 
+/// All bytes of an input.
+fn bytes_of<I: Read + Drop>(alloc: Global, mut input: I) -> Result<Vec<u8>, Cause>
+    ensures { IfOk result (λ text. IfSome (I.remaining input) (λ bytes. text.items ≡ bytes)) }
+{
+    let mut text = Vec::new(alloc);
+    match input.read_to_end(&mut text) {
+        Ok(_) => Ok(text),
+        Err(error) if error.kind() == ErrorKind::OutOfMemory => Err(Cause::Memory),
+        Err(error) => Err(Cause::Text(ReadError::Input { line: 0, error })),
+    }
+}
+
+/// Reads the text of a file, or of standard input for `-`.
+fn read_text<R: Files + Input + Clock + Eprint + AllocGlobal>(
+    rt: &R,
+    progress: &Progress,
+    path: &str,
+) -> Result<Vec<u8>, Cause> {
+    if path == STANDARD {
+        return bytes_of(rt.alloc(), rt.reader());
+    }
+    let input = open_file(rt, progress, path)?;
+    if !progress.percent {
+        return bytes_of(rt.alloc(), input);
+    }
+    let size = input.metadata().map_err(Cause::Open)?.len();
+    bytes_of(rt.alloc(), Watched::new(rt, input, size))
+}
+
+/// Reads the matrix of a file, or of standard input for `-`, and its text, where the permuted matrix is asked for.
+fn read_kept<R: Files + Input + Clock + Eprint + AllocGlobal>(
+    rt: &R,
+    progress: &Progress,
+    options: &Options<'_>,
+) -> Result<(Matrix<Global>, Option<Vec<u8>>), Cause>
+    ensures text { IfOk result (λ r. IfSome r.1 (λ text.
+        SpellsFile text.items r.0.n r.0.a_p.items r.0.a_i.items r.0.repeats)) }
+    ensures kept { IfOk result (λ r. is_some r.1 ≡ is_some options.now.permuted) }
+{
+    if options.permuted.is_none() {
+        return Ok((read_file(rt, progress, options.file)?, None));
+    }
+    let text = read_text(rt, progress, options.file)?;
+    match read_matrix(rt.alloc(), text.as_slice()) {
+        Ok(matrix) => Ok((matrix, Some(text))),
+        Err(error) => Err(Cause::Text(error)),
+    }
+}
+
 /// Reads the rows to hold last, from a file or, for `-`, from standard input.
 fn read_marks<R: Files + Input + Clock + Eprint + AllocGlobal>(
     rt: &R,
@@ -127,18 +182,29 @@ fn read_marks<R: Files + Input + Clock + Eprint + AllocGlobal>(
     read_held(rt.alloc(), n, input).map_err(Cause::Text)
 }
 
-/// Reads the rows that a file lists, or standard input for `-`.
-pub fn read_order<R: Files + Input + Clock + Eprint + AllocGlobal>(
+/// Reads the lines of a list, from a file or, for `-`, from standard input.
+fn read_lines<R: Files + Input + Clock + Eprint + AllocGlobal>(
     rt: &R,
     progress: &Progress,
     n: usize,
     path: &str,
-) -> Result<Vec<usize>, Cause> {
+) -> Result<Vec<Listed>, Cause> {
     if path == STANDARD {
-        return read_rows(rt.alloc(), n, rt.reader()).map_err(Cause::Text);
+        return read_listed(rt.alloc(), n, rt.reader()).map_err(Cause::Text);
     }
     let input = open_file(rt, progress, path)?;
-    read_rows(rt.alloc(), n, input).map_err(Cause::Text)
+    read_listed(rt.alloc(), n, input).map_err(Cause::Text)
+}
+
+/// Reads the numbers that a file lists, or standard input for `-`: the rows of an order, or their places.
+pub fn read_listing<R: Files + Input + Clock + Eprint + AllocGlobal>(
+    rt: &R,
+    progress: &Progress,
+    n: usize,
+    path: &str,
+) -> Result<Listing<Global>, Cause> {
+    let listed = read_lines(rt, progress, n, path)?;
+    listing_of(rt.alloc(), n, &listed)
 }
 
 /// Says that a matrix is ordered, where it is large.
@@ -172,8 +238,13 @@ fn read_hold<'a, R: Files + Input + Clock + Eprint + AllocGlobal>(
 }
 
 /// The files that a run reads.
-fn inputs_of<'a>(options: &Options<'a>) -> [Option<&'a str>; 3] {
-    [Some(options.file), options.hold, options.with]
+fn inputs_of<'a>(options: &Options<'a>) -> [Option<&'a str>; 4] {
+    [
+        Some(options.file),
+        options.hold,
+        options.with,
+        options.with_inverse,
+    ]
 }
 
 /// The files that a run writes. What has no file of its own goes to standard output.
@@ -280,18 +351,22 @@ pub fn read_task<'a, R: Files + Input + Clock + Eprint + AllocGlobal>(
 ) -> Result<Task, Complaint<'a>>
     ensures control { IfOk result (λ task. IsControlOf options.now task.control) }
     ensures hold { IfOk result (λ task. is_some task.hold ≡ is_some options.now.hold) }
+    ensures text { IfOk result (λ task. IfSome task.text (λ text. SpellsFile text.items task.matrix.n
+        task.matrix.a_p.items task.matrix.a_i.items task.matrix.repeats)) }
+    ensures kept { IfOk result (λ task. is_some task.text ≡ is_some options.now.permuted) }
 {
     let control = control_of(options)?;
     check_inputs(rt, options)?;
     check_outputs(rt, options)?;
     let progress = Progress::begin(rt, options.progress, options.quiet);
-    let matrix = about(options.file, read_file(rt, &progress, options.file))?;
+    let (matrix, text) = about(options.file, read_kept(rt, &progress, options))?;
     let hold = read_hold(rt, &progress, options, matrix.n)?;
     tell_ordering(rt, &progress, &matrix);
     Ok(Task {
         progress,
         control,
         matrix,
+        text,
         hold,
     })
 }

@@ -1,5 +1,5 @@
 //! What the command `rimopaku` is asked for, and the files that it reads and writes: the words of the command line, the
-//! rows that a text lists, the files of a run, and why a run ends early.
+//! rows or places that a text lists, the files of a run, and why a run ends early.
 //!
 //! What is read from a text, and what the options that were found choose, is told by contracts. What is tested alone:
 //! which options there are (`request`), the files (`inputs`, `places`, `putting`), what is told meanwhile (`progress`)
@@ -10,7 +10,9 @@ pub mod advice;
 pub mod causes;
 pub mod held;
 pub mod inputs;
+pub mod list_faults;
 pub mod listed;
+pub mod listing;
 pub mod numbers;
 pub mod order_faults;
 pub mod places;
@@ -19,4 +21,5 @@ pub mod putting;
 pub mod request;
 pub mod sizes;
 pub mod unreadable;
+pub mod valued;
 pub mod watched;

@@ -1,13 +1,13 @@
-// What is wrong with rows that are no order of all rows. Called by `program`.
+// What is wrong with rows, or with places, that are no order of all of them. Called by `program`.
 
-ghost use Rattle.std.specs.Prelude.{◌≡◌, ◌≢◌, ◌<◌, ℕ, false, true, length, slice_index};
+ghost use Rattle.std.specs.Prelude.{◌≡◌, ◌≢◌, ◌<◌, ℕ, List, false, true, length, slice_index};
 ghost use Rattle.std.specs.Prelude.{slice_index_or, IfOk, IfSome, MatchOption};
 ghost use Rattle.amd_request.specs.Orders.{AreSeen, IsBadPlace, IsOrderFault};
 
 use std::alloc::{AllocError, Allocator};
 use thiserror::Error;
 
-/// What is wrong with rows that are no order of all rows; it names a row by its number, from 1 on.
+/// What is wrong with rows, or places, that are no order of all of them; it names one by its number, from 1 on.
 #[derive(Clone, Copy, Debug, Drop, Error)]
 pub enum OrderFault {
     /// This row stands there more than once.
@@ -16,6 +16,25 @@ pub enum OrderFault {
     /// This row does not stand there.
     #[error("row {0} does not stand there")]
     Missing(u128),
+    /// This place stands there more than once.
+    #[error("place {0} stands there more than once")]
+    TwicePlace(u128),
+    /// This place does not stand there.
+    #[error("place {0} does not stand there")]
+    MissingPlace(u128),
+}
+
+impl OrderFault {
+    /// The same fault of places, where it is one of rows.
+    pub fn of_places(self) -> OrderFault
+        ensures { (n : ℕ) → (rows : List ℕ) → IsOrderFault n rows self → IsOrderFault n rows result }
+    {
+        match self {
+            OrderFault::Twice(number) => OrderFault::TwicePlace(number),
+            OrderFault::Missing(number) => OrderFault::MissingPlace(number),
+            OrderFault::TwicePlace(_) | OrderFault::MissingPlace(_) => self,
+        }
+    }
 }
 
 /// The first place of a row that stands before it too, or that has no mark. The rows before that place are marked.

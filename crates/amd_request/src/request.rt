@@ -36,6 +36,8 @@ pub struct Options<'a> {
     pub compare: bool,
     /// The file with another order.
     pub with: Option<&'a str>,
+    /// The file with the places of the rows in another order.
+    pub with_inverse: Option<&'a str>,
     /// Whether the place of each row is written, and not the row at each place.
     pub inverse: bool,
     /// Whether the rows that are written count from 0.
@@ -156,7 +158,7 @@ static WRITING: [Choice; 5] = [
     Choice {
         name: "permuted",
         has_path: true,
-        help: "Write the matrix in the new order to PATH, as a pattern",
+        help: "Write the matrix in the new order to PATH, with its values",
     },
     Choice {
         name: "tree",
@@ -200,9 +202,20 @@ fn with_argument<'a>(alloc: Global, beside: &'a str) -> Result<Arg<'a>, AllocErr
     path_argument(
         alloc,
         "with",
-        "Count it in the order that PATH lists too, one row a line, from 1; - is standard input",
+        "Count it in the order that PATH lists too, one row a line, from 0 or 1; - is standard input",
     )
     .requires_all(&[beside])
+}
+
+/// An option with the places of the rows in another order, in the stead of the rows.
+fn with_inverse_argument<'a>(alloc: Global, beside: &'a str) -> Result<Arg<'a>, AllocError> {
+    path_argument(
+        alloc,
+        "with-inverse",
+        "Count it in the order of PATH too, which lists the place of each row, as METIS does",
+    )
+    .requires_all(&[beside])?
+    .conflicts_with("with")
 }
 
 /// The option of the panel before, beside the picture that has it.
@@ -260,7 +273,9 @@ fn comparing_command<'a>(
 ) -> Result<Command<'a>, AllocError> {
     let help = "Count what the factor needs as the rows stand, and as they are ordered";
     let with = with_argument(alloc, name)?;
-    command.arg(flag_argument(alloc, name, help))?.arg(with)
+    let with_inverse = with_inverse_argument(alloc, name)?;
+    let flag = flag_argument(alloc, name, help);
+    command.arg(flag)?.arg(with)?.arg(with_inverse)
 }
 
 /// The subcommand `order`.
@@ -359,6 +374,7 @@ fn options_of<'a>(matches: &ArgMatches<'a>) -> Options<'a>
         progress: flag_of(matches, "progress"),
         compare: asks_comparison(matches),
         with: matches.get_str("with"),
+        with_inverse: matches.get_str("with-inverse"),
         inverse: flag_of(matches, "inverse"),
         zero_based: flag_of(matches, "zero-based"),
         quiet: flag_of(matches, "quiet"),

@@ -2,19 +2,21 @@
 //! matrix is.
 //!
 //!     rimopaku order FILE.mtx [--dense T] [--no-aggressive] [--hold PATH] [--out PATH] [--json] [--progress] [--quiet] [--yes]
-//!         [--inverse] [--zero-based] [--compare [--with PATH]] [--factor PATH] [--permuted PATH] [--tree PATH]
-//!         [--picture PATH [--symmetric]] [--tree-picture PATH]
+//!         [--inverse] [--zero-based] [--compare [--with PATH | --with-inverse PATH]] [--factor PATH] [--permuted PATH]
+//!         [--tree PATH] [--picture PATH [--symmetric]] [--tree-picture PATH]
 //!     rimopaku analyze FILE.mtx [--dense T] [--no-aggressive] [--hold PATH] [--out PATH] [--json] [--progress]
 //!         [--quiet] [--yes]
-//!     rimopaku info FILE.mtx [--dense T] [--json] [--progress] [--quiet] [--yes] [--exact [--with PATH]]
+//!     rimopaku info FILE.mtx [--dense T] [--json] [--progress] [--quiet] [--yes]
+//!         [--exact [--with PATH | --with-inverse PATH]]
 //!
 //! `-` in place of a file is standard input, or standard output. `order` writes the permutation, the number of a row a
 //! line. `analyze` writes a line for each column of the factor, in the order of the elimination: three numbers with a
-//! space between them, which are the row of the column, the row of its parent in the elimination tree, or 0 where it has
-//! none, and how many entries the column has below the diagonal. Rows count from 1. Figures and messages go to standard
-//! error; with `--json` the figures stand in one object beside the permutation. `--compare` and `--exact` count what the
-//! factor needs as the rows stand, as they are ordered, and in the order that the file of `--with` lists. Each place of
-//! an output is checked before the work; one that is also an input, or another output, is refused.
+//! space between them, which are the row of the column, the row of its parent in the elimination tree, or 0 where it
+//! has none, and how many entries the column has below the diagonal. Rows count from 1. Figures and messages go to
+//! standard error; with `--json` the figures stand in one object beside the permutation. `--compare` and `--exact`
+//! count what the factor needs as the rows stand, as they are ordered, and in the order that the file of `--with`
+//! lists, or that of `--with-inverse` by places. Each place of an output is checked before the work; one that is also
+//! an input, or another output, is refused.
 //!
 //! The exit status is 0 where all was done, 1 where memory was refused or an output failed, 2 where an argument or an
 //! input is wrong, and 3 where a picture could not be drawn or written, but all else is. With a status of 2, and

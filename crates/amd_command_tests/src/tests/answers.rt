@@ -14,7 +14,6 @@ use amd_report::json::{write_facts_json, write_order_json};
 use amd_report::pattern::write_matrix;
 use amd_report::tree::{write_supernodes, write_tree};
 use amd_report::tree_picture::write_tree_picture;
-use amd_request::listed::read_rows;
 use amd_symbolic::{Fault, counts, supernodes};
 use amd_testing::check;
 use serde_json::Value;
@@ -111,9 +110,6 @@ fn three_needs(alloc: Global, matrix: &Matrix<Global>) -> Result<Comparison, Fau
 fn needs_under_orders(rt: HostRuntime) -> Result<(), Fail> {
     let alloc = rt.alloc();
     let matrix = path(alloc)?;
-    let rows = read_rows(alloc, 3, "3\n% a note\n1\n2\n".as_bytes())?;
-    check!(&rt; rows.as_slice() == [2, 0, 1].as_slice());
-    check!(&rt; read_rows(alloc, 3, "0\n".as_bytes()).is_err());
     let Ok(compared) = three_needs(alloc, &matrix) else {
         panic!(&rt; "no needs");
     };

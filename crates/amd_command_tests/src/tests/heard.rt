@@ -190,6 +190,52 @@ fn forms_of_an_order(rt: HostRuntime) -> Result<(), Fail> {
     Ok(())
 }
 
+/// The lines of numbers, with those of vertices from 1 on before them and a line with their count first, or without.
+fn lines_of(rt: &HostRuntime, numbers: &str, paired: bool) -> Result<String, Fail> {
+    let mut lines = if paired {
+        String::from_str(rt.alloc(), "20\n")?
+    } else {
+        String::new(rt.alloc())
+    };
+    for (k, number) in numbers.split(' ').enumerate() {
+        let vertex = k as u128 + 1;
+        let line = if paired {
+            format!(in rt.alloc(); "{vertex}\t{number}\n")?
+        } else {
+            format!(in rt.alloc(); "{number}\n")?
+        };
+        lines.push_str(&line)?;
+    }
+    Ok(lines)
+}
+
+/// The option, the numbers of its file, and whether their vertices stand there too.
+static FORMS: [(&str, &str, bool); 4] = [
+    ("--with", ROWS, false),
+    ("--with-inverse", PLACES, false),
+    ("--with", PLACES, true),
+    ("--with-inverse", PLACES, true),
+];
+
+/// The first of the orders, read from 0 on, by its places, and as the vertices and their places: it has its own needs.
+#[test]
+fn orders_in_each_form(rt: HostRuntime) -> Result<(), Fail> {
+    let folder = make_folder(&rt)?;
+    let with = within(&rt, folder.as_str(), "form")?;
+    for (option, numbers, paired) in &FORMS {
+        fs::write(
+            &rt,
+            with.as_str(),
+            lines_of(&rt, numbers, *paired)?.as_str(),
+        )?;
+        let words = ["order", "-", "--compare", option, with.as_str()];
+        let end = run_at_desk(&rt, &words, TWENTY, 0, Broken::Neither)?;
+        check!(&rt; end.status == 0 && end.told.contains("89 as it stands, 55 ordered, 55 by --with\n"));
+    }
+    fs::remove_dir_all(&rt, folder.as_str())?;
+    Ok(())
+}
+
 /// Each need stands in its place, and the fill is over the edges.
 #[test]
 fn needs_of_three_orders(rt: HostRuntime) -> Result<(), Fail> {

@@ -118,7 +118,7 @@ pub fn run_at_desk(
 type Refused = (&'static [&'static str], &'static str, u8, &'static str);
 
 /// Words and files at fault: status 2. Outputs that cannot be opened: status 1.
-static REFUSED: [Refused; 34] = [
+static REFUSED: [Refused; 36] = [
     (&[], "", 2, "Usage: rimopaku"),
     (&["sort", "-"], PATH, 2, "sort"),
     (&["order"], PATH, 2, "FILE"),
@@ -261,6 +261,26 @@ static REFUSED: [Refused; 34] = [
         "rimopaku: /dev/null: no order of the rows: row 1 does not stand there\n",
     ),
     (
+        &["info", "-", "--exact", "--with-inverse", "/dev/null"],
+        PATH,
+        2,
+        "rimopaku: /dev/null: no order of the rows: place 1 does not stand there\n",
+    ),
+    (
+        &[
+            "order",
+            "-",
+            "--compare",
+            "--with",
+            "/dev/null",
+            "--with-inverse",
+            "/dev/null",
+        ],
+        PATH,
+        2,
+        "cannot be used with",
+    ),
+    (
         &["order", "-", "--dense", ".2147484"],
         PATH,
         2,
@@ -323,7 +343,7 @@ fn runs_that_are_refused(rt: HostRuntime) -> Result<(), Fail> {
 }
 
 /// Words of runs that do what is asked for, and what they show.
-static ANSWERED: [(&[&str], &str); 10] = [
+static ANSWERED: [(&[&str], &str); 11] = [
     (&["info", "-"], PATH_FACTS),
     (&["order", "-", "--out", "/dev/null"], ""),
     (
@@ -351,6 +371,10 @@ static ANSWERED: [(&[&str], &str); 10] = [
     (&["analyze", "-", "--json"], PATH_FACTOR_JSON),
     (&["order", "-", "--inverse"], "2\n1\n3\n"),
     (&["order", "-", "--zero-based"], "1\n0\n2\n"),
+    (
+        &["order", "-", "--out", "/dev/null", "--permuted", "-"],
+        "%%MatrixMarket matrix coordinate pattern symmetric\n3 3 3\n2 2\n3 2\n3 1\n",
+    ),
     (
         &["order", "-", "--out", "/dev/null", "--factor", "-"],
         "%%MatrixMarket matrix coordinate pattern general\n3 3 2\n3 1\n3 2\n",

@@ -3,6 +3,9 @@
 
 use amd_market::reader::read_matrix;
 use amd_request::held::read_held;
+use amd_request::listed::read_listed;
+use amd_request::listing::listing_of;
+use amd_request::valued::text_at_places;
 use amd_testing::check;
 use std::alloc::{AllocError, Global};
 use std::process::Abort;
@@ -633,5 +636,114 @@ fn rows_to_hold(rt: HostRuntime) -> Result<(), Fail> {
         let shown = marks_told(rt.alloc(), text)?;
         check!(&rt; shown.as_str() == *wanted, text);
     }
+    Ok(())
+}
+
+/// The numbers of a list of three, or what is wrong with it, as text.
+fn told_of_list(alloc: Global, text: &str) -> Result<String, Fail> {
+    let listed = match read_listed(alloc, 3, text.as_bytes()) {
+        Ok(listed) => listed,
+        Err(error) => return Ok(format!(in alloc; "{error}")?),
+    };
+    match listing_of(alloc, 3, &listed) {
+        Ok(listing) => {
+            let numbers = listing.numbers.as_slice();
+            let paired = listing.paired;
+            Ok(format!(in alloc; "{numbers:?} {paired}")?)
+        }
+        Err(cause) => Ok(format!(in alloc; "{cause}")?),
+    }
+}
+
+/// Lists: rows or places alone, from 1 and from 0, vertices with their places; and lists at fault.
+static LISTS: [(&str, &str); 13] = [
+    ("3\n% a note\n1\n2\n", "[2, 0, 1] false"),
+    ("2\n0\n\n1", "[2, 0, 1] false"),
+    ("3\n0 2\n1 0\n2\t1\n", "[2, 0, 1] true"),
+    ("3\n1 3\n2 1\n% a note\n3 2\n", "[2, 0, 1] true"),
+    ("", "[] false"),
+    (
+        "0\n% a note\n3\n1\n",
+        "line 3: 3 is out of range: the list counts from 0",
+    ),
+    (
+        "3\n1 0\n2 1\n3 2\n",
+        "line 2: 0 is out of range: the list counts from 1",
+    ),
+    (
+        "3\n2 1\n1 3\n3 2\n",
+        "line 2: here must stand vertex 1 and its place",
+    ),
+    (
+        "2\n1 3\n2 1\n3 2\n",
+        "line 1: here must stand how many vertices follow: 3",
+    ),
+    (
+        "3\n1\n2 1\n",
+        "line 3: here must stand one number, as in the lines before",
+    ),
+    ("4\n", "line 1: the row is out of range: 4, of rows 1 to 3"),
+    (
+        "1\n1 two\n",
+        "line 2: here must stand the number of a row, alone, found: 1 two",
+    ),
+    (
+        "1 2 3\n",
+        "line 1: here must stand the number of a row, alone, found: 1 2 3",
+    ),
+];
+
+#[test]
+fn lists_of_numbers(rt: HostRuntime) -> Result<(), Fail> {
+    for (text, wanted) in &LISTS {
+        let shown = told_of_list(rt.alloc(), text)?;
+        assert!(&rt; shown.as_str() == *wanted, "{text}: {shown}");
+    }
+    Ok(())
+}
+
+/// Rows 2, 3 and 1 stand at the places 1, 2 and 3.
+const PLACES: [usize; 3] = [2, 0, 1];
+
+/// Kinds of files, what stands behind the header, and what stands there at these places.
+static PLACED: [(&str, &str, &str); 5] = [
+    (
+        "real general",
+        "% a note\n3 3 3\n1 1 0.50\n\n 3\t1 +2e3\n2 3 7",
+        "3 3 3\n3 3 0.50\n2 3 +2e3\n1 2 7\n",
+    ),
+    (
+        "pattern symmetric",
+        "3 3 2\n2 1\n3 2\n",
+        "3 3 2\n3 1\n2 1\n",
+    ),
+    (
+        "integer skew-symmetric",
+        "3 3 4\n2 1 15\n3 2 -2\n1 2 -4\n2 1 +8\n",
+        "3 3 4\n3 1 -15\n2 1 -2\n3 1 -4\n3 1 -8\n",
+    ),
+    (
+        "complex hermitian",
+        "3 3 3\n1 1 4 0\n2 1 1 -2\n3 2 0.5 +0.25\n",
+        "3 3 3\n3 3 4 0\n3 1 1 2\n2 1 0.5 +0.25\n",
+    ),
+    ("complex general", "3 3 0", "3 3 0\n"),
+];
+
+#[test]
+fn texts_at_other_places(rt: HostRuntime) -> Result<(), Fail> {
+    let alloc = rt.alloc();
+    for (kind, rest, wanted) in &PLACED {
+        let file = file_of(alloc, kind, rest)?;
+        let wanted = file_of(alloc, kind, wanted)?;
+        match text_at_places(alloc, file.as_bytes(), &PLACES) {
+            Ok(Some(text)) => check!(&rt; text.as_slice() == wanted.as_bytes(), kind),
+            _ => panic!(&rt; "no text"),
+        }
+    }
+    let array = "%%MatrixMarket matrix array real general\n1 1\n1\n";
+    check!(&rt; matches!(text_at_places(alloc, array.as_bytes(), &[0]), Ok(None)));
+    let short = file_of(alloc, "pattern general", "3 3 1\n1 4\n")?;
+    check!(&rt; text_at_places(alloc, short.as_bytes(), &PLACES).is_err());
     Ok(())
 }
