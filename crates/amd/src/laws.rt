@@ -1,5 +1,5 @@
-// Laws on the contracts of `order` and `order_holding`, and on the bytes of a workspace, each the contract of a function
-// with an empty body. Called by: nobody.
+// Laws on the contracts of `order` and `order_holding`, and on the bytes of a workspace, each the contract of a
+// function with an empty body.
 
 ghost use Rattle.std.specs.Prelude.{◌≡◌, ◌<◌, ◌≤◌, ℕ, ℤ, Bool, true, false, Option, Some, List, unsigned_abs};
 ghost use Rattle.std.specs.Prelude.{slice_index_or};

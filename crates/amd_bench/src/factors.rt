@@ -1,5 +1,5 @@
 // Times the exact factor of a matrix: `columns` under an order that was made before, or `analyze`, which makes the
-// order too. Called by `main`.
+// order too.
 
 use amd::{Control, order};
 use amd_cases::matrix::BinaryMatrix;

@@ -1,4 +1,4 @@
-// Tells the memory that a call of `order` takes beside its input, by an allocator that counts. Called by `main`.
+// Tells the memory that a call of `order` takes beside its input, by an allocator that counts.
 
 use amd::{Control, Info, Status, order};
 use amd_cases::matrix::BinaryMatrix;

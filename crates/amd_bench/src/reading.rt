@@ -1,5 +1,5 @@
 // Reads the matrix of a file: a text in the coordinate format of the Matrix Market where the name ends in `.mtx`, and
-// else the binary form of `amd_cases`. Called by `main`.
+// else the binary form of `amd_cases`.
 
 ghost use Rattle.std.specs.Prelude.{IfOk};
 

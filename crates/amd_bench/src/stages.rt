@@ -1,7 +1,6 @@
 // Times the stages of a call of `order`, each from one reading of the clock to the next: `valid`, `preprocess` where
 // the columns are jumbled, `aat`, the laying of the workspace (`lay`), the other lists of the elimination (`lists`),
-// its rounds (`rounds`), and the listing of what they left (`listing`). Words are as wide as those of `order`. Called
-// by `main`.
+// its rounds (`rounds`), and the listing of what they left (`listing`). Words are as wide as those of `order`.
 
 ghost use Rattle.std.specs.Prelude.{◌≡◌, ◌≢◌, ◌<◌, ◌≤◌, ◌+◌, ◌/◌, ◌^◌, ℕ, List, pos, map, length};
 ghost use Rattle.std.specs.Option.{SomeIff};

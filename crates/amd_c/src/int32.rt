@@ -1,5 +1,5 @@
 // The exports for `int32_t`. Each is a thin call of `writing`, `factors` or the crate `amd`, and says its contract
-// again. Called by C.
+// again.
 
 ghost use Rattle.std.specs.Prelude.{◌≡◌, ◌<◌, ◌+◌, ◌^◌, ℕ, negsuc, pos, List, None, Some, length};
 ghost use Rattle.amd_model.specs.Graph.{Graph};

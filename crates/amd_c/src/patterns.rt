@@ -1,6 +1,5 @@
 // Writes the degrees of a matrix, and its row form, into a caller's arrays: the bodies of the exported functions, for
 // any integer type. The arrays and the record are written last, so they stay as they were where there is a fault.
-// Called by `int32` and `int64`.
 
 ghost use Rattle.std.specs.Prelude.{◌↔◌, IsTrue, map};
 ghost use Rattle.amd_c.specs.Patterns.{HasPointerPlaces, HasRowPlaces, IsSortedForm, LeavesDegrees, LeavesRowForm};

@@ -1,6 +1,6 @@
 // Writes the supernodes of a factor into a caller's arrays, and how much room they need into a record: the bodies of
 // the exported functions, for any integer type. The arrays and the record are written last, so they stay as they were
-// where there is a fault. Called by `int32` and `int64`.
+// where there is a fault.
 
 ghost use Rattle.std.specs.Prelude.{◌≡◌, ◌↔◌, IsTrue, map};
 ghost use Rattle.amd_symbolic.specs.Partitions.{OrderedMatrix, ordered_matrix};

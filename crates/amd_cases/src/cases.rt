@@ -1,5 +1,5 @@
-// A case, and what is known of one while its lines are read. Called by `reader`.
-// The items of a case, and what they mean where they are left out, are those of the format; see the root.
+// A case, and what is known of one while its lines are read. The items of a case, and what they mean where they are
+// left out, are those of the format; see the root.
 
 ghost use Rattle.std.specs.Prelude.{◌≡◌, ◌≢◌, ◌+◌, false, None, Some, IsSome, OnOk, IfErr, MatchResult};
 ghost use Rattle.amd_cases.specs.Items.{item_keyword};

@@ -1,5 +1,4 @@
-// The item that a line spells: a keyword, and the numbers that it takes. Called by `reader`.
-// The format is that of cases; see the root.
+// The item that a line spells: a keyword, and the numbers that it takes. The format is that of cases; see the root.
 
 ghost use Rattle.std.specs.Prelude.{◌≡◌, ◌≢◌, ◌∷◌, Bool, List, [], map, ℤ, MatchOption, MatchResult};
 ghost use Rattle.amd_lines.specs.Words.{words, SpellsNumbers};

@@ -1,5 +1,5 @@
 // A matrix file, which is binary and little endian: `n` and the number of entries as 64-bit numbers, `n + 1` pointers
-// of 64 bits, and the row of each entry in 32 bits. Called by programs that time an ordering.
+// of 64 bits, and the row of each entry in 32 bits.
 
 ghost use Rattle.std.specs.Prelude.{◌≡◌, ◌∷◌, [], length, map, pos, ◌<◌, ◌^◌, IfOk, IfSome, MatchResult, OnOk};
 ghost use Rattle.std.specs.Io.KnownBytes.{IsAtEnd};

@@ -1,6 +1,6 @@
-// A reader of cases, one after another, which holds one line and one case. Called by programs that order cases.
-// The format is that of the root; the reader of lines is that of the crate `amd_lines`. No more is read of a line that
-// is too long than the most that a line may have, and a block.
+// A reader of cases, one after another, which holds one line and one case. The format is that of the root; the reader
+// of lines is that of the crate `amd_lines`. No more is read of a line that is too long than the most that a line may
+// have, and a block.
 
 ghost use Rattle.std.specs.Prelude.{◌≡◌, ◌∷◌, [], None, true, false, IfOk, IfErr, MatchOption, is_err};
 ghost use Rattle.amd_lines.specs.Lines.{TakesNotes, lines_read, rest_of};

@@ -1,4 +1,4 @@
-// The ordering of a matrix with the counts of the exact factor under it. Called by `answers`.
+// The ordering of a matrix with the counts of the exact factor under it.
 
 ghost use Rattle.std.specs.Prelude.{ℤ, List, pos, map, IfOk, IfErr};
 ghost use Rattle.std.specs.Option.{option_copied};

@@ -1,5 +1,5 @@
-// The texts of the answers, made in memory before an output is written. Called by `program`, which says where they go.
-// What is written first of an answer is told by a contract here; which other parts it has is tested.
+// The texts of the answers, made in memory before an output is written. What is written first of an answer is told by a
+// contract here; which other parts it has is tested.
 
 ghost use Rattle.std.specs.Prelude.{◌≡◌, None, IfOk, MatchOption};
 ghost use Rattle.amd_command.specs.Answers.{AreCountsIn, AreNumbers, AreTwoNeeds, IsOrderingOf};

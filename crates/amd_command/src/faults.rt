@@ -1,4 +1,4 @@
-// Why a run ends early after a fault of the exact factor. Called by `answers`, `picture` and `program`.
+// Why a run ends early after a fault of the exact factor.
 
 use amd_request::causes::Cause;
 use amd_symbolic::Fault;

@@ -1,5 +1,4 @@
-// The order of the rows that a list of numbers tells: the row at each place, or the place of each row. Called by
-// `program`.
+// The order of the rows that a list of numbers tells: the row at each place, or the place of each row.
 
 ghost use Rattle.std.specs.Prelude.{map, pos, IfOk};
 ghost use Rattle.amd_symbolic.specs.Places.{ArePlaces};

@@ -1,4 +1,4 @@
-// The lines of an order that count from 0, and the places of the rows in it. Called by `answers`.
+// The lines of an order that count from 0, and the places of the rows in it.
 
 ghost use Rattle.std.specs.Prelude.{◌≡◌, length, map, pos, IfOk, OnOk};
 ghost use Rattle.std.specs.Io.KnownBytes.{Appends};

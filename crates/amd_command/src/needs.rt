@@ -1,5 +1,5 @@
 // What the factor of a matrix needs under an order of its rows, as they stand or another one. The columns are counted
-// and not written. Called by `program` and by `answers`.
+// and not written.
 
 ghost use Rattle.std.specs.Prelude.{◌≡◌, pos, map, IfOk, IfErr};
 ghost use Rattle.amd_symbolic.specs.Counted.{IsCountsFault};

@@ -1,4 +1,4 @@
-// The ordering of a matrix that was read. Called by `program` and by `answers`.
+// The ordering of a matrix that was read.
 
 ghost use Rattle.std.specs.Prelude.{ℤ, List, pos, map, IfOk, IfErr};
 ghost use Rattle.std.specs.Option.{option_copied};

@@ -1,5 +1,5 @@
 // The permuted matrix: row `p[k]` and column `p[k]` of the matrix stand at place `k`; as a pattern, and its text, made
-// from that of the matrix with the values, or as a pattern. Called by `answers`.
+// from that of the matrix with the values, or as a pattern.
 
 ghost use Rattle.std.specs.Prelude.{◌≡◌, ◌++◌, slice_index, IfOk, MatchOption, OnOk};
 ghost use Rattle.amd_request.specs.Valued.{ListsNothing};

@@ -1,7 +1,7 @@
-// Runs what the words of a command line ask for: opens the files, and writes what comes of them. Called by the program
-// `rimopaku`. What the functions that it calls read and write is told by their contracts; files and messages are tested
-// alone. Each text is made in memory first, so that nothing is left half written where memory is refused. The pictures
-// come last, since they may want more memory than all before them: where one fails, all else is written.
+// Runs what the words of a command line ask for: opens the files, and writes what comes of them. What the functions
+// that it calls read and write is told by their contracts; files and messages are tested alone. Each text is made in
+// memory first, so that nothing is left half written where memory is refused. The pictures come last, since they may
+// want more memory than all before them: where one fails, all else is written.
 
 use crate::answers::{
     Ordered, Texts, analysis_texts, facts_text, order_task, order_texts, two_needs,

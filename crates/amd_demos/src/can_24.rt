@@ -1,6 +1,5 @@
 // The 24-by-24 matrix can_24 of the Harwell/Boeing collection, as the demos of the AMD user guide give it: whole, and
 // in a jumbled form with repeats and with entries left out. The data are those demos' (BSD 3-clause, see LICENSE).
-// Called by the demos `order` and `jumbled`, and by tests.
 
 /// Where each column begins in `ROWS`, and then where the last one ends.
 pub static POINTERS: [i32; 25] = [

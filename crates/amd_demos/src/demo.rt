@@ -1,6 +1,5 @@
 // The demo that prints a matrix, orders it, and prints the ordering and the permuted matrix, for a matrix with sorted
-// columns, whose exact factor it prints too, and for a jumbled one. Called by the demos of the matrix can_24 and by
-// tests.
+// columns, whose exact factor it prints too, and for a jumbled one.
 
 ghost use Rattle.std.specs.Prelude.{◌≡◌, ◌≤◌, pos, true, false, IfOk, OnOk};
 ghost use Rattle.std.specs.Io.KnownBytes.{Appends};

@@ -1,5 +1,5 @@
 // The exact factor of a matrix under its ordering, beside the bounds that the ordering told. The figures are those of
-// the AMD user guide. Called by the demo that prints a matrix.
+// the AMD user guide.
 
 ghost use Rattle.std.specs.Prelude.{◌≡◌, ℕ, List, ◌++◌, codes, true, false, IfOk, OnOk};
 ghost use Rattle.std.specs.Io.KnownBytes.{Appends};

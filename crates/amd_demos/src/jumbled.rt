@@ -1,5 +1,4 @@
-// The demo that orders a jumbled form of the matrix can_24, after the third demo of the AMD user guide. Called by the
-// program `demo_jumbled` and by tests.
+// The demo that orders a jumbled form of the matrix can_24, after the third demo of the AMD user guide.
 
 ghost use Rattle.std.specs.Prelude.{◌≡◌, ◌≤◌, pos};
 ghost use Rattle.amd_demos.specs.Demos.{HasDemo};

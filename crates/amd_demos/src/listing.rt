@@ -1,4 +1,4 @@
-// The listing of a matrix, column by column, after the Rust crate's demos. Called by the demo that prints a matrix.
+// The listing of a matrix, column by column, after the Rust crate's demos.
 
 ghost use Rattle.std.specs.Prelude.{OnOk};
 ghost use Rattle.amd_demos.specs.Demos.{Grows};

@@ -1,6 +1,5 @@
 // A matrix by columns, as the demos print it. Each question about it has an answer, also where it is no column form:
-// what is not there is `None` or no entry. No contract says what its answers are; stored outputs and tests do. Called
-// by the listing, by the plot, and by the demos that print a matrix.
+// what is not there is `None` or no entry. No contract says what its answers are; stored outputs and tests do.
 
 /// A square matrix with `n` columns, whose column `j` holds the rows `a_i[a_p[j]..a_p[j + 1]]`.
 #[derive(Clone, Copy)]

@@ -1,4 +1,4 @@
-// Lists of numbers, as the Rust crate's demos print them. Called by the demos and by the listing of a matrix.
+// Lists of numbers, as the Rust crate's demos print them.
 
 ghost use Rattle.std.specs.Prelude.{OnOk};
 ghost use Rattle.std.specs.Io.KnownBytes.{Appends};

@@ -1,5 +1,4 @@
-// The demo that orders the matrix can_24, after the second demo of the AMD user guide. Called by the program
-// `demo_order` and by tests.
+// The demo that orders the matrix can_24, after the second demo of the AMD user guide.
 
 ghost use Rattle.std.specs.Prelude.{◌≡◌, ◌≤◌, pos};
 ghost use Rattle.amd_demos.specs.Demos.{HasDemo};

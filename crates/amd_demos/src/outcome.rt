@@ -1,4 +1,4 @@
-// What each demo writes of an answer of the ordering, after the Rust crate's demos. Called by the demos.
+// What each demo writes of an answer of the ordering, after the Rust crate's demos.
 
 ghost use Rattle.std.specs.Prelude.{◌≡◌, OnOk};
 ghost use Rattle.std.specs.Io.KnownBytes.{Appends};

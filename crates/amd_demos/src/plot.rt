@@ -1,5 +1,4 @@
-// A plot of a matrix in letters, a line for each row, after the Rust crate's demos. Called by the demo that prints a
-// matrix.
+// A plot of a matrix in letters, a line for each row, after the Rust crate's demos.
 
 ghost use Rattle.std.specs.Prelude.{OnOk};
 ghost use Rattle.amd_demos.specs.Demos.{Grows};

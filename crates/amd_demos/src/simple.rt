@@ -1,5 +1,5 @@
 // The demo that orders one small matrix and prints the permutation, its inverse, and what the ordering tells, after the
-// first demo of the AMD user guide. Called by the program `demo_simple` and by tests.
+// first demo of the AMD user guide.
 
 ghost use Rattle.std.specs.Prelude.{◌≡◌, ◌≢◌, ◌≤◌, pos, true, false, IfOk, OnOk};
 ghost use Rattle.std.specs.Io.KnownBytes.{Appends};

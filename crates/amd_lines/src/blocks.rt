@@ -1,4 +1,4 @@
-// The bytes of an input that were read in one go and are passed line by line, where they stand. Called by `lines`.
+// The bytes of an input that were read in one go and are passed line by line, where they stand.
 
 ghost use Rattle.std.specs.Prelude.{◌≡◌, ◌≤◌, ◌<◌, ◌+◌, ◌++◌, ℕ, List, [], length, take, drop, IfOk, OnErr, vec_len};
 ghost use Rattle.std.specs.Io.KnownBytes.{Keeps, Consumes, IsAtEnd};

@@ -1,6 +1,5 @@
 // A reader of the lines of a text, which counts those that it read. A line is looked at where it stands in the block of
-// bytes that was read in one go. Called by the readers of formats: `amd_cases`, `amd_market`, and through the second
-// the lists of rows of `amd_request`.
+// bytes that was read in one go.
 
 ghost use Rattle.std.specs.Prelude.{◌≡◌, ◌≢◌, ◌≤◌, ◌<◌, ◌++◌, ◌↔◌, [], ℕ, List, Some, All, IfOk, IfErr, IfSome, IsTrue, length, take, true, false};
 ghost use Rattle.std.specs.Io.KnownBytes.{IsAtEnd};

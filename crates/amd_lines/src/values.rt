@@ -1,5 +1,4 @@
 // A float that is written in digits, looked at byte by byte: at the front of a line, and a double as Fortran writes it.
-// Called by `amd_market`.
 
 ghost use Rattle.std.specs.Prelude.{◌≡◌, ◌<◌, ◌≤◌, ◌∷◌, ◌||◌, ◌==◌, true, cond, [], List, ℕ};
 ghost use Rattle.std.specs.Prelude.{length, take, slice_index, IfSome};

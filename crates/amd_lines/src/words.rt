@@ -1,6 +1,5 @@
-// The words of a line and the number that a word spells. Called by the readers of formats: the crates `amd_cases` and
-// `amd_market`, and `held` of `amd_request`. Words are parted by ASCII white space, which takes in the line's end; a
-// number is what `parse` of the standard library takes.
+// The words of a line and the number that a word spells. Words are parted by ASCII white space, which takes in the
+// line's end; a number is what `parse` of the standard library takes.
 
 ghost use Rattle.std.specs.Prelude.{◌≡◌, ◌<◌, ◌+◌, ◌∷◌, ℕ, ℤ, pos, List, [], length, take, drop};
 ghost use Rattle.std.specs.Prelude.{not, IfSome, MatchOption};

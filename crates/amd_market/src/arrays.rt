@@ -1,5 +1,4 @@
-// The line of an array's size, and the lines of its values. Called by `dense`. Source: the Matrix Market exchange
-// formats.
+// The line of an array's size, and the lines of its values. Source: the Matrix Market exchange formats.
 
 ghost use Rattle.std.specs.Prelude.{◌≡◌, ◌≢◌, ◌∷◌, [], ℕ, List, Bool, not, IfErr, MatchOption, MatchResult};
 ghost use Rattle.std.specs.List.{list_all};

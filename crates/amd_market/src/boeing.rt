@@ -1,6 +1,6 @@
 // The matrix that a Harwell-Boeing or a Rutherford-Boeing file holds: in column form, its pointers and rows in fields
-// of fixed width. The values behind them are not read. Called by `reader`, where the first line was read already.
-// Source: the Harwell-Boeing and Rutherford-Boeing exchange formats.
+// of fixed width. The values behind them are not read. Source: the Harwell-Boeing and Rutherford-Boeing exchange
+// formats.
 
 ghost use Rattle.std.specs.Prelude.{◌≡◌, ◌++◌, ◌∷◌, ◌+◌, ◌<◌, ◌==◌, ◌↔◌, [], ℕ, List, cond, length};
 ghost use Rattle.amd_market.specs.Keys.{IsLevel};

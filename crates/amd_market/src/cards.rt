@@ -1,5 +1,5 @@
-// The lines at the head of a Harwell-Boeing or a Rutherford-Boeing file, behind its title. Called by `boeing`. Source:
-// the Harwell-Boeing and Rutherford-Boeing exchange formats.
+// The lines at the head of a Harwell-Boeing or a Rutherford-Boeing file, behind its title. Source: the Harwell-Boeing
+// and Rutherford-Boeing exchange formats.
 
 ghost use Rattle.std.specs.Prelude.{◌≡◌, ◌∷◌, ℕ, List, pos, IfOk, IfErr, MatchOption, MatchResult};
 ghost use Rattle.amd_market.specs.Faults.{HasTypeFault, HasCardFault};

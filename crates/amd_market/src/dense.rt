@@ -1,5 +1,5 @@
-// The values of an array: a line for each place, column by column, of which those that are not zero are entries. Called
-// by `reader`. Source: the Matrix Market exchange formats.
+// The values of an array: a line for each place, column by column, of which those that are not zero are entries.
+// Source: the Matrix Market exchange formats.
 
 ghost use Rattle.std.specs.Prelude.{◌≡◌, ◌-◌, ◌+◌, ◌^◌, ◌<◌, ◌≤◌, ◌∷◌, [], ℕ, List, IfOk, IfErr, OnOk};
 ghost use Rattle.amd_market.specs.Arrays.{SpellsShape, SpellsValue, column_places, array_places, first_row};

@@ -1,4 +1,4 @@
-// The line of the size, and the lines of the entries. Called by `reader`, and by `held` of the crate `amd_request`.
+// The line of the size, and the lines of the entries.
 
 ghost use Rattle.std.specs.Prelude.{◌≡◌, ◌≢◌, ◌+◌, ◌∷◌, [], ℕ, take, List, pos, IsTrue, ◌↔◌};
 ghost use Rattle.std.specs.Prelude.{IfErr, IfSome, MatchOption, MatchResult};

@@ -1,5 +1,5 @@
-// Numbers in fields of one width, so many on a line, as Fortran writes them: a format such as `(16I5)`. Called by
-// `cards` and `boeing`. Source: the Harwell-Boeing and Rutherford-Boeing exchange formats.
+// Numbers in fields of one width, so many on a line, as Fortran writes them: a format such as `(16I5)`. Source: the
+// Harwell-Boeing and Rutherford-Boeing exchange formats.
 
 ghost use Rattle.std.specs.Prelude.{◌≡◌, ◌≢◌, ◌++◌, ◌∷◌, ◌⊎◌, [], ℕ, List, false, length, All};
 ghost use Rattle.std.specs.Prelude.{IfErr, OnOk, MatchOption, slice_index};

@@ -1,5 +1,5 @@
 // The first line of a file of the Matrix Market, what it says of the entries, and what is wrong with a first line of no
-// kind. Called by `reader`. Source: the Matrix Market exchange formats.
+// kind. Source: the Matrix Market exchange formats.
 
 ghost use Rattle.std.specs.Prelude.{◌≡◌, ◌≢◌, ◌∷◌, [], List, ℕ, map, IfErr, MatchOption, MatchResult};
 ghost use Rattle.std.specs.Char.{to_ascii_lowercase};

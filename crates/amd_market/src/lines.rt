@@ -1,7 +1,6 @@
-// The lines of a matrix file: how long they may be, which of them are notes, and the error that names one. Called by
-// `reader`, `dense` and `boeing`, and by the lists of rows of the crate `amd_request`. The reader of lines is that of
-// the crate `amd_lines`; no more is read of a line that is too long than a block, and a note that is longer is passed
-// piece by piece.
+// The lines of a matrix file: how long they may be, which of them are notes, and the error that names one. The reader
+// of lines is that of the crate `amd_lines`; no more is read of a line that is too long than a block, and a note that
+// is longer is passed piece by piece.
 
 ghost use Rattle.std.specs.Prelude.{◌≡◌, [], ℕ, List, IfOk, IfErr};
 ghost use Rattle.amd_lines.specs.Lines.{TakesLine, TakesNext, FailsAt, MeetsLong, MeetsTelling, lines_read, percent};

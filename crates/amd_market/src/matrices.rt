@@ -1,4 +1,4 @@
-// The matrix that a file holds, made of the pairs that its entries stand for. Called by `reader`, `dense` and `boeing`.
+// The matrix that a file holds, made of the pairs that its entries stand for.
 
 ghost use Rattle.std.specs.Prelude.{◌≡◌, ◌++◌, ◌<◌, ◌^◌, [], All, IfOk, OnOk, length};
 ghost use Rattle.amd_market.specs.Headers.{pairs_of};

@@ -1,6 +1,5 @@
-// The matrix that a file holds. Called by programs that order matrices.
-// The parts of a file are read one after another: the header, the size, the entries, and what stands behind them. The
-// reading of an array is in `dense`, and that of a Harwell-Boeing file in `boeing`.
+// The matrix that a file holds. The parts of a file are read one after another: the header, the size, the entries, and
+// what stands behind them. The reading of an array is in `dense`, and that of a Harwell-Boeing file in `boeing`.
 
 ghost use Rattle.std.specs.Prelude.{◌≡◌, ◌<◌, ◌≤◌, ◌^◌, ◌∷◌, [], ℕ, List, All, true, false};
 ghost use Rattle.std.specs.Prelude.{IfOk, IfErr, IfSome, MatchOption, OnOk};

@@ -1,5 +1,4 @@
-// The text of what a matrix is, a label and a value a line. Called by `answers` of the crate `amd_command`; `json`
-// writes the same as JSON.
+// The text of what a matrix is, a label and a value a line.
 
 ghost use Rattle.std.specs.Prelude.{◌≡◌, OnOk};
 ghost use Rattle.std.specs.Io.KnownBytes.{Appends};

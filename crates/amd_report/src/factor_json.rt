@@ -1,5 +1,5 @@
 // The factor under an ordering as JSON: the bounds and what the factor needs, and a list of three numbers for each
-// column, as the lines of `analyze` have them. Called by `answers`, which has the columns counted and not written.
+// column, as the lines of `analyze` have them.
 
 ghost use Rattle.std.specs.Prelude.{◌≡◌, length, slice_index, OnOk};
 ghost use Rattle.std.specs.Io.KnownBytes.{Appends};

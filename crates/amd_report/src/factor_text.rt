@@ -1,5 +1,4 @@
 // The texts on a factor: a line for each column, and what the factor needs beside the bounds that the ordering tells.
-// Called by `answers` of the crate `amd_command`; `factor_json` writes the same as JSON.
 
 ghost use Rattle.std.specs.Prelude.{◌≡◌, ◌+◌, None, length, slice_index, slice_index_or, IsTrue, OnOk};
 ghost use Rattle.std.specs.Char.{is_ascii};

@@ -1,5 +1,5 @@
 // What a matrix is: its figures, the degrees of its rows, the shape of its pattern, and how many duplicates its file
-// had. Called by `answers`, by `description` and by `json`.
+// had.
 
 ghost use Rattle.std.specs.Prelude.{◌≡◌, ◌-◌, ℕ, List, pos, map, max, fold, count_by, nat_lt, length, IfOk};
 ghost use Rattle.amd_model.specs.Input.Columns.{IsInput, IsSortedInput};

@@ -1,4 +1,4 @@
-// The table of what an ordering tells, a label and a value a line. Called by `answers`, by `analysis` and by `json`.
+// The table of what an ordering tells, a label and a value a line.
 
 ghost use Rattle.std.specs.Prelude.{◌≡◌, OnOk};
 ghost use Rattle.std.specs.Io.KnownBytes.{Appends};

@@ -1,7 +1,6 @@
 // The answers as JSON, for programs: one object on one line. A number has the name that it has in the tables, cut
 // short, in small letters and with `_` between words. It is written in pieces and no memory is asked, so that no tree
-// of values stands beside a long permutation; the tests read it with the kit's JSON. Called by `answers` of the
-// crate `amd_command`, and by `factor_json`.
+// of values stands beside a long permutation; the tests read it with the kit's JSON.
 
 ghost use Rattle.std.specs.Prelude.{codes, OnOk, IfSome};
 ghost use Rattle.std.specs.Io.KnownBytes.{Appends};

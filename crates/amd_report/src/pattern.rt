@@ -1,6 +1,5 @@
 // The pattern of a matrix: the rows of a column, and its text, a file of the Matrix Market with every entry, the rows
-// of each column as they stand. Called by `grids` and `marks`, and by `permuted` and `answers` of the crate
-// `amd_command`.
+// of each column as they stand.
 
 ghost use Rattle.std.specs.Prelude.{◌≡◌, flat_map, OnOk};
 ghost use Rattle.std.specs.Io.KnownBytes.{Appends};

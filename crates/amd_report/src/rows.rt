@@ -1,5 +1,4 @@
-// The text of a permutation: the number of a row in each line, from 1 on. Called by `answers` of the
-// crate `amd_command`.
+// The text of a permutation: the number of a row in each line, from 1 on.
 
 ghost use Rattle.std.specs.Prelude.{OnOk};
 ghost use Rattle.std.specs.Io.KnownBytes.{Appends};

@@ -1,5 +1,5 @@
 // The text of an elimination tree: the number of the parent of each column in a line, from 1 on, 0 for a root. Columns
-// are numbered as they are eliminated. And the lines of the supernodes that the tree is cut into. Called by `answers`.
+// are numbered as they are eliminated. And the lines of the supernodes that the tree is cut into.
 
 ghost use Rattle.std.specs.Prelude.{◌≡◌, OnOk, length, slice_index};
 ghost use Rattle.std.specs.Io.KnownBytes.{Appends};

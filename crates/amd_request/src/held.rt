@@ -1,6 +1,5 @@
 // The rows that a caller wants last, from a text with the number of one row a line. Rows count from 1; lines without a
-// word, and lines whose first word begins with `%`, are passed over. A row may stand there more than once. Called by
-// `inputs`; `listed` reads its lines in the same way.
+// word, and lines whose first word begins with `%`, are passed over. A row may stand there more than once.
 
 ghost use Rattle.std.specs.Prelude.{◌≡◌, ℕ, length, IfOk, IfErr, IfSome, MatchOption};
 ghost use Rattle.amd_request.specs.Held.{SpellsRow, MarksRows, NamesNoRow};

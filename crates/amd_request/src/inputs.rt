@@ -1,6 +1,6 @@
 // What a run reads: the matrix, the rows to hold last and another order; and the outputs that may not be one file with
-// them. Called by `program` of the crate `amd_command`. That a task has the control of the words is told by a contract;
-// files and messages are tested alone: no contract can speak of them.
+// them. That a task has the control of the words is told by a contract; files and messages are tested alone: no
+// contract can speak of them.
 
 ghost use Rattle.std.specs.Prelude.{◌≡◌, Ok, IfOk, IfSome, is_some};
 ghost use Rattle.amd_market.specs.Files.{SpellsFile};

@@ -1,5 +1,5 @@
 // The numbers that a text lists, one a line, or two: read as the rows to hold last are, but that they may count from 0.
-// `listing` says what they tell. Called by `inputs`.
+// `listing` says what they tell.
 
 ghost use Rattle.std.specs.Prelude.{IfOk, IfErr, IfSome, MatchOption, ℕ};
 ghost use Rattle.amd_request.specs.Listed.{ListsEach, NamesNone};

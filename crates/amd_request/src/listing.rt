@@ -1,7 +1,7 @@
 // What the lines of a list tell. Lines with one number each tell the row at each place, or the place of each row, as
 // the caller says; METIS writes the latter to a file that ends in `.iperm`. They count from 0 where one of them is 0,
 // else from 1. SCOTCH writes a line with the number of the vertices, and behind it one for each vertex, in their order,
-// with its number and its place, both from 0 or from 1 on. Called by `inputs`.
+// with its number and its place, both from 0 or from 1 on.
 
 ghost use Rattle.std.specs.Prelude.{◌≡◌, ◌≤◌, ℕ, List, length, IfOk};
 ghost use Rattle.std.specs.List.{AllZip};

@@ -1,5 +1,5 @@
 // The dense row parameter as a decimal number with up to three places behind the point, in thousandths. Source: the
-// parameter of SuiteSparse's AMD. Called by `request`.
+// parameter of SuiteSparse's AMD.
 
 ghost use Rattle.std.specs.Prelude.{◌≡◌, ◌<◌, ◌*ℤ◌, length, pos, IfSome};
 ghost use Rattle.std.specs.Str.Parse.{signed_digits_value, starts_with_minus};

@@ -1,4 +1,4 @@
-// What is wrong with rows, or with places, that are no order of all of them. Called by `program`.
+// What is wrong with rows, or with places, that are no order of all of them.
 
 ghost use Rattle.std.specs.Prelude.{◌≡◌, ◌≢◌, ◌<◌, ℕ, List, false, true, length, slice_index};
 ghost use Rattle.std.specs.Prelude.{slice_index_or, IfOk, IfSome, MatchOption};

@@ -1,5 +1,5 @@
 // The places that outputs go to: which file a path names, whether two paths name one, and whether an output can go
-// there. Called by `inputs`, before the work, and by `putting`. Files are tested alone: no contract can speak of them.
+// there. Files are tested alone: no contract can speak of them.
 
 use crate::causes::Cause;
 use std::fs::{Metadata, OpenOptions};

@@ -1,6 +1,5 @@
 // What the command tells on standard error while it works: a line at the beginning of a stage, where the run has taken
-// some time already, or where the stage is large. Called by `program`. Tested by hand: no contract can speak of the
-// clock.
+// some time already, or where the stage is large. Tested by hand: no contract can speak of the clock.
 
 use std::fmt::Display;
 use std::rt::Clock;

@@ -1,7 +1,7 @@
 // How an output is written to its place. A new file is written beside its place and moved there once it is whole. So is
 // one that was there, where that keeps its mode, its owner and its group, and it has no other name; else its bytes are
-// replaced where they stand, and the room for more of them is taken before the first of them is lost. Called by
-// `program` of the crate `amd_command`. Files are tested alone: no contract can speak of them.
+// replaced where they stand, and the room for more of them is taken before the first of them is lost. Files are tested
+// alone: no contract can speak of them.
 
 use crate::causes::Cause;
 use crate::places::{end_of, folder_and_name, found_at, open_new, open_old};

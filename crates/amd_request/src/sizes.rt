@@ -1,5 +1,5 @@
 // Whether a file asks for much more memory than its entries justify: the rows that its line of the size tells, before
-// the matrix is read. Called by `inputs`. Tested alone.
+// the matrix is read. Tested alone.
 
 use amd_lines::lines::LineReader;
 use amd_lines::words::first_word;

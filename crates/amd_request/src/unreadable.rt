@@ -1,5 +1,4 @@
-// The first word of a command line that is not UTF-8: files are opened by names in UTF-8 alone. Called by `program` of
-// the crate `amd_command`. Tested alone.
+// The first word of a command line that is not UTF-8: files are opened by names in UTF-8 alone. Tested alone.
 
 use std::alloc::AllocError;
 use std::env::FillError;

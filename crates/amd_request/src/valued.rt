@@ -2,7 +2,7 @@
 // the line of the size, and the line of each entry, with its value as it is spelled there. Of an entry that stands for
 // its mirror image too the one below the diagonal is written: of a skew-symmetric matrix with the other sign where that
 // is the mirror image, of a hermitian one with the other sign of the imaginary part. Source: the Matrix Market exchange
-// formats. Called by `answers` of the crate `amd_command`.
+// formats.
 
 ghost use Rattle.std.specs.Prelude.{◌≡◌, ◌++◌, ◌∷◌, [], ◌+◌, ◌&&◌, ℕ, List, codes, decimal, false, flat_map, length};
 ghost use Rattle.std.specs.Prelude.{nat_lt, true};

@@ -1,5 +1,5 @@
-// A file that tells on standard error, in percent, how much of it was read. Called by `inputs`, where a caller asks for
-// that. What is read is what the file has, by contract; what is told is tested.
+// A file that tells on standard error, in percent, how much of it was read. What is read is what the file has, by
+// contract; what is told is tested.
 
 ghost use Rattle.std.specs.Prelude.{◌≡◌};
 ghost use Rattle.amd_request.specs.Watched.{input_of};

@@ -1,5 +1,4 @@
 // An ordering and the factor under it in one call: the record of the ordering tells a room that is never too small.
-// Called by: whoever wants both.
 
 ghost use Rattle.std.specs.Prelude.{◌≡◌, ◌≢◌, ℤ, Bool, Option, List, Some, map, IfOk, IfErr};
 ghost use Rattle.amd.specs.Answers.{IsOrdering, IsOrderingHolding};

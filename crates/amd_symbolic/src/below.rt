@@ -1,6 +1,6 @@
 // The rows below the block of each supernode, row by row: each row climbs from the supernodes of its earlier neighbours
 // up to those that have it, or to its own, and so the rows of each come in ascending order. Source: Liu 1990; Liu, Ng
-// and Peyton 1993. The rows are written as numbers of the caller's type. Called by `blocks`.
+// and Peyton 1993. The rows are written as numbers of the caller's type.
 
 ghost use Rattle.std.specs.Prelude.{ℕ, ◌≡◌, ◌<◌, ◌+◌, ◌-◌, length, map, pos, slice_index};
 ghost use Rattle.amd_model.specs.Graph.{IsGraph};

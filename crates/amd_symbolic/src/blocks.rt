@@ -1,6 +1,5 @@
 // A factor by supernodes: runs of places whose columns differ in their own places alone. The rows below the blocks are
-// written into memory that the caller lends, when all else is known. Source: Liu, Ng and Peyton 1993. Called by
-// `supernodal` and by the crate `amd_c`.
+// written into memory that the caller lends, when all else is known. Source: Liu, Ng and Peyton 1993.
 
 ghost use Rattle.std.specs.Prelude.{◌≡◌, ◌+◌, ◌-◌, length, map, slice_index};
 ghost use Rattle.amd_types.specs.Counts.{counts};

@@ -1,5 +1,5 @@
 // The children of the columns in lists, by one link a column: a column to come is linked to the last one of its
-// children, and a child to the one before it. Called by `column`.
+// children, and a child to the one before it.
 
 ghost use Rattle.std.specs.Prelude.{ℕ, ◌≡◌, ◌<◌, ◌≤◌, ◌+◌, ◌-◌, true, length, slice_index, MatchOption};
 ghost use Rattle.amd_symbolic.specs.Orders.{Order};

@@ -1,7 +1,6 @@
 // One column of a factor, from its later neighbours and the columns of its children: the greatest child hands on its
 // entries behind the first one, and what it lacks is found by marks, sorted and merged in. It is planned first, so that
-// there is room for it before it is written. Source: George and Liu
-// 1981; Liu 1990. Called by `fill`.
+// there is room for it before it is written. Source: George and Liu 1981; Liu 1990.
 
 ghost use Rattle.std.specs.Prelude.{ℕ, List, ◌≡◌, ◌<◌, ◌≤◌, ◌+◌, ◌-◌, [], true, Some, length, slice_index, slice_range};
 ghost use Rattle.std.specs.Prelude.{MatchOption, map, pos, take};

@@ -1,7 +1,6 @@
 // How many entries each column of a factor has, and what the factor needs, without its columns: the input is tested as
 // for `columns`, the lists of earlier and of later neighbours are made, and `counted` counts. Source: Liu 1986;
-// Gilbert, Ng and Peyton 1994; AMD user guide (the figures of `Info`). Called by users, by the command and by the crate
-// `amd_c`.
+// Gilbert, Ng and Peyton 1994; AMD user guide (the figures of `Info`).
 
 ghost use Rattle.std.specs.Prelude.{◌≡◌, pos, map, List, ℤ, Bool, Option, Some, IfOk, IfErr};
 ghost use Rattle.amd_model.specs.Input.Columns.{IsColumnForm};

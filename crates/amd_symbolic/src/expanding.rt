@@ -1,5 +1,5 @@
 // The columns of a factor, written out from its supernodes: the column of a place has the places behind it in its
-// supernode, and then the rows below the block. Source: Liu, Ng and Peyton 1993. Called by users.
+// supernode, and then the rows below the block. Source: Liu, Ng and Peyton 1993.
 
 ghost use Rattle.std.specs.Prelude.{ℕ, ℤ, List, [], ◌≡◌, ◌≤◌, ◌<◌, ◌+◌, ◌-◌, ◌++◌, length, take, OnOk, IfOk};
 ghost use Rattle.std.specs.Prelude.{slice_index, slice_index_or};

@@ -1,7 +1,6 @@
-// The columns of a factor under an order that a caller hands in: the input is tested, the lists of later neighbours
-// are made, all memory is taken, and then the columns are written without any. Source: the path theorem of sparse
-// factorization (Rose, Tarjan and Lueker 1976); Liu 1990. Called by `analysis`, by users, by the demos and by the crate
-// `amd_c`.
+// The columns of a factor under an order that a caller hands in: the input is tested, the lists of later neighbours are
+// made, all memory is taken, and then the columns are written without any. Source: the path theorem of sparse
+// factorization (Rose, Tarjan and Lueker 1976); Liu 1990.
 
 ghost use Rattle.std.specs.Prelude.{◌≡◌, ◌≤◌, ◌+◌, ◌∷◌, [], pos, length, map, IfOk, IfErr, MatchOption};
 ghost use Rattle.amd_model.specs.Graph.{IsGraph};

@@ -1,6 +1,5 @@
 // The columns of a factor under an order of the rows, made in that order, each one behind those before it: in a list
-// that grows, or in numbers that a caller has. Source: George and Liu 1981; Liu 1990. Called by whoever has the lists
-// of later neighbours and the memory.
+// that grows, or in numbers that a caller has. Source: George and Liu 1981; Liu 1990.
 
 ghost use Rattle.std.specs.Prelude.{ℕ, ◌≡◌, ◌<◌, ◌≤◌, ◌+◌, ◌++◌, [], drop, length, map, pos, slice_index, MatchOption};
 ghost use Rattle.std.specs.Prelude.{List, take};

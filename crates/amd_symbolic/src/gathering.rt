@@ -1,4 +1,4 @@
-// The rows that are new in a column, each found once by its mark. Called by `column`.
+// The rows that are new in a column, each found once by its mark.
 
 ghost use Rattle.std.specs.Prelude.{ℕ, ◌≡◌, ◌<◌, ◌≤◌, ◌+◌, Contains, length, map, slice_index, take};
 ghost use Rattle.amd_types.specs.Counts.{counts};

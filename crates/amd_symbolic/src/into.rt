@@ -1,5 +1,4 @@
 // The columns of a factor, with the entries written into numbers that a caller has: as `factor`, with no list of them.
-// Called by the crate `amd_c` and by users.
 
 ghost use Rattle.std.specs.Prelude.{ℕ, List, ◌≡◌, ◌≢◌, ◌<◌, ◌∷◌, ◌++◌, [], pos, drop, length, map};
 ghost use Rattle.std.specs.Prelude.{IfOk, IfErr, MatchOption};

@@ -1,5 +1,5 @@
 // Laws of the factor as paths define it, and on the contracts of `columns`, `counts`, `analyze` and their kin, each the
-// contract of a function with an empty body. Source: Liu 1986 and 1990. Called by: nobody.
+// contract of a function with an empty body. Source: Liu 1986 and 1990.
 
 ghost use Rattle.amd_symbolic.specs.Counted.{CountsReserve, CountsTellFactor, FiguresBoundNeeds};
 ghost use Rattle.amd_symbolic.specs.Laws.{FiguresReserve, ParentsTellTree, RowsTellSubtrees, ThereIsOneFactor};

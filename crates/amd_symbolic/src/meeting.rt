@@ -1,6 +1,5 @@
 // The counts by what rows meet: each arc adds 1 to the column that it leads from and to all over it, and takes 1 from
-// the column where it meets the arc before it of the same row. Source: Gilbert, Ng and Peyton 1994. Called by
-// `sweep`.
+// the column where it meets the arc before it of the same row. Source: Gilbert, Ng and Peyton 1994.
 
 ghost use Rattle.std.specs.Prelude.{ℕ, List, ◌≡◌, ◌≢◌, ◌<◌, ◌≤◌, ◌+◌, ◌^◌, length, slice_index};
 ghost use Rattle.amd_symbolic.specs.Meetings.{IsLowest, IsScene, Links, Met, Scene, Taken, sum_to};

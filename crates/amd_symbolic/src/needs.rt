@@ -1,5 +1,4 @@
 // What the exact factor needs: the figures of the AMD user guide, summed over the columns of the factor and never cut.
-// Called by the command and by the demo that prints a matrix.
 
 ghost use Rattle.std.specs.Prelude.{◌≡◌, ◌≤◌, ◌<◌, ◌+◌, ◌*◌, ◌/◌, ◌^◌, List, ℕ, length, max, slice_index};
 ghost use Rattle.amd_symbolic.specs.Needs.{IsNeed, IsSmall, TellSizes};

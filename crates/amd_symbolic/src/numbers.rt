@@ -1,4 +1,4 @@
-// Places as numbers of an integer type: reading them, and writing them. Called by `gathering`, `merge` and `column`.
+// Places as numbers of an integer type: reading them, and writing them.
 
 ghost use Rattle.std.specs.Prelude.{ℕ, ◌≡◌, ◌<◌, ◌^◌, length, map, pos, slice_index};
 ghost use Rattle.amd_types.specs.Counts.{counts};

@@ -1,5 +1,5 @@
 // The lists of the earlier neighbours of each place under an order that a caller hands in, if it is one. The places of
-// the rows are given back when the lists are made. Called by `counting` and by `supernodal`.
+// the rows are given back when the lists are made.
 
 ghost use Rattle.std.specs.Prelude.{◌≡◌, pos, map, IfOk, IfErr};
 ghost use Rattle.amd_model.specs.Input.Columns.{IsColumnForm};

@@ -1,6 +1,5 @@
 // The places of a factor cut into supernodes, by the numbers of entries of its columns and its parents: where each
 // supernode begins, where its rows begin, its parent, and the supernode of each place. Source: Liu, Ng and Peyton 1993.
-// Called by `blocks`.
 
 ghost use Rattle.std.specs.Prelude.{ℕ, ◌≡◌, ◌↔◌, ◌<◌, ◌≤◌, ◌+◌, ◌-◌, true, None, Some, length, IfOk, MatchOption};
 ghost use Rattle.std.specs.Prelude.{slice_index, slice_index_or};

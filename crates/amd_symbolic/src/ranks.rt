@@ -1,7 +1,7 @@
 // The postorder of a forest whose parents stand behind their children: the size of each subtree, and the rank of each
 // place, below which its subtree stands without a gap. No walk is needed: sizes are summed up from the children to the
 // parents, and ranks are dealt out from the parents to the children. A place that has no parent goes up to the number
-// of places, which stands over all. Called by `counting`.
+// of places, which stands over all.
 
 ghost use Rattle.std.specs.Prelude.{◌≡◌, ◌+◌, length, slice_index};
 ghost use Rattle.amd_symbolic.specs.Ranks.{GoesToParents, GoesUp, Measured, Ranked};

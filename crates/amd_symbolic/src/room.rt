@@ -1,5 +1,5 @@
 // How many supernodes a factor has, and how many rows below their blocks: the columns are counted and the places
-// numbered as for `supernodes`, and no row is written. Source: Liu, Ng and Peyton 1993. Called by users.
+// numbered as for `supernodes`, and no row is written. Source: Liu, Ng and Peyton 1993.
 
 ghost use Rattle.std.specs.Prelude.{◌≡◌, length, map, unsigned_abs, IfOk, IfErr, MatchOption};
 ghost use Rattle.amd_model.specs.Graph.{IsGraph};

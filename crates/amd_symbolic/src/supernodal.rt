@@ -1,5 +1,5 @@
 // The columns of a factor by supernodes: the input is tested as for `columns`, the columns are counted, and what the
-// counts tell is written. Source: Rose, Tarjan and Lueker 1976; Liu, Ng and Peyton 1993. Called by users.
+// counts tell is written. Source: Rose, Tarjan and Lueker 1976; Liu, Ng and Peyton 1993.
 
 ghost use Rattle.std.specs.Prelude.{◌≡◌, ◌+◌, ◌∷◌, [], length, pos, map, IfOk, IfErr};
 ghost use Rattle.amd_model.specs.Input.Columns.{IsColumnForm};

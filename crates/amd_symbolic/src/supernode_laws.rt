@@ -1,6 +1,5 @@
 // Laws on the supernodes of a factor, each the contract of a function with an empty body. That expanding them gives the
 // columns is the contract of `expand`. Source: Liu, Ng and Peyton 1993; AMD user guide; Amestoy, Davis and Duff 2004.
-// Called by: nobody.
 
 ghost use Rattle.amd_symbolic.specs.SupernodeLaws.{ExactBlocksStandInside, SupernodesTellNeeds};
 

@@ -1,5 +1,5 @@
 // The arcs of all places, in the order of the ranks of the places, and the counts that they leave. Source: Gilbert, Ng
-// and Peyton 1994. Called by `counting`.
+// and Peyton 1994.
 
 ghost use Rattle.std.specs.Prelude.{ℕ, List, ◌≡◌, ◌<◌, ◌≤◌, ◌+◌, ◌-◌, ◌^◌, length, slice_index};
 ghost use Rattle.amd_symbolic.specs.Meetings.{CountsTargets, IsByRank, IsScene, Met, Scene, Taken, sum_before, sum_to};

@@ -1,6 +1,5 @@
 // The elimination tree in nearly linear time: each row climbs from its earlier neighbours by links to ancestors, and
-// all links on the way are drawn to the row itself, so that no way is climbed twice. Source: Liu 1986. Called by
-// `counting`.
+// all links on the way are drawn to the row itself, so that no way is climbed twice. Source: Liu 1986.
 
 ghost use Rattle.std.specs.Prelude.{ℕ, ◌≡◌, ◌<◌, ◌≤◌, ◌+◌, true, length, slice_index};
 ghost use Rattle.amd_model.specs.Graph.{IsGraph};

@@ -1,4 +1,4 @@
-// The tests, a module for each part. Called by: the gate.
+// The tests, a module for each part.
 
 mod can_24;
 mod comparison;

@@ -1,5 +1,5 @@
 // Worked matrices for the engine in place, with their answers: worked by hand, or from the Rust crate `amd` and from a
-// plain program that follows the rules. Called by `in_place_rows`.
+// plain program that follows the rules.
 
 /// A sorted matrix, what a caller chooses, and the answer. The figures are the number of rows held last, `lnz`, those
 /// of `LDL'` and of `LU`, and `d_max`; the divisions are as many as `lnz`. An element stands at its pivot row.

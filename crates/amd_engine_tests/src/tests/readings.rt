@@ -1,5 +1,4 @@
 // What a reader of cases returns, in short: a case has several lists, and each place that holds one is slow to prove.
-// Called by the tests of the reader.
 
 use amd_cases::faults::CaseFault;
 use amd_cases::reader::{CaseError, CaseReader};

@@ -1,6 +1,5 @@
 // The two engines over a sorted matrix, whose degrees are counted here, and whose pattern the record tells too: the
-// engine in place with the words that the degrees ask for, and some more, and the plain one. Called by the tests of
-// both engines and of the lists that they start from.
+// engine in place with the words that the degrees ask for, and some more, and the plain one.
 
 ghost use Rattle.std.specs.Prelude.{◌≡◌, ◌<◌, ◌≤◌, ◌+◌, ◌^◌, pos, map, length};
 ghost use Rattle.std.specs.Option.{option_copied};

@@ -1,5 +1,5 @@
 // The counts of the columns: on worked matrices, with each request refused in turn, and where the input or the order is
-// none. And whether counts are those of a factor that searches for paths find; called by `comparison`.
+// none. And whether counts are those of a factor that searches for paths find.
 
 use crate::tests::orders::NO_ORDERS;
 use crate::tests::refusals::NO_FORMS;

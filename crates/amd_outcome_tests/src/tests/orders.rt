@@ -1,4 +1,4 @@
-// Orders of rows that no ordering gives. Called by the tests of counts, of supernodes and of columns.
+// Orders of rows that no ordering gives.
 
 use amd_testing::inputs::draw;
 use std::alloc::{AllocError, Global};

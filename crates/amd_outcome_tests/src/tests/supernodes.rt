@@ -1,5 +1,5 @@
 // The columns by supernodes: on worked matrices, with each request refused in turn, and where the input or the order is
-// none. And whether supernodes are those of columns that searches for paths find; called by `comparison`.
+// none. And whether supernodes are those of columns that searches for paths find.
 
 use crate::tests::orders::NO_ORDERS;
 use crate::tests::refusals::NO_FORMS;

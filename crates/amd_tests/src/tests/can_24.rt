@@ -1,5 +1,5 @@
 // The 24-by-24 matrix can_24 of the Harwell/Boeing collection, whole, and in the jumbled form of the demos of the AMD
-// user guide. The data are those demos' (BSD 3-clause, see LICENSE). Called by `worked` and `factors`.
+// user guide. The data are those demos' (BSD 3-clause, see LICENSE).
 
 /// Where each column begins in `ROWS`, and then where the last one ends.
 pub static POINTERS: [i64; 25] = [
