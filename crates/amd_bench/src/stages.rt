@@ -4,14 +4,14 @@
 
 ghost use Rattle.std.specs.Prelude.{◌≡◌, ◌≢◌, ◌<◌, ◌≤◌, ◌+◌, ◌/◌, ◌^◌, ℕ, List, pos, map, length};
 ghost use Rattle.std.specs.Option.{SomeIff};
-ghost use Rattle.std.specs.Vec.{vec_capacity};
 ghost use Rattle.amd_model.specs.Graph.{Graph};
 ghost use Rattle.amd_model.specs.Input.Columns.{IsColumnForm, IsInput, IsSorted, IsSortedInput};
 ghost use Rattle.amd_model.specs.Input.Pattern.{graph_of};
 ghost use Rattle.amd_edges.specs.Visits.{AreCounts, start_of};
 ghost use Rattle.amd_rounds.specs.Laid.{AreWideEnough};
 ghost use Rattle.amd_workspace.specs.Laying.{IsLaidOut};
-ghost use Rattle.amd_engine.specs.InPlace.{LaysGraph};
+ghost use Rattle.amd_workspace.specs.Lists.{HasRoom};
+ghost use Rattle.amd_engine.specs.InPlace.{AreOver, LaysGraph};
 
 use amd::aat::aat;
 use amd::preprocess::preprocess;
@@ -22,13 +22,13 @@ use amd_engine::amd_1::holds;
 use amd_engine::ended::{finish, list_rows};
 use amd_engine::fresh::{fill_lists, memory_for, room_for};
 use amd_engine::rows::{Choice, RowLists};
-use amd_engine::running::run_growing;
+use amd_engine::running::{Told, run_growing};
 use amd_types::dense::dense_threshold;
 use amd_types::index::Index;
 use amd_types::internal::{count_at, known_count, to_count};
-use amd_words::{Cell, Signed, Unsigned, Word};
+use amd_words::{Signed, Unsigned};
 use amd_workspace::laying::lay;
-use amd_workspace::lists::{Lists, Memory};
+use amd_workspace::lists::Memory;
 use anyhow::{Context, Result, bail};
 use num_traits::PrimInt;
 use std::alloc::Global;
@@ -104,55 +104,76 @@ fn workspace_words(nzaat: usize, n: usize) -> Option<usize>
     if words < 1 << 63 { Some(words) } else { None }
 }
 
-/// Eliminates in lists that are laid, in a workspace that grows up to `room` words, and lists the rows.
+/// Lists the rows that a run left.
+fn list_order<I: Index, S: Signed, P: Signed, U: Unsigned>(
+    told: &Told,
+    rows: &mut RowLists<'_, '_, '_, S, P, U>,
+    p: &mut [I],
+    p_inv: &mut [I],
+)
+    requires over { AreOver (length rows.old.pe.now) rows.old }
+    requires room { (length p.old ≡ length rows.old.pe.now) × (length p_inv.old ≡ length rows.old.pe.now) }
+    requires narrow { (length rows.old.pe.now + 2 ≤ S.MOST) × (S.MOST ≤ P.MOST) ×
+        (length rows.old.pe.now + 2 ≤ U.MOST) }
+    requires fits { (k : ℕ) → k < length rows.old.pe.now → I.fits (pos k) }
+{
+    list_rows(rows);
+    let head = &mut *rows.head;
+    let w = &mut *rows.w;
+    finish(told, head, w, p, p_inv, &mut Info::new(0));
+}
+
+/// Eliminates in the lists of `size` rows that are laid in the memory, in a workspace that grows up to `room` words, and
+/// lists the rows.
 fn time_rounds<R: time::Clock + Alloc<A = Global>, I: Index, S: Signed, P: Signed, U: Unsigned>(
     rt: &R,
     clock: &mut Clock,
     n: I,
-    pe: &mut [Word<P>],
-    iw: &mut Vec<Word<S>, Global>,
-    len: &mut [Cell<U>],
+    size: usize,
+    memory: &mut Memory<S, P, U, Global>,
     free: usize,
     room: usize,
 ) -> Result<Vec<I>>
     requires fits { I.fits (I.value n) }
-    requires size { I.value n ≡ pos (length len.old) }
-    requires laid { IsLaidOut (length len.old) iw.old.items pe.old len.old free }
-    requires graph { (g : Graph) × (lists : ℕ → List ℕ) × LaysGraph g lists iw.old.items pe.old len.old }
-    requires room { (free + length len.old ≤ length iw.old.items) × (length iw.old.items ≤ room) ×
-        (room ≤ vec_capacity iw.old) }
-    requires narrow { AreWideEnough S.MOST P.MOST U.MOST (length len.old) room }
+    requires size { (I.value n ≡ pos size) × (length memory.old.len.items ≡ size) }
+    requires laid { IsLaidOut size memory.old.words.iw.items memory.old.pe.items memory.old.len.items free }
+    requires graph { (g : Graph) × (lists : ℕ → List ℕ) ×
+        LaysGraph g lists memory.old.words.iw.items memory.old.pe.items memory.old.len.items }
+    requires words { (free + size ≤ length memory.old.words.iw.items) × (length memory.old.words.iw.items ≤ room) }
+    requires room { HasRoom size room memory.old }
+    requires narrow { AreWideEnough S.MOST P.MOST U.MOST size room }
 {
     let choice = Choice {
         control: &Control::default(),
         hold: None,
         flag: 2,
     };
-    let size = len.len();
     let threshold = dense_threshold(size, choice.control);
-    let mut degree = Vec::with_capacity(rt.alloc(), size)?;
-    let mut lists = Lists::with_room(rt.alloc(), size)?;
     let mut p = room_for(rt.alloc(), size)?;
     let mut p_inv = room_for(rt.alloc(), size)?;
-    fill_lists(size, &mut degree, &mut lists);
+    fill_lists(size, &mut memory.words.next, &mut memory.lists);
     clock.end(rt, "lists");
     let mut rows = RowLists {
-        pe: &mut *pe,
-        len: &mut *len,
-        e_len: &mut lists.e_len,
-        nv: &mut lists.nv,
-        degree: &mut degree,
-        w: &mut lists.w,
-        head: &mut lists.head,
-        sides: &mut lists.sides,
-        hash: &mut lists.hash,
+        pe: &mut memory.pe,
+        len: &mut memory.len,
+        e_len: &mut memory.lists.e_len,
+        nv: &mut memory.lists.nv,
+        degree: &mut memory.words.next,
+        w: &mut memory.lists.w,
+        head: &mut memory.lists.head,
+        sides: &mut memory.lists.sides,
+        hash: &mut memory.lists.hash,
     };
-    let told = run_growing(iw, &mut rows, free, room, threshold, &choice);
+    let told = run_growing(
+        &mut memory.words.iw,
+        &mut rows,
+        free,
+        room,
+        threshold,
+        &choice,
+    );
     clock.end(rt, "rounds");
-    list_rows(&mut rows);
-    let head = &mut *rows.head;
-    let w = &mut *rows.w;
-    finish(&told, head, w, &mut p, &mut p_inv, &mut Info::new(size));
+    list_order(&told, &mut rows, &mut p, &mut p_inv);
     clock.end(rt, "listing");
     Ok(p)
 }
@@ -192,16 +213,7 @@ fn time_elimination<
     let mut memory: Memory<S, P, U, Global> = memory_for(rt.alloc(), degrees, room)?;
     let free = lay(size, a_p, a_i, room, &mut memory);
     clock.end(rt, "lay");
-    time_rounds(
-        rt,
-        clock,
-        n,
-        &mut memory.pe,
-        &mut memory.words.iw,
-        &mut memory.len,
-        free,
-        room,
-    )
+    time_rounds(rt, clock, n, size, &mut memory, free, room)
 }
 
 /// Eliminates and lists as `time_elimination`, in words as wide as `order` takes them.
