@@ -209,28 +209,26 @@ fn lines_of(rt: &HostRuntime, numbers: &str, paired: bool) -> Result<String, Fai
     Ok(lines)
 }
 
-/// The option, the numbers of its file, and whether their vertices stand there too.
-static FORMS: [(&str, &str, bool); 4] = [
-    ("--with", ROWS, false),
-    ("--with-inverse", PLACES, false),
-    ("--with", PLACES, true),
-    ("--with-inverse", PLACES, true),
-];
-
 /// The first of the orders, read from 0 on, by its places, and as the vertices and their places: it has its own needs.
 #[test]
 fn orders_in_each_form(rt: HostRuntime) -> Result<(), Fail> {
     let folder = make_folder(&rt)?;
     let with = within(&rt, folder.as_str(), "form")?;
-    for (option, numbers, paired) in &FORMS {
-        fs::write(
-            &rt,
-            with.as_str(),
-            lines_of(&rt, numbers, *paired)?.as_str(),
-        )?;
-        let words = ["order", "-", "--compare", option, with.as_str()];
+    let with = with.as_str();
+    for (option, numbers, paired) in [
+        ("--with", ROWS, false),
+        ("--with-inverse", PLACES, false),
+        ("--with", PLACES, true),
+        ("--with-inverse", PLACES, true),
+    ] {
+        let lines = lines_of(&rt, numbers, paired)?;
+        fs::write(&rt, with, lines.as_str())?;
+        let words = ["order", "-", "--compare", option, with];
         let end = run_at_desk(&rt, &words, TWENTY, 0, Broken::Neither)?;
-        check!(&rt; end.status == 0 && end.told.contains("89 as it stands, 55 ordered, 55 by --with\n"));
+        let is_told = end
+            .told
+            .contains("89 as it stands, 55 ordered, 55 by --with\n");
+        check!(&rt; end.status == 0 && is_told);
     }
     fs::remove_dir_all(&rt, folder.as_str())?;
     Ok(())
