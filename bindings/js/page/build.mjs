@@ -36,7 +36,7 @@ function joined(files) {
 /** The contracts of the calls as their source has them, without the bodies. */
 function contracts() {
   const text = readFileSync(join(here, "../../../crates/amd_bare/src/int32.rt"), "utf8");
-  const found = [...text.matchAll(/^((?:\/\/\/.*\n)+)#\[unsafe\(no_mangle\)\]\n(pub extern "C" fn [^{]*\n    ensures \{[^}]*\})\n\{$/gm)];
+  const found = [...text.matchAll(/^((?:\/\/\/.*\n)+)#\[unsafe\(no_mangle\)\]\n(pub extern "C" fn \w+_within_i32[^{]*\n    ensures \{[^}]*\})\n\{$/gm)];
   if (found.length !== 4) throw new Error("the contracts of the four calls are not found");
   return found.map(([, words, contract]) => words + contract).join("\n\n").replaceAll("&", "&amp;").replaceAll("<", "&lt;");
 }
