@@ -75,14 +75,9 @@ impl Read for Endless<'_> {
 }
 
 /// What stands before a line goes on, and the number of that line.
-static FRONTS: [(&[u8], u64); 4] = [
-    (b"CASE 1", 1),
-    (b"", 1),
-    (b"CASE 1\nAP 0", 2),
-    (b"\n\nnothing", 3),
-];
+static FRONTS: [(&[u8], u64); 3] = [(b"CASE 1", 1), (b"CASE 1\nAP 0", 2), (b"\n\nnothing", 3)];
 
-/// Where the line goes on and on, no more is read of it than a line may have, and one block.
+/// Where a line with a word goes on and on, no more is read of it than a line may have, and one block.
 #[test]
 fn a_line_without_an_end(rt: HostRuntime) {
     for (front, line) in &FRONTS {
@@ -112,5 +107,16 @@ fn the_longest_line(rt: HostRuntime) -> Result<(), std::test::Fail> {
     check!(&rt; reading_of(&mut cases) == Reading::Case(1, 0));
     let text = case_of(rt.alloc(), LONGEST_LINE + 1)?;
     check!(&rt; is_refused(rt.alloc(), text.as_slice(), 1, CaseFault::Long));
+    Ok(())
+}
+
+/// A line without a word may have any length.
+#[test]
+fn a_long_line_without_a_word(rt: HostRuntime) -> Result<(), std::test::Fail> {
+    let mut text = Vec::new(rt.alloc());
+    text.resize(LONGEST_LINE + 1, b' ')?;
+    text.extend_from_slice(b"\nCASE 1\nN 0\nAP\nAI\nEND\n")?;
+    let mut cases = CaseReader::new(rt.alloc(), text.as_slice());
+    check!(&rt; reading_of(&mut cases) == Reading::Case(1, 0));
     Ok(())
 }
