@@ -24,6 +24,7 @@ pub mod RoundNumbers
 pub mod Relinked
 pub mod NextView
 pub mod RoundFields
+pub mod RoundFlag
 pub mod RoundLaw
 pub mod LaidAfter
 pub mod LaidElements

@@ -53,7 +53,7 @@ module _ {g : Graph} {dense : ℕ → Bool} {nzaat : ℕ} {aggressive : Bool} {p
       ∙ sym (some_words (elements_in p.iw p.pe p.e_len r.c))
       ∙ ap (λ l. not (is_empty l)) (r.st.view.keeps.elements r.c (pivot_placed r))
 
-  front_length : length (front r) ≡ length (gathered t r.c)
+  pub front_length : length (front r) ≡ length (gathered t r.c)
   front_length = ap length (front_here r ∙ standing.front_is g dense nzaat p t s r.st r.c (pivot_placed r))
 
   pub packed_is : v.n_cmp_a ≡ p.n_cmp_a + cond (is_packed p t r.c) 1 0

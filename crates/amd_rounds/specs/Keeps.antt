@@ -1,5 +1,5 @@
 -- A workspace keeps the lists of an elimination, and stands for a state of it.
-use Rattle.std.specs.Prelude.{ℕ, Bool, true, false, List, ◌≡◌, ◌⊎◌, ◌+◌, ◌==◌, ◌&&◌, not, cond, nat_lt}
+use Rattle.std.specs.Prelude.{ℕ, Bool, true, false, List, ◌≡◌, ◌⊎◌, ◌≤◌, ◌+◌, ◌==◌, ◌&&◌, not, cond, max, nat_lt}
 use Rattle.std.specs.Prelude.{length, filter, reverse}
 use Rattle.amd_model.specs.Graph.{Graph}
 use Rattle.amd_model.specs.State.{State, live, is_class, stands}
@@ -8,6 +8,7 @@ use Rattle.amd_model.specs.Run.{last_state}
 use Rattle.amd_model.specs.Ordering.{Follows}
 use Rattle.amd_model.specs.Quotient.{QuotientGraph, is_empty, pivot, gathered, next}
 use Rattle.amd_round_laws.specs.Keeps as views
+use Rattle.amd_words.specs.Words.{num}
 use Rattle.amd_lists.specs.Chains.{DegreeLists}
 use Rattle.amd_lists.specs.Layout.{has_list}
 use Rattle.amd_rounds.specs.Workspaces.{Workspace, view_of}
@@ -40,6 +41,24 @@ IsRound aggressive old new = (g : Graph) (dense : ℕ → Bool) (nzaat : ℕ) (t
     (is_empty t.placed ≡ false) × ((u : State) × StepAt g aggressive (pivot t.bound t.placed) s u
     × Stands g dense nzaat new (next aggressive t) u)
     × (new.n_cmp_a ≡ old.n_cmp_a + cond (is_packed old t (pivot t.bound t.placed)) 1 0)
+
+-- a flag once it is renewed: itself where there is room below the greatest cell for a count of the rows above it, else 2
+abbrev pub renewed_flag : ℕ → ℕ → ℕ → ℕ
+renewed_flag most_cell rows flag = cond (nat_lt (flag + rows) most_cell) flag 2
+
+-- the flag before the classes of a front are compared: renewed, risen by the greatest border so far, and renewed again
+abbrev pub compared_flag : ℕ → Workspace → Workspace → ℕ
+compared_flag most_cell old new =
+    renewed_flag most_cell (length old.w) (renewed_flag most_cell (length old.w) old.flag + new.most)
+
+-- from there the flag rises by 1 for each list that is spread, for no more of them than the new element has classes; the
+-- greatest border so far counts that of the new element
+abbrev pub RaisesFlagInRound : ℕ → Workspace → Workspace → Type 0
+RaisesFlagInRound most_cell old new = (g : Graph) (dense : ℕ → Bool) (nzaat : ℕ) (t : QuotientGraph) (s : State) →
+    Stands g dense nzaat old t s →
+    (compared_flag most_cell old new ≤ new.flag)
+    × (new.flag ≤ compared_flag most_cell old new + length (gathered t (pivot t.bound t.placed)))
+    × (new.most ≡ max old.most (num new.degree (pivot t.bound t.placed)))
 
 -- whatever lists and state the old workspace stands for, the new one stands for lists and a state some rounds later
 abbrev pub AreRounds : Bool → Workspace → Workspace → Type 0

@@ -1,5 +1,5 @@
 // Compaction of a workspace: its live lists move down, so that the words behind them are free. Source: Amestoy, Davis
-// and Duff 1996 (garbage collection). Called by `pivot`, where a new element would pass the end.
+// and Duff 1996 (garbage collection).
 
 ghost use Rattle.std.specs.Prelude.{ℕ, ◌≡◌, length};
 ghost use Rattle.amd_elements.specs.Compaction.{Compacts};

@@ -1,6 +1,6 @@
 // The beginning of a round: the pivot is chosen, and becomes an element, in the place of its own list or behind all
-// lists. Source: Amestoy, Davis and Duff 1996 (element formation). Called by `round`. A slice in a
-// field of `Work` is lent for writing also where a part only reads it, as `round` does.
+// lists. Source: Amestoy, Davis and Duff 1996 (element formation). A slice in a field of `Work` is lent for writing
+// also where a part only reads it, as `round` does.
 
 ghost use Rattle.std.specs.Prelude.{ℕ, ◌<◌, ◌≡◌, pos, length, true};
 ghost use Rattle.amd_words.specs.Words.{is_place, place, word};

@@ -1,14 +1,14 @@
 // The rounds of an elimination in one workspace. A round chooses a pivot and makes its element (`pivot`), turns the
 // classes of its front over to it, merges those that are alike, and places what is left by new bounds. Source: Amestoy,
-// Davis and Duff 1996 and 2004. Called by `running` of the crate `amd_engine`. A slice in a field of `Work` is lent for
-// writing also where a part only reads it, since it cannot be lent again for reading from there.
+// Davis and Duff 1996 and 2004. A slice in a field of `Work` is lent for writing also where a part only reads it, since
+// it cannot be lent again for reading from there.
 
 ghost use Rattle.std.specs.Prelude.{ℕ, ◌<◌, ◌≡◌, ◌≤◌, ◌+◌, ◌^◌, ◌⊎◌, length, true, false, Bool};
 ghost use Rattle.amd_model.specs.Graph.{Graph};
 ghost use Rattle.amd_model.specs.Quotient.{QuotientGraph};
 ghost use Rattle.amd_model.specs.State.{State};
 ghost use Rattle.amd_words.specs.Words.{is_place, num, start, word};
-ghost use Rattle.amd_rounds.specs.Keeps.{AreRounds, IsRound, NoRowIsLive, Stands};
+ghost use Rattle.amd_rounds.specs.Keeps.{AreRounds, IsRound, NoRowIsLive, RaisesFlagInRound, Stands};
 ghost use Rattle.amd_rounds.specs.Laid.{IsNarrow, IsSized};
 ghost use Rattle.amd_rounds.specs.Parts.{EndsFront, MergesFront, RaisesFlag, TurnsOver};
 ghost use Rattle.amd_rounds.specs.Premises.{CanEnd, CanMerge, CanTurn};
@@ -158,6 +158,7 @@ pub fn round<S: Signed, P: Signed, U: Unsigned>(work: &mut Work<'_, '_, S, P, U>
         Stands g dense nzaat (workspace_of work.old) t s }
     requires left { 0 < work.old.live }
     ensures round { IsRound control.now.aggressive (workspace_of work.old) (workspace_of work.new) }
+    ensures flag { RaisesFlagInRound U.MOST (workspace_of work.old) (workspace_of work.new) }
     ensures unpacked { work.old.free + work.old.live ≤ length work.old.iw.now → work.new.n_cmp_a ≡ work.old.n_cmp_a }
     ensures fewer { work.new.live < work.old.live }
     ensures long { (length work.new.iw.now ≡ length work.old.iw.now) ×

@@ -8,6 +8,7 @@ use Rattle.amd_rounds.proofs.Mergeable.{rows_live, can_merge}
 use Rattle.amd_rounds.proofs.Ending.{can_end}
 use Rattle.amd_rounds.proofs.RoundNumbers.{live_less, unpacked}
 use Rattle.amd_rounds.proofs.JoinedRound.{is_round}
+use Rattle.amd_rounds.proofs.RoundFlag.{raises_flag}
 use Rattle.amd_rounds.proofs.Rounds.{loans_then}
 use Rattle.amd_rounds.proofs.Begun as begun
 use Rattle.amd_rounds.proofs.round.round.Goals as goal
@@ -72,6 +73,11 @@ pub returns-clause-round : goal.returns-clause-round
 returns-clause-round g c =
     is_round (let f = c.requires.wide in let top = g.met.S.Signed.narrow in omega (arith, f, top)) c.pick-me.ensures.picks
     c.begin-element.ensures.begins c.turn_over-gone.ensures.turns c.merge_alike.ensures.merges c.end_front.ensures.ends
+
+pub returns-clause-flag : goal.returns-clause-flag
+returns-clause-flag g c =
+    raises_flag c.pick-me.ensures.picks c.begin-element.ensures.begins c.turn_over-gone.ensures.turns
+    c.merge_alike.ensures.merges c.merge_alike.ensures.flag c.end_front.ensures.ends
 
 pub returns-clause-fewer : goal.returns-clause-fewer
 unfolding half
