@@ -1,5 +1,5 @@
 //! The edges of a matrix: the walk that meets each edge of a pattern once, and the lists of neighbours with which the
-//! plain engine starts. Called by the crates `amd_input`, `amd_workspace` and `amd_plain`.
+//! plain engine starts.
 #![tactic(auto)]
 
 pub mod lists;

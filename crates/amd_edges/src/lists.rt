@@ -1,6 +1,5 @@
 // The lists of the neighbours of each row, in a vector for each row, in the order in which the walk over the edges
-// meets those of its row. Source: Amestoy, Davis and Duff 2004. Called by `plain_1` of the crate `amd_plain` (the
-// engine in place has its lists from `laying` of the crate `amd_workspace`).
+// meets those of its row. Source: Amestoy, Davis and Duff 2004.
 
 ghost use Rattle.std.specs.Prelude.{◌≡◌, ◌<◌, ◌≤◌, ℕ, [], pos, map, length, slice_index, slice_index_or, IfOk};
 ghost use Rattle.std.specs.Vec.{vec_capacity};

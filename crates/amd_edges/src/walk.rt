@@ -1,8 +1,7 @@
 // A walk over the edges of a matrix: each edge is met once, whether the pattern holds it once or twice, and a visitor
 // is told both of its arcs. For each column in turn its upper entries are read, and with each of them the lower entries
 // of that row's own column that come before; a pointer of each column says how far it was read. Source: Amestoy, Davis
-// and Duff 2004 (the forming of A + A'). Called by `aat` of the crate `amd_input`, by `laying` of `amd_workspace`, and
-// by `lists`.
+// and Duff 2004 (the forming of A + A').
 
 ghost use Rattle.std.specs.Prelude.{◌≡◌, ◌<◌, ◌≤◌, ◌+◌, ◌++◌, ◌∷◌, ℕ, Bool, List, [], true, false, pos, map, length};
 ghost use Rattle.std.specs.Prelude.{slice_index};

@@ -1,6 +1,6 @@
 // The lists around a pivot: those of the elements that it lists, and behind them what its own list names as variables.
 // One walk goes over them, list after list, and a visitor takes the words of each. Source: Amestoy, Davis and Duff 1996
-// (element formation). Called by `element` and `room`.
+// (element formation).
 
 ghost use Rattle.std.specs.Prelude.{ℕ, [], ◌≡◌, ◌<◌, ◌≤◌, ◌+◌, length};
 ghost use Rattle.amd_words.specs.Words.{rows, word};

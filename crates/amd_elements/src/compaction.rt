@@ -1,7 +1,6 @@
 // Compaction: the lists of the workspace move down, so that no word lies between them. The first word of each list
 // makes room for a mark of its row, so that one pass over the words meets the lists in the order of their places.
-// Source: Amestoy, Davis and Duff 1996 (garbage collection). Called by `compaction` of
-// the crate `amd_rounds`.
+// Source: Amestoy, Davis and Duff 1996 (garbage collection).
 
 ghost use Rattle.std.specs.Prelude.{◌+◌, ◌≡◌, ◌≤◌, pos, length, slice_set};
 ghost use Rattle.amd_words.specs.Words.{flip_of, start, word};

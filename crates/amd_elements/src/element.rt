@@ -1,6 +1,5 @@
 // The list of a new element, built at the free end of the workspace from the lists of its pivot and of the elements
 // that the pivot lists. All other lists stay as they are. Source: Amestoy, Davis and Duff 1996 (element formation).
-// Called by `making`, and `gather` by `own_place`.
 
 ghost use Rattle.amd_words.specs.Words.{classes, rows};
 ghost use Rattle.amd_elements.specs.Element.{Builds, Gathers, IsGathering, front_of};

@@ -1,5 +1,5 @@
-// A pivot that was built behind all lists: its list is written down, and the elements that it lists end in it.
-// Source: Amestoy, Davis and Duff 1996 (element formation and absorption). Called by `beginning`.
+// A pivot that was built behind all lists: its list is written down, and the elements that it lists end in it. Source:
+// Amestoy, Davis and Duff 1996 (element formation and absorption).
 
 ghost use Rattle.std.specs.Prelude.{◌-◌, ◌≡◌, pos, slice_set};
 ghost use Rattle.amd_words.specs.Words.{flip_of};

@@ -1,5 +1,5 @@
 // The list of a new element whose pivot lists no element: it is made in the place of the pivot's list, so it needs no
-// room. Source: Amestoy, Davis and Duff 1996 (element formation in place). Called by `beginning`.
+// room. Source: Amestoy, Davis and Duff 1996 (element formation in place).
 
 ghost use Rattle.std.specs.Prelude.{[], length};
 ghost use Rattle.amd_words.specs.Words.{start};

@@ -1,7 +1,7 @@
 // Whether the list of a new element fits behind all lists, so that the workspace needs no compaction before it. The
 // lengths of the lists around the pivot are tried first; the classes of the new element are counted only where these do
 // not fit. Counts go down from the room that there is, so no sum is formed. Source: Amestoy, Davis and Duff 1996
-// (garbage collection). Called by a round.
+// (garbage collection).
 
 ghost use Rattle.std.specs.Prelude.{[], ◌+◌, ◌-◌, ◌<◌, ◌^◌, ◌∷◌, ◌≡◌, ◌≤◌, length, nat_le};
 ghost use Rattle.amd_words.specs.Words.{classes, rows};

@@ -1,4 +1,4 @@
-// A law on the contract of an engine, the contract of a function with an empty body. Called by: nobody.
+// A law on the contract of an engine, the contract of a function with an empty body.
 
 ghost use Rattle.std.specs.Prelude.{◌≡◌, ℕ, ℤ, Bool, Option, List};
 ghost use Rattle.amd_model.specs.Graph.{Graph};

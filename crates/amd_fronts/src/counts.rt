@@ -1,8 +1,7 @@
 // For each element that a class of the front lists: the rows of its border outside the front. One step for each pair of
 // a class and an element that it lists. A counter is 0 for what is no standing element or class, and below the flag if
 // it was not met. In the same pass the classes leave the lists by bound, and with `aggressive` an element without rows
-// outside ends. Source: Amestoy, Davis and Duff 1996 (approximate external degree, aggressive absorption). Called by
-// `turning`, and the renewal of the flag by `round` of the crate `amd_rounds`.
+// outside ends. Source: Amestoy, Davis and Duff 1996 (approximate external degree, aggressive absorption).
 
 ghost use Rattle.std.specs.Prelude.{ℕ, ◌+◌, ◌<◌, ◌==◌, ◌≡◌, ◌≤◌, cond, length};
 ghost use Rattle.amd_words.specs.Words.{num, rows, size_of};

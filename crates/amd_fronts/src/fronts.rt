@@ -1,6 +1,6 @@
 // The lists and bounds of all classes of a front are renewed, each list in its place. A class that keeps nothing but
 // the new element ends: it goes with the pivot. Source: Amestoy, Davis and Duff 1996 (approximate external degree,
-// element absorption, mass elimination). Called by `turning`.
+// element absorption, mass elimination).
 
 ghost use Rattle.std.specs.Prelude.{ℕ, ◌<◌, ◌≡◌, length, min};
 ghost use Rattle.amd_words.specs.Sides.{lasts};

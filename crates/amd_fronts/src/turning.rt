@@ -1,6 +1,6 @@
 // The classes of the front of a new element are turned over to it: they leave the lists by bound, the rows of other
 // elements outside the front are counted, and each list is renewed, or its class ends. Source: Amestoy, Davis and Duff
-// 1996. Called by: a round.
+// 1996.
 
 ghost use Rattle.amd_fronts.specs.Effects.{Turns};
 ghost use Rattle.amd_fronts.specs.Premises.{CanTurnFront};

@@ -1,5 +1,4 @@
-// Lists of cells that a caller hands in: filled with zeros, added up, and copied to plain numbers. Called by `aat` and
-// `preprocess`.
+// Lists of cells that a caller hands in: filled with zeros, added up, and copied to plain numbers.
 
 ghost use Rattle.std.specs.Prelude.{◌≡◌, ◌<◌, ◌≤◌, ◌^◌, length, replicate, slice_index_or, IfOk, SomeIff};
 ghost use Rattle.std.specs.Vec.{vec_capacity};

@@ -1,7 +1,7 @@
 // The degrees of a symmetric pattern, in one pass over its entries above the diagonal: where each entry has its mirror,
 // a row has as many neighbours as its column has other rows. The columns are read in turn, so the mirrors of the upper
 // entries come in the order in which the lower ones stand, and a pointer of each column says which one is next. Source:
-// Amestoy, Davis and Duff 2004 (the forming of A + A'). Called by `aat`.
+// Amestoy, Davis and Duff 2004 (the forming of A + A').
 
 ghost use Rattle.std.specs.Prelude.{◌≡◌, ◌<◌, ◌≤◌, ◌+◌, ℕ, true, map, length, pos, slice_index, slice_index_or, IfSome};
 ghost use Rattle.std.specs.Vec.{vec_capacity};

@@ -1,6 +1,5 @@
 // Whether an input is a column form, and whether its columns are sorted. The rule is that of the AMD user guide; a
-// fault in a later column wins over a jumbled earlier one. Called by `order`, by `columns` of the crate `amd_symbolic`,
-// and by the crates of the command and of C.
+// fault in a later column wins over a jumbled earlier one.
 
 ghost use Rattle.std.specs.Prelude.{◌≡◌, ◌<◌, ◌≤◌, true, false, length, map};
 ghost use Rattle.amd_types.specs.Statuses.{IsStatusOf};

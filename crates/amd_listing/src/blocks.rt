@@ -1,5 +1,5 @@
 // The blocks of the elements in the order of a listing: which element is listed at each place, and where its block
-// starts among the rows. Source: Amestoy, Davis and Duff 2004. Called by `listing`.
+// starts among the rows. Source: Amestoy, Davis and Duff 2004.
 
 ghost use Rattle.std.specs.Prelude.{◌≡◌, ◌<◌, ◌≤◌, ℕ, List, length, map, slice_index, pos};
 ghost use Rattle.amd_model.specs.Listing.{Tree};

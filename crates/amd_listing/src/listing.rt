@@ -1,6 +1,6 @@
 // The listing at the end of an elimination, and its inverse: the assembly tree in postorder, of each block its other
 // rows rising and then its pivot row, and after all blocks the rows held last, rising. Source: Amestoy, Davis and Duff
-// 2004. Called by `ended` of the crate `amd_engine`.
+// 2004.
 
 ghost use Rattle.std.specs.Prelude.{◌≡◌, ◌<◌, ◌≤◌, ◌+◌, ℕ, List, length, map, pos};
 ghost use Rattle.amd_types.specs.Permutations.{AreInverse};

@@ -1,5 +1,5 @@
 // The rows of a listing: each is put at its place in the block of the element to which its links lead, and those held
-// last behind all blocks; links are shortened on the way. Source: Amestoy, Davis and Duff 2004. Called by `listing`.
+// last behind all blocks; links are shortened on the way. Source: Amestoy, Davis and Duff 2004.
 
 ghost use Rattle.std.specs.Prelude.{◌≡◌, ◌<◌, ◌≤◌, ◌+◌, ℕ, List, true, false, length, map, pos, slice_set};
 ghost use Rattle.amd_model.specs.State.{Home, Gone, gone_at, live_at};

@@ -1,7 +1,5 @@
 // The classes by bound: a list for each bound, linked both ways, with the class that was put in last at its head. The
-// number of rows stands for no row. Source: Amestoy, Davis and Duff 1996 (degree lists). Called by each part of a round
-// in which a class gets or loses its bound, and by the start of an elimination (`starting` of the crate
-// `amd_workspace`).
+// number of rows stands for no row. Source: Amestoy, Davis and Duff 1996 (degree lists).
 
 ghost use Rattle.std.specs.Prelude.{◌≡◌, length};
 ghost use Rattle.amd_lists.specs.Lengths.{row_count};

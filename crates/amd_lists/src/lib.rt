@@ -1,7 +1,6 @@
 //! Lists in one workspace: where each stands (`specs/Layout`), the lists by bound, doubly linked through the sides of
 //! rows (`chains`), and what a list of a class keeps when it is renewed in its place (`renewal`). Source: Amestoy,
-//! Davis and Duff 1996 and 2004. Called by `amd_elements`, `amd_fronts`, `amd_merging`, and by `amd_rounds` and
-//! `amd_workspace` for `chains`.
+//! Davis and Duff 1996 and 2004.
 #![tactic(auto)]
 
 pub mod chains;

@@ -1,5 +1,5 @@
 // The list of one class of a front is renewed in its place: the new element comes in front, and what the new element
-// absorbed or holds itself goes. Source: Amestoy, Davis and Duff 1996 (element absorption). Called by `fronts`.
+// absorbed or holds itself goes. Source: Amestoy, Davis and Duff 1996 (element absorption).
 
 ghost use Rattle.std.specs.Prelude.{◌≡◌, ◌<◌, ◌≤◌, ◌+◌, ◌*◌, ◌^◌, pos, cond, length, nat_lt, slice_set, true};
 ghost use Rattle.amd_model.specs.Figures.{cut};

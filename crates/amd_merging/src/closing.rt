@@ -1,6 +1,5 @@
 // The closing of an element: its list has lost the rows that are no longer classes, and its length, its rows and the
-// rows of its border are written. Source: Amestoy, Davis and Duff 1996 (the arrays of the quotient graph). Called by: a
-// round.
+// rows of its border are written. Source: Amestoy, Davis and Duff 1996 (the arrays of the quotient graph).
 
 ghost use Rattle.amd_merging.specs.Effects.{ClosesElement};
 ghost use Rattle.amd_merging.specs.Premises.{CanClose};

@@ -1,7 +1,7 @@
 // Merging: classes of a new element that keep the same elements and the same variables become one, which the last of
 // them represents. The key of a class is the sum of what it lists, modulo the number of rows. Only classes of one
 // bucket are compared: a bucket is chosen by the lowest bits of a key, or by all of them in a large front. Source:
-// Amestoy, Davis and Duff 1996 (supervariables, found by a hash function). Called by: a round.
+// Amestoy, Davis and Duff 1996 (supervariables, found by a hash function).
 
 ghost use Rattle.std.specs.Prelude.{ℕ, ◌&&◌, ◌<◌, ◌==◌, ◌≡◌, ◌≤◌, negsuc, cond, length, slice_set, true, false};
 ghost use Rattle.std.specs.Prelude.{nat_lt};

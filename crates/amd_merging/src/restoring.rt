@@ -1,6 +1,6 @@
 // The last pass over a front: the marks of its classes are taken off, each class gets its bound and its place in the
 // lists by bound, its bucket is emptied, and the list of the new element keeps the classes alone. Source: Amestoy,
-// Davis and Duff 1996 (restored degree lists). Called by: a round.
+// Davis and Duff 1996 (restored degree lists).
 
 ghost use Rattle.std.specs.Prelude.{◌+◌, ◌-◌, ◌<◌, ◌^◌, ◌≡◌, ◌≤◌, cond, length, slice_set, nat_lt, min};
 ghost use Rattle.amd_words.specs.Sides.{lasts};

@@ -1,6 +1,6 @@
 // Eliminations worked out in full: that the definitions give the values which Amestoy, Davis and Duff's rules give by
-// hand. Source: worked by hand from the rules, and with a plain program that follows them. Called by: nobody, the
-// contracts are the values.
+// hand. Source: worked by hand from the rules, and with a plain program that follows them. The contracts are the
+// values.
 
 ghost use Rattle.std.specs.Prelude.{◌≡◌, pos, negsuc, true, false, [], ◌∷◌, map, Some, None};
 ghost use Rattle.amd_model.specs.Below.{list_below};

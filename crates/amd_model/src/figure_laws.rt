@@ -1,6 +1,5 @@
-// Laws on the figures of a run: none is less than what the columns need, and the entries and the greatest front are
-// at most those of a full matrix. Source: AMD user guide; Amestoy, Davis and Duff 2004. Called by: nobody, the
-// contracts are the laws.
+// Laws on the figures of a run: none is less than what the columns need, and the entries and the greatest front are at
+// most those of a full matrix. Source: AMD user guide; Amestoy, Davis and Duff 2004. The contracts are the laws.
 
 ghost use Rattle.amd_model.specs.Laws.{AtTheEnd, OfEachListing, FiguresAreSmall, Covers};
 

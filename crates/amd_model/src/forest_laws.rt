@@ -1,5 +1,5 @@
-// The law of forests: an elimination of a graph with no cycle fills nothing in. Source: George and Liu 1981.
-// Called by: nobody, the contract is the law.
+// The law of forests: an elimination of a graph with no cycle fills nothing in. Source: George and Liu 1981. The
+// contract is the law.
 
 ghost use Rattle.std.specs.Prelude.{◌≡◌};
 ghost use Rattle.amd_model.specs.Below.{count_below};

@@ -1,5 +1,5 @@
-// Laws on rows held last, fronts, true degrees and bounds, in each state of an elimination. Source: Amestoy, Davis
-// and Duff 1996. Called by: nobody, the contracts are the laws.
+// Laws on rows held last, fronts, true degrees and bounds, in each state of an elimination. Source: Amestoy, Davis and
+// Duff 1996. The contracts are the laws.
 
 ghost use Rattle.amd_model.specs.Laws.{InEachState, LastRowsStay, FrontsArePaths, BoundsMeetDegrees, ClassesAreWhole};
 ghost use Rattle.amd_model.specs.Sound.{IsSound};

@@ -1,5 +1,5 @@
 // Laws on the last state of an elimination and on its listing: the assembly tree, and the columns of the factor.
-// Source: Amestoy, Davis and Duff 2004; George and Liu 1981. Called by: nobody, the contracts are the laws.
+// Source: Amestoy, Davis and Duff 2004; George and Liu 1981. The contracts are the laws.
 
 ghost use Rattle.amd_model.specs.Laws.{AtTheEnd, OfEachListing, DenseAreLast, HasListing, EdgesFollowTree};
 ghost use Rattle.amd_model.specs.Laws.{ColumnsInside, EmptyColumns};

@@ -1,6 +1,5 @@
 // What holds of an ordering: the laws of states, listings, figures and forests, of one run; and that the rules leave
-// one ordering. Source: Amestoy, Davis and Duff 1996 and 2004; George and Liu 1981. Called by: nobody, the contracts
-// are the laws.
+// one ordering. Source: Amestoy, Davis and Duff 1996 and 2004; George and Liu 1981. The contracts are the laws.
 
 ghost use Rattle.amd_model.specs.Ordering.{OneOrdering, OrderingsPromise};
 

@@ -1,6 +1,6 @@
-// Laws of the elimination kept in lists, with its choices made: it starts as an elimination does, its rounds are
-// steps of the relation, and they end. Source: the rules by which the Rust crate `amd` 0.2.2 breaks ties, as tests
-// show, over Amestoy, Davis and Duff 1996. Called by: nobody, the contracts are the laws.
+// Laws of the elimination kept in lists, with its choices made: it starts as an elimination does, its rounds are steps
+// of the relation, and they end. Source: the rules by which the Rust crate `amd` 0.2.2 breaks ties, as tests show, over
+// Amestoy, Davis and Duff 1996. The contracts are the laws.
 
 ghost use Rattle.amd_model.specs.QuotientLaws.{NextIsAStep, RoundsAreARun, StartFits, StartingLists};
 

@@ -1,5 +1,5 @@
-// The law that runs exist, so that what the other laws say of each run is said of something. Source: Amestoy, Davis
-// and Duff 1996. Called by: nobody, the contract is the law.
+// The law that runs exist, so that what the other laws say of each run is said of something. Source: Amestoy, Davis and
+// Duff 1996. The contract is the law.
 
 ghost use Rattle.amd_model.specs.Laws.{RunsExist};
 

@@ -1,5 +1,5 @@
-// Laws that count and sum: the closed forms of the sums of a front, and the sum of the degrees of a graph.
-// Source: AMD user guide (the figures of `info`); George and Liu 1981. Called by: nobody, the contracts are the laws.
+// Laws that count and sum: the closed forms of the sums of a front, and the sum of the degrees of a graph. Source: AMD
+// user guide (the figures of `info`); George and Liu 1981. The contracts are the laws.
 
 ghost use Rattle.std.specs.Prelude.{ℕ, ℤ, List, ◌≡◌, ◌+◌, ◌*◌, ◌-◌, ◌/◌};
 ghost use Rattle.amd_model.specs.Figures.{front_sum, entries, ldl_steps, lu_steps};

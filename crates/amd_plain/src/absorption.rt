@@ -1,7 +1,7 @@
 // What the classes of a new element keep: the rows outside of the elements that they also stand in are counted, and the
 // elements that the new one absorbs and the variables that lie in the new element are left out of their lists. A class
 // that then keeps nothing is mass-eliminated. Source: Amestoy, Davis and Duff 1996 (element absorption, aggressive
-// absorption, mass elimination). Called by `rounds`.
+// absorption, mass elimination).
 
 ghost use Rattle.std.specs.Prelude.{◌≡◌, ◌<◌, ◌^◌, ◌&&◌, ◌-◌, not, cond, nat_eq, nat_lt, ℕ, Some, true};
 ghost use Rattle.std.specs.Prelude.{false, filter, length, sum_by, OnOk, IfOk};

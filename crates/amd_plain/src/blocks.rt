@@ -1,6 +1,5 @@
 // The listing at the end of an elimination: the assembly tree in postorder, of each block its other rows rising and
-// then its pivot row, and after all blocks the dense rows, rising. Source: Amestoy, Davis and Duff 2004. Called by
-// `plain_1`.
+// then its pivot row, and after all blocks the dense rows, rising. Source: Amestoy, Davis and Duff 2004.
 
 ghost use Rattle.std.specs.Prelude.{[], ◌≡◌, ◌^◌, ◌<◌, ◌==◌, ◌&&◌, ◌++◌, ◌∷◌, ℕ, Bool, List, None, Some, cond};
 ghost use Rattle.std.specs.Prelude.{flat_map, map, nat_eq, nat_lt, pos, slice_index, OnOk, false, is_none, not, filter};

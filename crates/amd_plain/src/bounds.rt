@@ -1,5 +1,5 @@
 // The new bounds and lists of the classes of a new element. Source: Amestoy, Davis and Duff 1996 (approximate external
-// degree). Called by `rounds`.
+// degree).
 
 ghost use Rattle.std.specs.Prelude.{◌≡◌, ◌<◌, ◌^◌, ◌≤◌, ◌+◌, ◌∷◌, cond, ℕ, true, length, sum_by, OnOk};
 ghost use Rattle.amd_model.specs.Figures.{cut};

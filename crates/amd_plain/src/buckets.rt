@@ -1,6 +1,6 @@
 // The classes by bound: a list for each bound, in which a class stands behind those that were placed before it. What
 // has got another bound, or is a class no longer, is passed over when it is met. Source: Amestoy, Davis and Duff 1996
-// (degree lists). Called by `rounds`.
+// (degree lists).
 
 ghost use Rattle.std.specs.Prelude.{◌≡◌, ◌<◌, ◌≤◌, ◌⊎◌, ◌++◌, ◌==◌, ℕ, true, filter, length, OnOk};
 ghost use Rattle.amd_model.specs.Quotient.{has};

@@ -1,6 +1,5 @@
 // Marks of rows or elements: a test of numbers that a round sets and clears, and the lists that it gathers with them,
-// each number at its first occurrence. Source: Amestoy, Davis and Duff 1996. Called by `rounds`, `absorption` and
-// `merging`.
+// each number at its first occurrence. Source: Amestoy, Davis and Duff 1996.
 
 ghost use Rattle.std.specs.Prelude.{◌≡◌, ◌<◌, ◌||◌, ◌&&◌, ◌==◌, ◌++◌, not, ℕ, true, false, fold, flat_map, length};
 ghost use Rattle.std.specs.Prelude.{OnOk, IfOk};

@@ -2,7 +2,6 @@
 // them represents. Only classes of one group are compared: groups are made by the sum of the two lists modulo the
 // number of rows. Of two lists the lengths are compared before the entries. A *group* is a hash bucket; the lists of
 // `buckets` are the degree lists. Source: Amestoy, Davis and Duff 1996 (supervariables, found by a hash function).
-// Called by `rounds`.
 
 ghost use Rattle.std.specs.Prelude.{[], ◌≡◌, ◌≢◌, ◌<◌, ◌^◌, ◌&&◌, ◌==◌, not, cond, ℕ, Some, true, filter, length};
 ghost use Rattle.std.specs.Prelude.{sum_by, OnOk, IfOk};

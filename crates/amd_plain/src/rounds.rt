@@ -1,7 +1,7 @@
 // The rounds of an elimination that keeps the lists of the quotient graph (for each class its elements and its
 // variables, for each element its members), and one list of classes for each bound. Source: Amestoy, Davis and Duff
-// 1996 and 2004. Called by `plain_1` of the crate `amd_plain`. The goals of the functions that call many parts are
-// proved by hand (`tactic(none)`): a search through all that the parts say takes minutes.
+// 1996 and 2004. The goals of the functions that call many parts are proved by hand (`tactic(none)`): a search through
+// all that the parts say takes minutes.
 
 ghost use Rattle.std.specs.Prelude.{◌≡◌, ◌<◌, ◌≤◌, ◌+◌, ◌^◌, ℕ, Bool, true, length, sum_by, IfOk, OnOk};
 ghost use Rattle.amd_model.specs.Graph.{Graph};

@@ -1,6 +1,6 @@
 // The start of an elimination: the rows that are neither held last nor empty are classes of their own, each placed
 // under its degree, and the other empty rows are elements. Source: Amestoy, Davis and Duff 1996; the AMD user guide on
-// dense rows. Called by `plain_1` of the crate `amd_plain`.
+// dense rows.
 
 ghost use Rattle.std.specs.Prelude.{◌≡◌, ◌==◌, ◌&&◌, ◌<◌, ℕ, [], not, cond, nat_eq, nat_lt, length, IfOk};
 ghost use Rattle.amd_model.specs.Below.{count_below, list_below};
@@ -12,7 +12,7 @@ use crate::work::{PlainLists, PlainWork, Scratch};
 use amd_types::figures::Figures;
 use std::alloc::{AllocError, Allocator};
 
-/// As many lists as there are rows, with nothing in them. Called by `blocks` of the crate `amd_plain` too.
+/// As many lists as there are rows, with nothing in them.
 pub fn empty_lists<A: Allocator + Copy>(
     alloc: A,
     n: usize,

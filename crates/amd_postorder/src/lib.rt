@@ -1,6 +1,5 @@
 //! Trees in postorder: the numbers of the nodes of one tree, and those of a forest of elements. Their links and numbers
-//! are plain integers, or the figures and words of a workspace. Called by `amd_listing` and `amd_plain`; `amd_engine`
-//! hands it on.
+//! are plain integers, or the figures and words of a workspace.
 #![tactic(auto)]
 
 pub mod link;

@@ -1,6 +1,5 @@
 // Links between nodes: lists of numbers, each of which names a node or none. Two kinds of numbers serve: signed ones,
-// of which those below 0 name none, and the figures of a workspace, of which the greatest one names none. Called by
-// `post_tree` and `postorder`, and by `blocks` of the crate `amd_listing`.
+// of which those below 0 name none, and the figures of a workspace, of which the greatest one names none.
 
 ghost use Rattle.std.specs.Prelude.{◌≡◌, ◌<◌, ℕ, ℤ, List, IfSome, length, negsuc, pos, slice_set};
 ghost use Rattle.amd_model.specs.Input.Columns.{at};

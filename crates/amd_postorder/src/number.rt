@@ -1,5 +1,4 @@
-// Numbers of a forest, read from lists of either of two kinds: plain ones, and the words of a workspace. Called by
-// `postorder`.
+// Numbers of a forest, read from lists of either of two kinds: plain ones, and the words of a workspace.
 
 ghost use Rattle.std.specs.Prelude.{◌≡◌, ◌<◌, ℤ, List, length};
 ghost use Rattle.amd_model.specs.Input.Columns.{at};

@@ -1,5 +1,5 @@
 // The numbering of one tree in postorder, along links to a first child and a next sibling. Source: Amestoy, Davis and
-// Duff 2004. Called by `postorder` for each root.
+// Duff 2004.
 
 ghost use Rattle.std.specs.Prelude.{◌≡◌, ◌+◌, ◌<◌, ◌≤◌, List, ℕ, length};
 ghost use Rattle.amd_postorder.specs.Trees.{FitsTree, ListsTree, NumbersFrom, StaysOutside};

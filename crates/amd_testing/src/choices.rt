@@ -1,4 +1,4 @@
-// The choices of a caller that tests go through. Called by tests alone.
+// The choices of a caller that tests go through.
 
 use amd_types::amd::Control;
 

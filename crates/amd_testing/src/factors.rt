@@ -1,6 +1,5 @@
 // The factor of a matrix whose rows stand in a given order, as the path theorem says it, found slowly: from each row a
-// search through the rows before it alone. No elimination occurs. Rows are named by their places. Called by tests
-// alone.
+// search through the rows before it alone. No elimination occurs. Rows are named by their places.
 
 use crate::plain::{count_at, is_edge};
 use std::alloc::{AllocError, AllocFailed, Allocator};

@@ -1,4 +1,4 @@
-// The families of inputs by name, so that a test goes through a table of them. Called by tests alone.
+// The families of inputs by name, so that a test goes through a table of them.
 
 use crate::inputs::{
     complete, complete_below, cycle, drawn, drawn_with_hub, grid, path, star, star_to_last,

@@ -1,5 +1,5 @@
 // Forests for tests, drawn from a seed, and their listing in postorder as it is said: by recursion, with a search for
-// the children of each node. Called by tests alone.
+// the children of each node.
 
 use crate::inputs::draw;
 use std::alloc::{AllocError, AllocFailed, Allocator};

@@ -1,5 +1,5 @@
 // Families of inputs for tests, in column form with `n` rows and columns: named graphs, and matrices drawn from a seed
-// by a linear congruential generator. Called by tests alone.
+// by a linear congruential generator.
 
 ghost use Rattle.std.specs.Prelude.{◌≤◌};
 

@@ -1,6 +1,6 @@
 // The definitions of an input and of its pattern, written down as they are said and computed slowly, to compare with. A
 // column form, its edges and its degrees are those of the AMD user guide; the dense row parameter is a whole number of
-// thousandths. Called by tests alone.
+// thousandths.
 
 use std::alloc::{AllocError, AllocFailed, Allocator};
 

@@ -1,5 +1,4 @@
-// The record of an ordering as a list of its numbers, so that a test compares all of them at once. Called by tests
-// alone.
+// The record of an ordering as a list of its numbers, so that a test compares all of them at once.
 
 use amd_types::amd::Info;
 

@@ -1,7 +1,6 @@
 // An allocator that counts requests for memory, the blocks that come back, and the most bytes that stand at once; for
 // tests it refuses one request. Code that answers want of memory is run with each request refused in turn, and must
 // leave nothing behind. It also counts the requests of one size, which tell how long a list is that nothing else shows.
-// Called by tests, and by the program that tells the memory of a call.
 
 use std::alloc::{AllocError, Allocator, Global};
 use std::cell::Cell;

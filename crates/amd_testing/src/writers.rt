@@ -1,6 +1,6 @@
 // Writers for tests: one that has a fault at a chosen call, or takes one byte there, and counts its calls, and one that
 // takes one byte a call. Each keeps the bytes that it took. Code that writes is run with the fault at each call in
-// turn. Called by tests alone.
+// turn.
 
 ghost use Rattle.std.specs.Io.{WritesAtMost};
 

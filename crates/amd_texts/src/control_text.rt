@@ -1,5 +1,5 @@
 // The text of what a caller chooses, after the AMD user guide, with the parameter in thousandths. It goes to the writer
-// in pieces, and no memory is asked. Called by users and by the demos.
+// in pieces, and no memory is asked.
 
 ghost use Rattle.std.specs.Prelude.{◌≡◌, ◌<◌, OnOk};
 ghost use Rattle.std.specs.Io.KnownBytes.{Appends};

@@ -1,5 +1,5 @@
 // The text of what the ordering tells, after the AMD user guide. It goes to the writer in pieces, and no memory is
-// asked. Called by users and by the demos.
+// asked.
 
 ghost use Rattle.std.specs.Prelude.{◌≡◌, OnOk, IfSome, IsTrue};
 ghost use Rattle.std.specs.Char.{is_ascii};

@@ -1,6 +1,5 @@
 // What a caller may rest on of copies and comparisons of the types that callers see: a clone is the same value and
-// never fails, and `==` of two statuses says whether they are one. Each is the contract of a function. Called by:
-// nobody.
+// never fails, and `==` of two statuses says whether they are one. Each is the contract of a function.
 
 ghost use Rattle.std.specs.Prelude.{◌≡◌, ◌↔◌, IsTrue};
 

@@ -1,6 +1,5 @@
 // The number of edges above which a row is dense. The rule is that of the AMD user guide, with the parameter in
-// thousandths and a whole root in place of a float's. Called by `amd_2` of the crate `amd_engine`, `plain_1` of
-// `amd_plain`, and `facts` of `amd_report`.
+// thousandths and a whole root in place of a float's.
 
 ghost use Rattle.std.specs.Prelude.{pos};
 ghost use Rattle.amd_model.specs.Input.Dense.{IsRawThreshold, IsThreshold};

@@ -1,5 +1,4 @@
-// Whether a caller marked a row to be held last. Called by `last` of the crate `amd_plain`, and by `starting` of
-// `amd_workspace`.
+// Whether a caller marked a row to be held last.
 
 ghost use Rattle.std.specs.Prelude.{◌≡◌, ◌<◌, ℕ};
 ghost use Rattle.std.specs.Option.{option_copied};

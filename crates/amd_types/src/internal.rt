@@ -1,8 +1,6 @@
-// Reading numbers of the caller's integer type, and making them. Later proofs speak of the integers alone, and never
-// of the laws of generic numbers. Called by `permutations`, by `walk` of the crate `amd_edges`, by the modules of
-// `amd_input`, by `ended` of `amd_engine`, by `order`, and by the crates of the exact factor and of C. Then links,
-// which `amd_postorder` and `blocks` of `amd_plain` use, and `flip`, which tests alone call; and the shares of a front
-// in the figures, called by `figures`: the rule is that of the AMD user guide.
+// Reading numbers of the caller's integer type, and making them. Later proofs speak of the integers alone, and never of
+// the laws of generic numbers. Links and `flip` stand here too, and the shares of a front in the figures, which follow
+// the AMD user guide.
 
 ghost use Rattle.std.specs.Prelude.{◌≡◌, ◌<◌, ◌≤◌, ◌^◌, ◌↔◌, ◌<ℤ◌, ◌-ℤ◌, IsTrue, length, map, negsuc, pos, slice_index};
 ghost use Rattle.std.specs.Prelude.{slice_set};

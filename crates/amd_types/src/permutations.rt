@@ -1,5 +1,4 @@
-// From a listing of the rows to the two permutations that a caller is given. Called by `plain_1` of the crate
-// `amd_plain`, at the end of an ordering; the engine in place writes both in its listing.
+// From a listing of the rows to the two permutations that a caller is given.
 
 ghost use Rattle.std.specs.Prelude.{ℕ, ◌≡◌, ◌<◌, ◌<ℤ◌, IfOk, length, map, pos, slice_index};
 ghost use Rattle.amd_model.specs.Input.Columns.{at};

@@ -1,5 +1,4 @@
 //! Slices of numbers lent as the words and cells of a workspace, with no copy, so that a caller's own lists can be one.
-//! Called by `amd_2` of the crate `amd_engine`.
 #![tactic(auto)]
 
 ghost use Rattle.std.specs.Prelude.{◌≡◌, map};

@@ -1,7 +1,6 @@
 //! The cells of a workspace, each in one of two widths: words, which have a sign, and other cells, which have none. A
 //! contract sees a word as an integer and another cell as a number, so that it reads the same in each width. The two
-//! sides of a row in its list stand together (`sides`). Called by `amd_postorder`, and by each crate of the engine in
-//! place from `amd_lists` to `amd_engine`.
+//! sides of a row in its list stand together (`sides`).
 #![tactic(auto)]
 
 pub mod sides;

@@ -1,7 +1,6 @@
 // What stands on both sides of each row in a list that is linked both ways. The two numbers of a row stand together,
 // since what reads one of them mostly reads or writes the other one soon. A contract sees two lists, one for each side.
-// Source: Amestoy, Davis and Duff 1996 (degree lists). Called by `chains` of the crate `amd_lists`, by `fronts` of
-// `amd_fronts`, by `merging` of `amd_merging`, and by `filling` of `amd_workspace`.
+// Source: Amestoy, Davis and Duff 1996 (degree lists).
 
 ghost use Rattle.std.specs.Prelude.{◌≡◌, ◌<◌, ◌≤◌, ℕ, length, slice_index_or, slice_set};
 ghost use Rattle.amd_words.specs.Sides.{nexts, lasts};

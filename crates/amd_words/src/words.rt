@@ -1,7 +1,6 @@
 // The words of the workspace: places, rows and marks, and the sizes of classes, whose sign marks the classes of a
 // front. All signed numbers are read and written by these short functions alone. Source: Amestoy, Davis and Duff 1996
-// and 2004 (the arrays `pe` and `nv`). Called by most other modules, and by `amd_rounds`, `amd_listing` and
-// `amd_workspace`.
+// and 2004 (the arrays `pe` and `nv`).
 
 ghost use Rattle.std.specs.Prelude.{◌≡◌, ◌<◌, ◌≤◌, ◌+◌, ◌^◌, ◌||◌, ◌&&◌, ◌==◌, not, pos, ℕ, true, false, nat_lt};
 ghost use Rattle.std.specs.Prelude.{length, slice_set};

@@ -1,6 +1,6 @@
 // The lists of a pattern that has no entry above the diagonal, where the rows of a column stand far apart. All columns
 // are written first, and then the earlier neighbours, band by band: of each column in turn only those of one band of
-// rows, so that the words that are written are close together. Our own. Called by `lower`.
+// rows, so that the words that are written are close together. Our own.
 
 ghost use Rattle.std.specs.Prelude.{◌≡◌, ◌<◌, ◌≤◌, ◌+◌, ◌-◌, ℕ, map, length, pos, ◌/◌, ◌^◌};
 ghost use Rattle.std.specs.Vec.{vec_capacity};

@@ -1,7 +1,7 @@
 // The lists of a symmetric pattern. In the order in which the walk over the edges meets its neighbours, the list of a
 // row is its column in ascending order without the diagonal entry, so all lists can be appended one after another. The
 // degrees say whether a pattern is symmetric: it is where no row has more neighbours than its column says. Source:
-// Amestoy, Davis and Duff 2004 (the forming of A + A'). Called by `laying`.
+// Amestoy, Davis and Duff 2004 (the forming of A + A').
 
 ghost use Rattle.std.specs.Prelude.{◌≡◌, ◌<◌, ◌≤◌, ◌+◌, ◌++◌, ℕ, true, map, length, pos, slice_index};
 ghost use Rattle.std.specs.Vec.{vec_capacity};

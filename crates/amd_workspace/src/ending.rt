@@ -1,7 +1,6 @@
 // What the record of an elimination says at its end, made into links and numbers of rows: the row or the parent to
 // which each row is linked, and for each element the number of rows of its front and of its block. Source: Amestoy,
-// Davis and Duff 2004 (the output of the elimination, before the assembly tree is listed). Called by `ended` of the
-// crate `amd_engine`.
+// Davis and Duff 2004 (the output of the elimination, before the assembly tree is listed).
 
 ghost use Rattle.std.specs.Prelude.{ℕ, ◌≡◌, ◌<◌, ◌≤◌, ◌<ℤ◌, pos, negsuc, cond, nat_lt, length, slice_set};
 ghost use Rattle.std.specs.Prelude.{unsigned_abs};

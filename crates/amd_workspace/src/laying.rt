@@ -1,6 +1,6 @@
 // The laying of a workspace: the lists of the neighbours of all rows, one after another from the first word on, each in
 // the order in which the walk over the edges meets those of its row. Source: Amestoy, Davis and Duff 2004 (the forming
-// of A + A'). `lay` is called by `amd_1` of the crate `amd_engine`, `append` by `lower` and `bands` too.
+// of A + A').
 
 ghost use Rattle.std.specs.Prelude.{◌≡◌, ◌<◌, ◌≤◌, ◌+◌, ◌∷◌, [], ℕ, pos, map, length, slice_index, slice_set};
 ghost use Rattle.std.specs.Vec.{vec_capacity};

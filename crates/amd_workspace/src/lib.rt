@@ -1,5 +1,5 @@
 //! What stands before and behind the rounds of an elimination in one workspace: the filling of fresh lists, the laying
-//! of the lists of neighbours, the start, and what the record says at the end. Called by `amd_engine`.
+//! of the lists of neighbours, the start, and what the record says at the end.
 #![tactic(auto)]
 
 pub mod bands;

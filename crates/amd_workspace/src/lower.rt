@@ -2,8 +2,7 @@
 // rising, and then its column below the diagonal. No pass searches for a place. One writes the columns, each behind the
 // room for the earlier neighbours of its row. Another one reads each column back, and adds its row to the earlier
 // neighbours of each row that it names; it follows the first one as soon as it can. Source: Amestoy, Davis and Duff
-// 2004 (the forming of A + A'). Called by `laying`; its parts by `bands` and `copying`, and `push_rows` by `running` of
-// the crate `amd_engine`.
+// 2004 (the forming of A + A').
 
 ghost use Rattle.std.specs.Prelude.{◌≡◌, ◌<◌, ◌≤◌, ◌+◌, ◌-◌, ◌++◌, ◌/◌, ℕ, List, true, map, length, pos, replicate};
 ghost use Rattle.std.specs.Prelude.{slice_index, slice_range};

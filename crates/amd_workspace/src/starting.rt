@@ -1,6 +1,6 @@
 // The start of an elimination in a workspace that is laid: each row that is neither held last nor empty is a class by
 // itself, in the list of its degree, and each other empty row is an element. Source: Amestoy, Davis and Duff 1996; the
-// AMD user guide on dense rows. Called by `running` of the crate `amd_engine`.
+// AMD user guide on dense rows.
 
 ghost use Rattle.std.specs.Prelude.{◌≡◌, ◌<◌, ◌≤◌, ◌+◌, ◌==◌, ◌||◌, ℕ, ℤ, pos, negsuc, true, false, List, ◌∷◌, cond};
 ghost use Rattle.std.specs.Prelude.{nat_lt, length, slice_set};
