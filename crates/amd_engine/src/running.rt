@@ -10,11 +10,12 @@ ghost use Rattle.amd_model.specs.Quotient.{QuotientGraph};
 ghost use Rattle.amd_model.specs.State.{State};
 ghost use Rattle.amd_rounds.specs.Keeps.{AreRounds, Stands};
 ghost use Rattle.amd_rounds.specs.Laid.{AreWideEnough, IsNarrow};
+ghost use Rattle.amd_rounds.specs.Workspaces.{KeepsLoans, workspace_of};
 ghost use Rattle.amd_engine.specs.InPlace.{AreOver, CanRun, KeepsRows, RunsInPlace, StandsAtStart, first_sums};
 ghost use Rattle.amd_engine.specs.InPlace.{workspace_in};
 
 use crate::rows::{Choice, RowLists};
-use amd_rounds::round::eliminate_within;
+use amd_rounds::round::{eliminate, eliminate_within};
 use amd_rounds::work::Work;
 use amd_types::amd::Control;
 use amd_types::figures::Figures;
@@ -108,6 +109,33 @@ fn start<S: Signed, P: Signed, U: Unsigned>(
     }
 }
 
+/// Rounds until no row is live. Only where the workspace has fewer than `room` words they end before a round that might
+/// compact it.
+fn eliminate_up_to<S: Signed, P: Signed, U: Unsigned>(
+    work: &mut Work<'_, '_, S, P, U>,
+    control: &Control,
+    room: usize,
+)
+    requires wide { IsNarrow S.MOST P.MOST U.MOST (length work.old.nv.now) (workspace_of work.old) }
+    requires stands { (g : Graph) × (dense : ℕ → Bool) × (nzaat : ℕ) × (t : QuotientGraph) × (s : State) ×
+        Stands g dense nzaat (workspace_of work.old) t s }
+    ensures rounds { AreRounds control.now.aggressive (workspace_of work.old) (workspace_of work.new) }
+    ensures end { 0 < work.new.live → (length work.old.iw.now < room) ×
+        (length work.old.iw.now < work.new.free + work.new.live) }
+    ensures fewer { 0 < work.old.live → work.old.free + work.old.live ≤ length work.old.iw.now →
+        work.new.live < work.old.live }
+    ensures unpacked { length work.old.iw.now < room → work.new.n_cmp_a ≡ work.old.n_cmp_a }
+    ensures long { (length work.new.iw.now ≡ length work.old.iw.now) ×
+        (length work.new.nv.now ≡ length work.old.nv.now) }
+    ensures loans { KeepsLoans work.old work.new }
+{
+    if work.iw.len() < room {
+        eliminate_within(work, control, room);
+    } else {
+        eliminate(work, control);
+    }
+}
+
 /// Eliminates until no row is live. Where the workspace has fewer than `room` words it ends before a round that might
 /// compact it.
 fn advance<S: Signed, P: Signed, U: Unsigned>(
@@ -148,7 +176,7 @@ fn advance<S: Signed, P: Signed, U: Unsigned>(
         n_dense: numbers.n_dense,
         figures: numbers.figures,
     };
-    eliminate_within(&mut work, control, room);
+    eliminate_up_to(&mut work, control, room);
     Numbers {
         free: work.free,
         live: work.live,
