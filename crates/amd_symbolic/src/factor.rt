@@ -21,6 +21,7 @@ use crate::places::places;
 use amd_types::index::Index;
 use num_traits::PrimInt;
 use std::alloc::{AllocError, AllocFailed, Allocator};
+use thiserror::Error;
 
 /// The columns of a factor below its diagonal, one after another.
 ///
@@ -38,17 +39,21 @@ pub struct Factor<A: Allocator> {
 }
 
 /// Why there is no factor.
-#[derive(PartialEq, Clone, Debug, Drop)]
+#[derive(PartialEq, Clone, Debug, Drop, Error)]
 pub enum Fault {
     /// The input is no column form; `amd::order` tells what that is. `analyze_holding` returns it also where there is
     /// not one mark for each row.
+    #[error("the input is no column form, or has not one mark for each row")]
     NotColumnForm,
     /// The order does not list each row, once.
+    #[error("the order does not list each row, once")]
     NotPermutation,
     /// The factor has more entries than the room that the caller allows.
+    #[error("the factor has more entries than the room that is allowed")]
     RoomTooSmall,
     /// Memory was refused; `analyze` and `analyze_holding` return it also where `amd::order` does, and where its bound
     /// on the entries is `usize::MAX`.
+    #[error("memory was refused")]
     OutOfMemory,
 }
 

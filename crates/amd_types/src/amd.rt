@@ -1,11 +1,12 @@
-// The types that callers see: what they choose, what they are told, and how a call went. Names and fields are those
-// of the Rust crate `amd`; `dense` is a whole number of thousandths. Called by every crate of the ordering.
+// The types that callers see: what they choose, what they are told, and how a call went. Names and fields are those of
+// the Rust crate `amd`; `dense` is a whole number of thousandths.
 
 ghost use Rattle.std.specs.Prelude.{◌≡◌, pos, false, true};
 ghost use Rattle.amd_types.specs.Records.{fresh_info};
 ghost use Rattle.amd_types.specs.declared.amd.Status.TheVariants.{OutOfMemory};
 
 use std::alloc::{AllocError, AllocFailed};
+use thiserror::Error;
 
 /// What a caller chooses.
 ///
@@ -35,16 +36,20 @@ impl Default for Control {
 /// How a call went.
 ///
 /// Source: AMD user guide.
-#[derive(PartialEq, Clone, Debug, Drop)]
+#[derive(PartialEq, Clone, Debug, Drop, Error)]
 pub enum Status {
     /// The input is a column form whose columns are strictly ascending; in the record of `order`, also any input with
     /// `n = 0`.
+    #[error("the input is a column form")]
     OK,
     /// The input is no column form; `order` tells what that is.
+    #[error("the input is no column form")]
     Invalid,
     /// The input is a column form in which some column is out of order or has a duplicate.
+    #[error("the input is a column form with a column out of order or a duplicate")]
     OkButJumbled,
     /// Memory was refused, or the workspace would have more than `isize::MAX` words.
+    #[error("memory was refused")]
     OutOfMemory,
 }
 
