@@ -5,6 +5,7 @@ mod counts;
 mod demo_texts;
 mod demos;
 mod earlier;
+mod errors;
 mod expansion;
 mod jumbled_texts;
 mod large;
