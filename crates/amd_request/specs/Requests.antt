@@ -2,9 +2,10 @@
 use Rattle.std.specs.Prelude.{◌≡◌, ◌||◌, ℕ, ℤ, Bool, true, false, not, Option, None, Some, List, codes, pos}
 use Rattle.std.specs.Prelude.{option_map, unwrap_or}
 use Rattle.std.specs.Borrow.{Bor}
-use Rattle.clap.specs.Simple.{HasMatchesOf, app_of}
+use Rattle.clap.specs.Simple.{HasMatchesOf, app_of, subcommand_rows_of}
 use Rattle.clap.specs.declared.builder.command.Command.{Command}
-use Rattle.clap.specs.Matches.{first_value, found_of, one_text, subcommand_name_of}
+use Rattle.clap.specs.Matches.{first_value, found_of, has_subcommand, one_text, subcommand_name_of}
+use Rattle.clap.specs.Walk.{rows_of}
 use Rattle.clap.specs.declared.parser.matches.ArgMatches.{ArgMatches}
 use Rattle.amd_types.specs.declared.amd.Control.{Control}
 use Rattle.amd_request.specs.Numbers.{SpellsThousandths}
@@ -55,11 +56,19 @@ pub record AreOptionsOf (m : ArgMatches) (o : Options) : Type 0 where
   pub symmetric : IsFlag m (codes "symmetric") o.symmetric
   pub tree_picture : IsText m (codes "tree-picture") o.tree_picture
 
--- the request is that of the subcommand that was found, with the options of some matches
+-- the matches are those of the subcommand that was found: they have its rows
+abbrev pub AreOfSubcommand : ArgMatches → ArgMatches → Type 0
+AreOfSubcommand m found = Some (rows_of (found_of found)) ≡ option_map (λ p. p.1) (subcommand_rows_of m)
+
+-- the options are those of the subcommand that was found
+abbrev pub AsksOptions : ArgMatches → Options → Type 0
+AsksOptions m o = (found : ArgMatches) × AreOfSubcommand m found × AreOptionsOf found o
+
+-- the request is that of the subcommand that was found, with its options
 abbrev pub AsksFor : ArgMatches → Request → Type 0
-AsksFor m (Order o) = (subcommand_name_of m ≡ Some (codes "order")) × ((found : ArgMatches) × AreOptionsOf found o)
-AsksFor m (Analyze o) = (subcommand_name_of m ≡ Some (codes "analyze")) × ((found : ArgMatches) × AreOptionsOf found o)
-AsksFor m (Info o) = (found : ArgMatches) × AreOptionsOf found o
+AsksFor m (Order o) = (subcommand_name_of m ≡ Some (codes "order")) × AsksOptions m o
+AsksFor m (Analyze o) = (subcommand_name_of m ≡ Some (codes "analyze")) × AsksOptions m o
+AsksFor m (Info o) = has_subcommand m ≡ true → AsksOptions m o
 
 -- the request is that of the matches that a command has on the words
 abbrev pub AsksInWords : List (List ℕ) → Request → Type 0

@@ -2,7 +2,7 @@
 // and of `amd_command`, and told by `program` of the latter.
 
 ghost use Rattle.amd_request.specs.Causes.{exit_status};
-ghost use Rattle.std.specs.Prelude.{◌≡◌};
+ghost use Rattle.std.specs.Prelude.{◌≡◌, ◌≤◌};
 
 use crate::list_faults::ListFault;
 use crate::order_faults::OrderFault;
@@ -65,7 +65,8 @@ impl Cause {
     /// The exit status: 1 where memory was refused or an output failed, 2 where an argument or an input is wrong, and 3
     /// where the picture alone failed.
     pub fn exit_status(&self) -> u8
-        ensures { result ≡ exit_status self.now }
+        ensures status { result ≡ exit_status self.now }
+        ensures most { result ≤ 3 }
     {
         match self {
             Cause::Dense | Cause::Open(_) | Cause::Folder | Cause::Twice => 2,
