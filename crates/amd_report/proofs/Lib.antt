@@ -11,6 +11,7 @@ pub mod Entries
 pub mod Items
 pub mod FactorLines
 pub mod Told
+pub mod Turned
 -- Pictures: cells of entries and of fill, runs of cells; the layout of a tree, and its cells.
 pub mod Cells
 pub mod Sifting

@@ -2,7 +2,8 @@
 // had.
 
 ghost use Rattle.std.specs.Prelude.{◌≡◌, ◌-◌, ℕ, List, pos, map, max, fold, count_by, nat_lt, length, IfOk};
-ghost use Rattle.amd_model.specs.Input.Columns.{IsInput, IsSortedInput};
+ghost use Rattle.amd_model.specs.Input.Columns.{IsInput, IsJumbledInput, IsSortedInput};
+ghost use Rattle.amd_types.specs.Statuses.{IsStatusOf};
 ghost use Rattle.amd_report.specs.Degrees.{IsFacts, mean_degree};
 
 use crate::bandwidths::{Bandwidths, widths_of};
@@ -82,6 +83,7 @@ fn facts_of_sorted<A: Allocator + Copy>(
     requires form { IsInput (pos n) (pos n) (map pos a_p.now) (map pos a_i.now) }
     requires sorted { IsSortedInput (pos n) (map pos a_p.now) (map pos a_i.now) }
     ensures facts { IfOk result (IsFacts n control.now.dense (map pos a_p.now) (map pos a_i.now)) }
+    ensures status { IfOk result (λ f. f.info.status ≡ Status.OK) }
     ensures told { IfOk result (λ f. f.duplicates ≡ duplicates) }
 {
     let mut info = Info::new(n);
@@ -114,9 +116,15 @@ fn facts_of_jumbled<A: Allocator + Copy>(
     matrix: &Matrix<A>,
     control: &Control,
 ) -> Result<Facts, Status>
-    requires { IsInput (pos matrix.now.n) (pos matrix.now.n) (map pos matrix.now.a_p.items)
+    requires form { IsInput (pos matrix.now.n) (pos matrix.now.n) (map pos matrix.now.a_p.items)
         (map pos matrix.now.a_i.items) }
-    ensures { IfOk result (λ f. f.duplicates ≡ matrix.now.repeats) }
+    requires jumbled { IsJumbledInput (pos matrix.now.n) (map pos matrix.now.a_p.items)
+        (map pos matrix.now.a_i.items) }
+    ensures facts { IfOk result (IsFacts matrix.now.n control.now.dense (map pos matrix.now.a_p.items)
+        (map pos matrix.now.a_i.items)) }
+    ensures status { IfOk result (λ f. IsStatusOf (pos matrix.now.n) (pos matrix.now.n)
+        (map pos matrix.now.a_p.items) (map pos matrix.now.a_i.items) f.info.status) }
+    ensures told { IfOk result (λ f. f.duplicates ≡ matrix.now.repeats) }
 {
     let (c_p, c_i) = preprocess(alloc, matrix.n, &matrix.a_p, &matrix.a_i)?;
     let mut facts = facts_of_sorted(alloc, matrix.n, &c_p, &c_i, matrix.repeats, control)?;
@@ -139,9 +147,10 @@ pub fn facts_of<A: Allocator + Copy>(
     matrix: &Matrix<A>,
     control: &Control,
 ) -> Result<Facts, Status>
-    ensures facts { IfOk result (λ f. IsSortedInput (pos matrix.now.n) (map pos matrix.now.a_p.items)
-        (map pos matrix.now.a_i.items) → IsFacts matrix.now.n control.now.dense (map pos matrix.now.a_p.items)
-        (map pos matrix.now.a_i.items) f) }
+    ensures facts { IfOk result (IsFacts matrix.now.n control.now.dense (map pos matrix.now.a_p.items)
+        (map pos matrix.now.a_i.items)) }
+    ensures status { IfOk result (λ f. IsStatusOf (pos matrix.now.n) (pos matrix.now.n)
+        (map pos matrix.now.a_p.items) (map pos matrix.now.a_i.items) f.info.status) }
     ensures told { IfOk result (λ f. f.duplicates ≡ matrix.now.repeats) }
 {
     match valid(matrix.n, matrix.n, &matrix.a_p, &matrix.a_i) {

@@ -1,7 +1,7 @@
-// What `info` tells of a drawn pattern that is not symmetric and has rows of degree 0. The numbers come from an
-// independent program that follows the definitions over sets of pairs.
+// What `info` tells of a drawn pattern that is not symmetric and has rows of degree 0, sorted and jumbled. The numbers
+// come from an independent program that follows the definitions over sets of pairs.
 
-use amd::Control;
+use amd::{Control, Status};
 use amd_market::reader::read_matrix;
 use amd_report::description::write_facts;
 use amd_report::facts::facts_of;
@@ -93,5 +93,23 @@ fn shape_of_a_drawn_pattern(rt: HostRuntime) -> Result<(), Fail> {
     let mut members = Vec::new(alloc);
     check!(&rt; write_facts_json(&facts, None, &mut members).is_ok());
     check!(&rt; members.as_slice() == DRAWN_MEMBERS.as_bytes());
+    Ok(())
+}
+
+/// With the two entries of the first column exchanged it is jumbled, and all else that is told is the same.
+#[test]
+fn shape_of_a_jumbled_pattern(rt: HostRuntime) -> Result<(), Fail> {
+    let alloc = rt.alloc();
+    let mut matrix = read_matrix(alloc, DRAWN.as_bytes())?;
+    if matrix.a_i.len() > 1 {
+        matrix.a_i.swap(0, 1);
+    }
+    let Ok(facts) = facts_of(alloc, &matrix, &Control::default()) else {
+        panic!(&rt; "no facts");
+    };
+    check!(&rt; facts.info.status == Status::OkButJumbled);
+    let mut text = Vec::new(alloc);
+    check!(&rt; write_facts(&facts, &mut text).is_ok());
+    check!(&rt; text.as_slice() == DRAWN_FACTS.as_bytes());
     Ok(())
 }
