@@ -1,21 +1,29 @@
 -- What stands in the answers: orderings of what a task has, what the factor needs under two orders, and texts.
-use Rattle.std.specs.Prelude.{◌≡◌, if◌then◌else◌, ℕ, ℤ, Bool, true, false, Option, None, Some, List, [], length, map, option_map, pos}
+use Rattle.std.specs.Prelude.{◌≡◌, if◌then◌else◌, ℕ, ℤ, Bool, true, false, Option, None, Some, List, [], ◌++◌, ◌||◌, length}
+use Rattle.std.specs.Prelude.{map, option_map, pos, string_bytes, MatchOption}
+use Rattle.std.specs.Str.Lossy.{utf8_lossy}
 use Rattle.amd.specs.Answers.{IsOrderingHolding}
-use Rattle.amd_types.specs.declared.amd.Control.{Control}
 use Rattle.amd_types.specs.declared.amd.Info.{Info}
 use Rattle.amd_symbolic.specs.Counted.{IsCountsOf}
 use Rattle.amd_symbolic.specs.declared.needs.Need.{Need}
 use Rattle.amd_report.specs.declared.compare.Needs.{Needs}
 use Rattle.amd_report.specs.declared.compare.Comparison.{Comparison}
+use Rattle.amd_report.specs.declared.facts.Facts.{Facts}
 use Rattle.amd_report.specs.Comparisons.{comparison_lines}
+use Rattle.amd_report.specs.Degrees.{IsFacts}
+use Rattle.amd_report.specs.Descriptions.{facts_text}
 use Rattle.amd_report.specs.FactorJson.{analysis_json}
-use Rattle.amd_report.specs.FactorTexts.{column_lines}
-use Rattle.amd_report.specs.Json.{order_json}
-use Rattle.amd_report.specs.Texts.{row_lines}
+use Rattle.amd_report.specs.FactorTexts.{column_lines, comparison_text}
+use Rattle.amd_report.specs.Json.{facts_json, order_json}
+use Rattle.amd_report.specs.Texts.{figures_text, row_lines}
 use Rattle.amd_request.specs.declared.inputs.Task.{Task}
 use Rattle.amd_request.specs.declared.request.Options.{Options}
+use Rattle.amd_command.specs.declared.answers.Ordered.{Ordered}
+use Rattle.amd_command.specs.declared.answers.Texts.{Texts}
 use Rattle.amd_command.specs.Lists.{ArePlacesIn, number_lines}
 use Rattle.amd_command.specs.Needs.{IsNeedUnder, TellsNeed, standing_rows}
+use Rattle.amd_command.specs.Parts.{TellsFactor, TellsTree}
+use Rattle.amd_command.specs.Permuted.{TellsPermuted}
 
 -- the order is one of the task's matrix, with its control and its marks
 pub record IsOrderingOf (task : Task) (p : List ℕ) (info : Info) : Type 0 where
@@ -58,8 +66,14 @@ TellsColumns true repeats info p sizes parents need text =
     (told : Needs) × TellsNeed need told × (text ≡ analysis_json info repeats told p parents sizes)
 TellsColumns false repeats info p sizes parents need text = text ≡ column_lines p sizes parents (length p)
 
--- what is written first is that of an ordering of the task's matrix, and of the factor under it
-pub record TellsAnalysis (task : Task) (json : Bool) (text : List ℕ) : Type 0 where
+-- the figures that are told of an analysis: each beside its bound; none where it is told as one object
+abbrev pub TellsBounds : Bool → ℕ → Info → Need → List ℕ → Type 0
+TellsBounds true repeats info need figures = figures ≡ []
+TellsBounds false repeats info need figures =
+    (told : Needs) × TellsNeed need told × (figures ≡ utf8_lossy (comparison_text told info repeats))
+
+-- the texts are those of an ordering of the task's matrix, and of the factor under it
+pub record TellsAnalysis (task : Task) (json : Bool) (t : Texts) : Type 0 where
   pub p : List ℕ
   pub info : Info
   pub ordering : IsOrderingOf task p info
@@ -67,4 +81,46 @@ pub record TellsAnalysis (task : Task) (json : Bool) (text : List ℕ) : Type 0 
   pub parents : List (Option ℕ)
   pub need : Need
   pub counted : AreCountsIn task p sizes parents need
-  pub tells : TellsColumns json task.matrix.repeats info p sizes parents need text
+  pub tells : TellsColumns json task.matrix.repeats info p sizes parents need t.lines.items
+  pub bounds : TellsBounds json task.matrix.repeats info need (string_bytes t.figures)
+  pub alone : (t.factor ≡ None) × (t.permuted ≡ None) × (t.tree ≡ None)
+
+-- the lines on what the factor needs under each order, where that is known
+abbrev pub known_lines : Option Comparison → List ℕ
+known_lines None = []
+known_lines (Some compared) = comparison_lines compared
+
+-- the figures of an ordering, and what the factor needs under each order, where that is known
+abbrev pub order_figures : Info → ℕ → Option Comparison → List ℕ
+order_figures info repeats compared = figures_text info repeats ++ known_lines compared
+
+-- the figures that are told of an ordering; none where it is told as one object, or nothing is to be told
+abbrev pub told_figures : Options → Info → ℕ → Option Comparison → List ℕ
+told_figures o info repeats compared =
+    if o.json || o.quiet then [] else utf8_lossy (order_figures info repeats compared)
+
+-- the texts of an ordering of a matrix: its lines or its object, its figures, and each other one exactly where it is
+-- asked for, the permuted matrix where the text of the matrix is given
+pub record AreTextsOf (o : Options) (n : ℕ) (ap ai : List ℕ) (repeats : ℕ) (given : Option (List ℕ)) (ordered : Ordered)
+    (t : Texts) : Type 0 where
+  pub lines : TellsOrder o ordered.info repeats ordered.compared ordered.p.items t.lines.items
+  pub figures : string_bytes t.figures ≡ told_figures o ordered.info repeats ordered.compared
+  pub factor : MatchOption o.factor (t.factor ≡ None) (λ path. MatchOption t.factor ⊥
+      (λ made. TellsFactor n ap ai ordered.p.items made.items))
+  pub permuted : MatchOption given (t.permuted ≡ None) (λ text. MatchOption t.permuted ⊥
+      (λ made. TellsPermuted n ap ai ordered.p.items text made.items))
+  pub tree : MatchOption o.tree (t.tree ≡ None) (λ path. MatchOption t.tree ⊥
+      (λ made. TellsTree n ap ai ordered.p.items made.items))
+
+-- what is written of a matrix, and of what its factor needs where that is known: one object, or lines
+abbrev pub facts_answer : Bool → Facts → Option Comparison → List ℕ
+facts_answer true f compared = facts_json f compared
+facts_answer false f compared = facts_text f ++ known_lines compared
+
+-- what is written is what the matrix is, for a dense row parameter of t thousandths
+pub record TellsFacts (json : Bool) (n : ℕ) (t : ℤ) (ap ai : List ℕ) (repeats : ℕ) (compared : Option Comparison)
+    (text : List ℕ) : Type 0 where
+  pub facts : Facts
+  pub are_facts : IsFacts n t (map pos ap) (map pos ai) facts
+  pub dropped : facts.duplicates ≡ repeats
+  pub tells : text ≡ facts_answer json facts compared

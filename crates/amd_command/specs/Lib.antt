@@ -4,4 +4,5 @@ pub mod DrawnFills
 pub mod Lists
 pub mod Needs
 pub mod Panels
+pub mod Parts
 pub mod Permuted

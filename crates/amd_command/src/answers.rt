@@ -1,10 +1,16 @@
-// The texts of the answers, made in memory before an output is written. What is written first of an answer is told by a
-// contract here; which other parts it has is tested.
+// The texts of the answers, made in memory before an output is written. What each text says, and when there is one, is
+// told by a contract here.
 
-ghost use Rattle.std.specs.Prelude.{◌≡◌, None, IfOk, MatchOption};
-ghost use Rattle.amd_command.specs.Answers.{AreCountsIn, AreNumbers, AreTwoNeeds, IsOrderingOf};
-ghost use Rattle.amd_command.specs.Answers.{TellsAnalysis, TellsColumns, TellsOrder, lines_of};
+ghost use Rattle.std.specs.Prelude.{◌≡◌, None, false, map, pos, string_bytes, IfOk, MatchOption, OnOk};
+ghost use Rattle.std.specs.Option.{option_copied};
+ghost use Rattle.std.specs.Str.Lossy.{utf8_lossy};
+ghost use Rattle.std.specs.Io.KnownBytes.{Appends};
+ghost use Rattle.amd_symbolic.specs.Supernodes.{IsSupernodesOf};
+ghost use Rattle.amd_command.specs.Answers.{AreCountsIn, AreNumbers, AreTwoNeeds, IsOrderingOf, lines_of};
+ghost use Rattle.amd_command.specs.Answers.{AreTextsOf, TellsAnalysis, TellsBounds, TellsColumns, TellsFacts};
+ghost use Rattle.amd_command.specs.Answers.{TellsOrder, order_figures, told_figures};
 ghost use Rattle.amd_command.specs.Needs.{IsNeedUnder};
+ghost use Rattle.amd_command.specs.Parts.{AreParentsUnder, TellsFactor, TellsTree, forest_text};
 ghost use Rattle.amd_command.specs.Permuted.{TellsPermuted};
 
 use crate::analysis::{Analysis, analyze_matrix};
@@ -29,15 +35,10 @@ use amd_request::causes::Cause;
 use amd_request::inputs::Task;
 use amd_request::request::Options;
 use amd_symbolic::needs::Need;
-use amd_symbolic::{columns, counts, supernodes};
+use amd_symbolic::{Supernodes, columns, counts, supernodes};
 use std::alloc::Global;
-
-/// What stands before the parents.
-const PARENTS: &[u8] = b"% the parent of each column, 0 for a root\n";
-
-/// What stands before the supernodes.
-const SUPERNODES: &[u8] =
-    b"% of each supernode its first and its last column, its parent or 0, and its rows below the block\n";
+use std::io;
+use std::io::Write;
 
 /// What an ordering, or an analysis, writes beside the pictures.
 #[derive(Drop)]
@@ -105,10 +106,13 @@ fn factor_text(
     options: &Options<'_>,
     matrix: &Matrix<Global>,
     p: &[usize],
-) -> Result<Option<Vec<u8>>, Cause> {
-    if options.factor.is_none() {
+) -> Result<Option<Vec<u8>>, Cause>
+    ensures { IfOk result (λ made. MatchOption options.now.factor (made ≡ None) (λ path. MatchOption made ⊥ (λ text.
+        TellsFactor matrix.now.n matrix.now.a_p.items matrix.now.a_i.items p.now text.items))) }
+{
+    let Some(_) = options.factor else {
         return Ok(None);
-    }
+    };
     let need = need_in(alloc, matrix, p)?;
     let Ok(room) = usize::try_from(need.lnz) else {
         return Err(Cause::Memory);
@@ -146,34 +150,100 @@ fn permuted_text(
     Ok(Some(pattern_text(alloc, matrix, p)?))
 }
 
+/// The parents of the columns of the factor under an order.
+fn parents_in(
+    alloc: Global,
+    matrix: &Matrix<Global>,
+    p: &[usize],
+) -> Result<Vec<Option<usize>>, Cause>
+    ensures { IfOk result (λ parents. AreParentsUnder matrix.now.n matrix.now.a_p.items matrix.now.a_i.items p.now
+        parents.items) }
+{
+    match counts(alloc, matrix.n, &matrix.a_p, &matrix.a_i, p) {
+        Ok(counted) => Ok(counted.parent),
+        Err(fault) => Err(cause_of(fault)),
+    }
+}
+
+/// The supernodes of the factor under an order.
+fn supernodes_in(
+    alloc: Global,
+    matrix: &Matrix<Global>,
+    p: &[usize],
+) -> Result<Supernodes<Global>, Cause>
+    ensures { IfOk result (λ s. IsSupernodesOf (pos matrix.now.n) (map pos matrix.now.a_p.items)
+        (map pos matrix.now.a_i.items) (map pos p.now) s.first.items s.ptr.items s.rows.items s.parent.items) }
+{
+    match supernodes(alloc, matrix.n, &matrix.a_p, &matrix.a_i, p) {
+        Ok(made) => Ok(made),
+        Err(fault) => Err(cause_of(fault)),
+    }
+}
+
+/// Writes the elimination tree and its supernodes, a heading before each.
+fn write_forest<W: Write>(
+    parents: &[Option<usize>],
+    made: &Supernodes<Global>,
+    out: &mut W,
+) -> io::Result<()>
+    ensures { OnOk result (Appends (W.contents out.old) (W.contents out.new)
+        (forest_text parents.now made.now.first.items made.now.ptr.items made.now.parent.items)) }
+{
+    out.write_all(b"% the parent of each column, 0 for a root\n")?;
+    write_tree(parents, out)?;
+    out.write_all(b"% of each supernode its first and its last column, its parent or 0, ")?;
+    out.write_all(b"and its rows below the block\n")?;
+    write_supernodes(&made.first, &made.ptr, &made.parent, out)?;
+    Ok(())
+}
+
 /// The text of the elimination tree and of its supernodes, where it is asked for.
 fn tree_text(
     alloc: Global,
     options: &Options<'_>,
     matrix: &Matrix<Global>,
     p: &[usize],
-) -> Result<Option<Vec<u8>>, Cause> {
-    if options.tree.is_none() {
+) -> Result<Option<Vec<u8>>, Cause>
+    ensures { IfOk result (λ made. MatchOption options.now.tree (made ≡ None) (λ path. MatchOption made ⊥ (λ text.
+        TellsTree matrix.now.n matrix.now.a_p.items matrix.now.a_i.items p.now text.items))) }
+{
+    let Some(_) = options.tree else {
         return Ok(None);
-    }
-    let counted = counts(alloc, matrix.n, &matrix.a_p, &matrix.a_i, p).map_err(cause_of)?;
+    };
+    let parents = parents_in(alloc, matrix, p)?;
+    let made = supernodes_in(alloc, matrix, p)?;
     let mut text = Vec::new(alloc);
-    text.extend_from_slice(PARENTS)?;
-    write_tree(&counted.parent, &mut text)?;
-    text.extend_from_slice(SUPERNODES)?;
-    let made = supernodes(alloc, matrix.n, &matrix.a_p, &matrix.a_i, p).map_err(cause_of)?;
-    write_supernodes(&made.first, &made.ptr, &made.parent, &mut text)?;
+    write_forest(&parents, &made, &mut text)?;
     Ok(Some(text))
 }
 
 /// The figures of an ordering, and how many duplicates were dropped from the file.
-fn figures_text(alloc: Global, ordered: &Ordered, duplicates: usize) -> Result<String, Cause> {
+fn figures_text(alloc: Global, ordered: &Ordered, duplicates: usize) -> Result<String, Cause>
+    ensures { IfOk result (λ s. string_bytes s ≡
+        utf8_lossy (order_figures ordered.now.info duplicates ordered.now.compared)) }
+{
     let mut figures = Vec::new(alloc);
     write_figures(&ordered.info, duplicates, &mut figures)?;
     if let Some(compared) = ordered.compared {
         write_comparison_lines(compared, &mut figures)?;
     }
     Ok(String::from_utf8_lossy(alloc, &figures)?)
+}
+
+/// The figures that are told of an ordering; none where it is told as one object, or nothing is to be told.
+fn figures_told(
+    alloc: Global,
+    options: &Options<'_>,
+    repeats: usize,
+    ordered: &Ordered,
+) -> Result<String, Cause>
+    ensures { IfOk result (λ s. string_bytes s ≡
+        told_figures options.now ordered.now.info repeats ordered.now.compared) }
+{
+    if options.json || options.quiet {
+        return Ok(String::new(alloc));
+    }
+    figures_text(alloc, ordered, repeats)
 }
 
 /// The numbers that are written of an order: the row at each place, or the place of each row.
@@ -229,15 +299,11 @@ pub fn order_texts(
     text: Option<&[u8]>,
     ordered: &Ordered,
 ) -> Result<Texts, Cause>
-    ensures { IfOk result (λ t. TellsOrder options.now ordered.now.info matrix.now.repeats ordered.now.compared
-        ordered.now.p.items t.lines.items) }
+    ensures { IfOk result (AreTextsOf options.now matrix.now.n matrix.now.a_p.items matrix.now.a_i.items
+        matrix.now.repeats (option_copied text.entry) ordered.now) }
 {
     let lines = first_lines(alloc, options, matrix.repeats, ordered)?;
-    let figures = if options.json || options.quiet {
-        String::new(alloc)
-    } else {
-        figures_text(alloc, ordered, matrix.repeats)?
-    };
+    let figures = figures_told(alloc, options, matrix.repeats, ordered)?;
     Ok(Texts {
         lines,
         figures,
@@ -294,7 +360,10 @@ fn comparison_figures(
     alloc: Global,
     repeats: usize,
     analysis: &Analysis<Global>,
-) -> Result<String, Cause> {
+) -> Result<String, Cause>
+    ensures { IfOk result (λ s. TellsBounds false repeats analysis.now.info analysis.now.counts.need
+        (string_bytes s)) }
+{
     let mut figures = Vec::new(alloc);
     let need = told(&analysis.counts.need);
     write_comparison(&need, &analysis.info, repeats, &mut figures)?;
@@ -303,7 +372,7 @@ fn comparison_figures(
 
 /// Orders what a task has, counts the columns of the factor under the ordering, and makes the texts of that.
 pub fn analysis_texts(alloc: Global, task: &Task, json: bool) -> Result<Texts, Cause>
-    ensures { IfOk result (λ t. TellsAnalysis task.now json t.lines.items) }
+    ensures { IfOk result (TellsAnalysis task.now json) }
 {
     let analysis = analyze_task(alloc, task)?;
     let lines = column_texts(alloc, json, task.matrix.repeats, &analysis)?;
@@ -321,14 +390,17 @@ pub fn analysis_texts(alloc: Global, task: &Task, json: bool) -> Result<Texts, C
     })
 }
 
-/// The text of what a matrix is.
+/// The text of what a matrix is, and of what its factor needs where that is known.
 pub fn facts_text(
     alloc: Global,
     json: bool,
     matrix: &Matrix<Global>,
     control: &Control,
     compared: Option<Comparison>,
-) -> Result<Vec<u8>, Cause> {
+) -> Result<Vec<u8>, Cause>
+    ensures { IfOk result (λ text. TellsFacts json matrix.now.n control.now.dense matrix.now.a_p.items
+        matrix.now.a_i.items matrix.now.repeats compared text.items) }
+{
     let facts = facts_of(alloc, matrix, control)?;
     let mut text = Vec::new(alloc);
     if json {

@@ -3,9 +3,9 @@
 //! pictures, as text or JSON. The program `rimopaku` hands in its arguments.
 //!
 //! What it is asked for and what it reads is the subject of the crate `amd_request`; what it tells, that of
-//! `amd_report`. Here are the orderings, the counts of the factor, its fill in a picture (`drawn`) and the permuted
-//! matrix, with contracts, and what is tested alone: which parts an answer has (`answers`), what a picture has beside
-//! its cells (`picture`), and what is done first (`program`).
+//! `amd_report`. Here are the orderings, the counts of the factor, its fill in a picture (`drawn`), the permuted matrix
+//! and the texts of the answers (`answers`), with contracts, and what is tested alone: what a picture has beside its
+//! cells (`picture`), what is done first, and to which files the texts go (`program`).
 #![tactic(auto)]
 
 pub mod analysis;
