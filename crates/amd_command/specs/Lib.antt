@@ -1,5 +1,6 @@
 -- What the command promises to work out.
 pub mod Answers
+pub mod Compared
 pub mod DrawnFills
 pub mod Lists
 pub mod Needs

@@ -1,7 +1,11 @@
-// Runs what the words of a command line ask for: opens the files, and writes what comes of them. What the functions
-// that it calls read and write is told by their contracts; files and messages are tested alone. Each text is made in
-// memory first, so that nothing is left half written where memory is refused. The pictures come last, since they may
-// want more memory than all before them: where one fails, all else is written.
+// Runs what the words of a command line ask for: opens the files, and writes what comes of them. What is made of what
+// was read is told by contracts; files and messages are tested alone. Each text is made in memory first, so that
+// nothing is left half written where memory is refused. The pictures come last, since they may want more memory than
+// all before them: where one fails, all else is written.
+
+ghost use Rattle.std.specs.Prelude.{◌≤◌, option_map, IfOk, IfSome};
+ghost use Rattle.amd_command.specs.Answers.{AreTextsOf, IsOrderingOf};
+ghost use Rattle.amd_command.specs.Compared.{Compares, ComparesOrdered, TellsInfo, TellsListed, TellsOther};
 
 use crate::answers::{
     Ordered, Texts, analysis_texts, facts_text, order_task, order_texts, two_needs,
@@ -51,7 +55,9 @@ fn other_need<R: Files + Input + Clock + Eprint + AllocGlobal>(
     matrix: &Matrix<Global>,
     path: &str,
     inverse: bool,
-) -> Result<Needs, Cause> {
+) -> Result<Needs, Cause>
+    ensures { IfOk result (TellsListed matrix.now.n matrix.now.a_p.items matrix.now.a_i.items inverse) }
+{
     let listing = read_listing(rt, progress, matrix.n, path)?;
     let are_places = inverse || listing.paired;
     let rows = rows_listed(rt.alloc(), matrix.n, listing.numbers, are_places)?;
@@ -67,7 +73,9 @@ fn named_need<'a, R: Files + Input + Clock + Eprint + AllocGlobal>(
     progress: &Progress,
     options: &Options<'a>,
     matrix: &Matrix<Global>,
-) -> Result<Option<Needs>, Complaint<'a>> {
+) -> Result<Option<Needs>, Complaint<'a>>
+    ensures { IfOk result (TellsOther options.now matrix.now.n matrix.now.a_p.items matrix.now.a_i.items) }
+{
     let (path, inverse) = match (options.with, options.with_inverse) {
         (Some(path), _) => (path, false),
         (None, Some(path)) => (path, true),
@@ -85,7 +93,12 @@ fn compare_orders<'a, R: Files + Input + Clock + Eprint + AllocGlobal>(
     matrix: &Matrix<Global>,
     p: &[usize],
     info: &Info,
-) -> Result<Option<Comparison>, Complaint<'a>> {
+) -> Result<Option<Comparison>, Complaint<'a>>
+    ensures orders { IfOk result (Compares options.now.compare matrix.now.n matrix.now.a_p.items matrix.now.a_i.items
+        p.now info.now) }
+    ensures other { IfOk result (λ made. IfSome made (λ c. TellsOther options.now matrix.now.n matrix.now.a_p.items
+        matrix.now.a_i.items c.other)) }
+{
     if !options.compare {
         return Ok(None);
     }
@@ -230,18 +243,34 @@ fn put_pictures<'a, R: Files + Print + Clock + Eprint + AllocGlobal>(
     Ok(())
 }
 
+/// The ordering of what a task has, and its texts.
+fn order_made<'a, R: Files + Input + Clock + Eprint + AllocGlobal>(
+    rt: &R,
+    options: &Options<'a>,
+    task: &Task,
+) -> Result<(Ordered, Texts), Complaint<'a>>
+    ensures ordering { IfOk result (λ r. IsOrderingOf task.now r.0.p.items r.0.info) }
+    ensures compared { IfOk result (λ r. Compares options.now.compare task.now.matrix.n task.now.matrix.a_p.items
+        task.now.matrix.a_i.items r.0.p.items r.0.info r.0.compared) }
+    ensures texts { IfOk result (λ r. AreTextsOf options.now task.now.matrix.n task.now.matrix.a_p.items
+        task.now.matrix.a_i.items task.now.matrix.repeats (option_map (λ v. v.items) task.now.text) r.0 r.1) }
+{
+    let (p, info) = about(options.file, order_task(rt.alloc(), task))?;
+    let compared = compare_orders(rt, &task.progress, options, &task.matrix, &p, &info)?;
+    let ordered = Ordered { p, info, compared };
+    let given = task.text.as_deref();
+    let texts = order_texts(rt.alloc(), options, &task.matrix, given, &ordered);
+    let texts = about(options.file, texts)?;
+    Ok((ordered, texts))
+}
+
 /// Orders a file. All memory is taken before an output is written, but that for the pictures, which come last.
 fn order_file<'a, R: Runtime + AllocGlobal>(
     rt: &R,
     options: &Options<'a>,
 ) -> Result<(), Complaint<'a>> {
     let task = read_task(rt, options)?;
-    let (p, info) = about(options.file, order_task(rt.alloc(), &task))?;
-    let compared = compare_orders(rt, &task.progress, options, &task.matrix, &p, &info)?;
-    let ordered = Ordered { p, info, compared };
-    let given = task.text.as_deref();
-    let texts = order_texts(rt.alloc(), options, &task.matrix, given, &ordered);
-    let texts = about(options.file, texts)?;
+    let (ordered, texts) = order_made(rt, options, &task)?;
     put_texts(rt, options, &texts)?;
     let told = tell_figures(rt, options.quiet, texts.figures);
     put_pictures(rt, options, &task, &ordered)?;
@@ -268,13 +297,34 @@ fn exact_needs<'a, R: Files + Input + Clock + Eprint + AllocGlobal>(
     options: &Options<'a>,
     matrix: &Matrix<Global>,
     control: &Control,
-) -> Result<Option<Comparison>, Complaint<'a>> {
+) -> Result<Option<Comparison>, Complaint<'a>>
+    ensures orders { IfOk result (ComparesOrdered options.now.compare control.now matrix.now.n matrix.now.a_p.items
+        matrix.now.a_i.items) }
+    ensures other { IfOk result (λ made. IfSome made (λ c. TellsOther options.now matrix.now.n matrix.now.a_p.items
+        matrix.now.a_i.items c.other)) }
+{
     if !options.compare {
         return Ok(None);
     }
     let ordered = order_matrix(rt.alloc(), matrix, control, None).map_err(Cause::from);
     let (p, info) = about(options.file, ordered)?;
     compare_orders(rt, progress, options, matrix, &p, &info)
+}
+
+/// The text of what a matrix is, and of what its factor needs, where that is asked for.
+fn facts_made<'a, R: Files + Input + Clock + Eprint + AllocGlobal>(
+    rt: &R,
+    progress: &Progress,
+    options: &Options<'a>,
+    matrix: &Matrix<Global>,
+    control: &Control,
+) -> Result<Vec<u8>, Complaint<'a>>
+    ensures { IfOk result (λ text. TellsInfo options.now control.now matrix.now.n matrix.now.a_p.items
+        matrix.now.a_i.items matrix.now.repeats text.items) }
+{
+    let compared = exact_needs(rt, progress, options, matrix, control)?;
+    let text = facts_text(rt.alloc(), options.json, matrix, control, compared);
+    about(options.file, text)
 }
 
 /// Tells what a file is.
@@ -286,9 +336,7 @@ fn describe_file<'a, R: Runtime + AllocGlobal>(
     check_inputs(rt, options)?;
     let progress = Progress::begin(rt, options.progress, options.quiet);
     let matrix = about(options.file, read_file(rt, &progress, options.file))?;
-    let compared = exact_needs(rt, &progress, options, &matrix, &control)?;
-    let text = facts_text(rt.alloc(), options.json, &matrix, &control, compared);
-    let text = about(options.file, text)?;
+    let text = facts_made(rt, &progress, options, &matrix, &control)?;
     about(output_name(STANDARD), put_text(rt, STANDARD, &text))
 }
 
@@ -305,7 +353,9 @@ fn answer<'a, R: Runtime + AllocGlobal>(
 }
 
 /// The exit status after the text of the command line's error was shown.
-fn exit_status_of(error: &Error) -> u8 {
+fn exit_status_of(error: &Error) -> u8
+    ensures { result ≤ 2 }
+{
     match error.kind() {
         ErrorKind::DisplayHelp | ErrorKind::DisplayVersion => 0,
         ErrorKind::OutOfMemory => 1,
@@ -348,7 +398,9 @@ pub fn complain_of_word<R: Runtime + AllocGlobal>(rt: &R) -> Result<bool, AllocE
 /// picture could not be drawn or written, but all else is. A message on standard error tells why it is not 0, but for
 /// an output whose reader has gone. With a status of 2, and where memory was refused with a status of 1, no output is
 /// written; lines on standard error that tell of a long file or a large matrix may stand before the message.
-pub fn run<R: Runtime + AllocGlobal>(rt: &R, words: &[String]) -> u8 {
+pub fn run<R: Runtime + AllocGlobal>(rt: &R, words: &[String]) -> u8
+    ensures { result ≤ 3 }
+{
     match request_of(rt.alloc(), words) {
         Ok(request) => match answer(rt, &request) {
             Ok(()) => 0,
