@@ -9,7 +9,8 @@ use Rattle.std.proofs.lemmas.Grind.{flat_map-append}
 use Rattle.std.proofs.lemmas.List.Elements.{All-append, All-take, All-drop, All-map, All-cons, All-weaker}
 use Rattle.amd_market.specs.Headers.{pairs_of}
 use Rattle.amd_market.specs.Boeing.{is_whole_letter, SpellsCounts, SpellsField, SpellsFields, SpellsTable, ArePointers}
-use Rattle.amd_market.specs.Boeing.{FillsLines, behind_fields}
+use Rattle.amd_market.specs.Boeing.{FillsLines, SpellsLine, behind_fields}
+use Rattle.amd_market.specs.declared.formats.Fields.{Fields}
 use Rattle.amd_market.specs.Boeing.{listed_entries, column_entries}
 use Rattle.amd_market.proofs.EntryLemmas.{Inside, entries-inside}
 use Rattle.amd_market.specs.declared.headers.Symmetry.{Symmetry}
@@ -54,39 +55,39 @@ fields-turn width bound line left field rest more ks k front back so_far one h =
     rw append_assoc (so_far (k ∷ ks) (subst (λ z. SpellsField z bound k) front one, subst (λ z. SpellsFields width bound z ks) back h))
 
 -- one line more
-pub table-turn : (per_line width bound count : ℕ) (ls ms : List (List ℕ)) (line : List ℕ) (numbers more ks : List ℕ) →
+pub table-turn : (f : Fields) (bound count : ℕ) (ls ms : List (List ℕ)) (line : List ℕ) (numbers more ks : List ℕ) →
     length numbers < count →
-    ((ns : List (List ℕ)) → (js : List ℕ) → SpellsTable per_line width bound (count - length numbers) ns js →
-    SpellsTable per_line width bound count (ls ++ ns) (numbers ++ js)) →
-    length more ≡ min per_line (count - length numbers) → SpellsFields width bound line more →
-    SpellsTable per_line width bound (count - length (numbers ++ more)) ms ks →
-    SpellsTable per_line width bound count ((ls ++ line ∷ []) ++ ms) ((numbers ++ more) ++ ks)
-table-turn per_line width bound count ls ms line numbers more ks room so_far size fields h =
+    ((ns : List (List ℕ)) → (js : List ℕ) → SpellsTable f bound (count - length numbers) ns js →
+    SpellsTable f bound count (ls ++ ns) (numbers ++ js)) →
+    length more ≡ min f.per_line (count - length numbers) → SpellsLine f bound line more →
+    SpellsTable f bound (count - length (numbers ++ more)) ms ks →
+    SpellsTable f bound count ((ls ++ line ∷ []) ++ ms) ((numbers ++ more) ++ ks)
+table-turn f bound count ls ms line numbers more ks room so_far size fields h =
     let l = length-append numbers more in
-    let left : count - length (numbers ++ more) ≡ (count - length numbers) - min per_line (count - length numbers) =
+    let left : count - length (numbers ++ more) ≡ (count - length numbers) - min f.per_line (count - length numbers) =
     omega (arith, l, size) in
-    let table = subst (λ z. SpellsTable per_line width bound z ms ks) left h in
+    let table = subst (λ z. SpellsTable f bound z ms ks) left h in
     rw (append_assoc ls (line ∷ []) ms, append_assoc numbers more ks)
     (so_far (line ∷ ms) (more ++ ks) (omega arith, (more, (ks, (refl, (size, (fields, table)))))))
 
 -- all lines
-pub table-whole : (per_line width bound count : ℕ) (ls : List (List ℕ)) (numbers : List ℕ) → count - length numbers ≡ 0 →
-    ((ns : List (List ℕ)) → (js : List ℕ) → SpellsTable per_line width bound (count - length numbers) ns js →
-    SpellsTable per_line width bound count (ls ++ ns) (numbers ++ js)) → SpellsTable per_line width bound count ls numbers
-table-whole per_line width bound count ls numbers none so_far =
-    let P : List (List ℕ) → Type 0 = λ z. SpellsTable per_line width bound count z (numbers ++ []) in
-    subst (λ z. SpellsTable per_line width bound count ls z) (append-nil numbers) (subst P (append-nil ls) (so_far [] [] (none, refl)))
+pub table-whole : (f : Fields) (bound count : ℕ) (ls : List (List ℕ)) (numbers : List ℕ) → count - length numbers ≡ 0 →
+    ((ns : List (List ℕ)) → (js : List ℕ) → SpellsTable f bound (count - length numbers) ns js →
+    SpellsTable f bound count (ls ++ ns) (numbers ++ js)) → SpellsTable f bound count ls numbers
+table-whole f bound count ls numbers none so_far =
+    let P : List (List ℕ) → Type 0 = λ z. SpellsTable f bound count z (numbers ++ []) in
+    subst (λ z. SpellsTable f bound count ls z) (append-nil numbers) (subst P (append-nil ls) (so_far [] [] (none, refl)))
 
 -- how many numbers stand on the lines, and that none is too large
-pub table-size : (per_line width bound count : ℕ) (ls : List (List ℕ)) (ks : List ℕ) → SpellsTable per_line width bound count ls ks →
+pub table-size : (f : Fields) (bound count : ℕ) (ls : List (List ℕ)) (ks : List ℕ) → SpellsTable f bound count ls ks →
     length ks ≡ count
-table-size per_line width bound count [] ks h = ap length h.1 ∙ sym h.0
-table-size per_line width bound count (l ∷ ls) ks h =
+table-size f bound count [] ks h = ap length h.1 ∙ sym h.0
+table-size f bound count (l ∷ ls) ks h =
     let here = h.1.0 in
     let behind = h.1.1.0 in
     let are = h.1.1.1.0 in
     let size = h.1.1.1.1.0 in
-    let rest = table-size per_line width bound (count - min per_line count) ls behind h.1.1.1.1.1.1 in
+    let rest = table-size f bound (count - min f.per_line count) ls behind h.1.1.1.1.1.1 in
     let both = length-append here behind in
     ap length are ∙ omega (arith, both, size, rest)
 
@@ -95,16 +96,16 @@ fields-within width bound text [] h = λ i d x. absurd (omega arith)
 fields-within width bound text (k ∷ ks) h =
     All-cons (λ k. k < bound) k ks h.0.1.1.0 (fields-within width bound (drop width text) ks h.1)
 
-pub table-within : (per_line width bound count : ℕ) (ls : List (List ℕ)) (ks : List ℕ) → SpellsTable per_line width bound count ls ks →
+pub table-within : (f : Fields) (bound count : ℕ) (ls : List (List ℕ)) (ks : List ℕ) → SpellsTable f bound count ls ks →
     All (λ k. k < bound) ks
-table-within per_line width bound count [] ks h = subst (λ z. All (λ k. k < bound) z) (sym h.1) (λ i d x. absurd (omega arith))
-table-within per_line width bound count (l ∷ ls) ks h =
+table-within f bound count [] ks h = subst (λ z. All (λ k. k < bound) z) (sym h.1) (λ i d x. absurd (omega arith))
+table-within f bound count (l ∷ ls) ks h =
     let here = h.1.0 in
     let behind = h.1.1.0 in
     let are = h.1.1.1.0 in
     subst (λ z. All (λ k. k < bound) z) (sym are) (All-append (λ k. k < bound) here behind
-    (fields-within width bound l here h.1.1.1.1.1.0)
-    (table-within per_line width bound (count - min per_line count) ls behind h.1.1.1.1.1.1))
+    (fields-within f.width bound (drop f.skipped l) here h.1.1.1.1.1.0)
+    (table-within f bound (count - min f.per_line count) ls behind h.1.1.1.1.1.1))
 
 -- the rows of one column more
 pub column-more : (s : Symmetry) (rows : List ℕ) (i j d : ℕ) → i < length rows →
@@ -172,16 +173,16 @@ sides-end remaining a b h = known (rest_of remaining a) h.took
     known (Some bytes) k = λ sides spells. no-words sides (subst (λ z. SpellsCounts (words (take_through 10 z)) sides) k.0 spells)
 
 -- numbers that fill lines, and those of one line more
-pub fills-more : (per_line width bound : ℕ) (ls : List (List ℕ)) (ks : List ℕ) (line : List ℕ) (more : List ℕ) →
-    FillsLines per_line width bound ls ks → length more ≡ per_line → SpellsFields width bound line more →
-    FillsLines per_line width bound (ls ++ line ∷ []) (ks ++ more)
-fills-more per_line width bound [] ks line more h size fields =
-    subst (λ z. FillsLines per_line width bound (line ∷ []) (z ++ more)) (sym h)
+pub fills-more : (f : Fields) (bound : ℕ) (ls : List (List ℕ)) (ks : List ℕ) (line : List ℕ) (more : List ℕ) →
+    FillsLines f bound ls ks → length more ≡ f.per_line → SpellsLine f bound line more →
+    FillsLines f bound (ls ++ line ∷ []) (ks ++ more)
+fills-more f bound [] ks line more h size fields =
+    subst (λ z. FillsLines f bound (line ∷ []) (z ++ more)) (sym h)
     (more, [], sym (append-nil more), size, fields, refl)
-fills-more per_line width bound (l ∷ ls) ks line more h size fields =
+fills-more f bound (l ∷ ls) ks line more h size fields =
     let here = h.0 in
     let behind = h.1 in
-    let rest = fills-more per_line width bound ls behind line more h.5 size fields in
+    let rest = fills-more f bound ls behind line more h.5 size fields in
     (here, behind ++ more, ap (λ z. z ++ more) h.2 ∙ append_assoc here behind more, h.3, h.4, rest)
 
 -- what stands behind the fields of one number more
@@ -191,11 +192,11 @@ behind-more width text [] k = refl
 behind-more width text (j ∷ ks) k = behind-more width (drop width text) ks k
 
 -- no number was read
-pub table-none : (per_line width bound count : ℕ) (numbers js : List ℕ) (ns : List (List ℕ)) → numbers ≡ [] →
-    SpellsTable per_line width bound (count - length numbers) ns js → SpellsTable per_line width bound count ns (numbers ++ js)
-table-none per_line width bound count [] js ns e h =
-    let same : count - 0 ≡ count = omega arith in subst (λ z. SpellsTable per_line width bound z ns js) same h
-table-none per_line width bound count (x ∷ xs) js ns e h = cc
+pub table-none : (f : Fields) (bound count : ℕ) (numbers js : List ℕ) (ns : List (List ℕ)) → numbers ≡ [] →
+    SpellsTable f bound (count - length numbers) ns js → SpellsTable f bound count ns (numbers ++ js)
+table-none f bound count [] js ns e h =
+    let same : count - 0 ≡ count = omega arith in subst (λ z. SpellsTable f bound z ns js) same h
+table-none f bound count (x ∷ xs) js ns e h = cc
 
 -- the pairs of one column more
 pub listed-more : (s : Symmetry) (ps rows own : List ℕ) (old new : List (ℕ × ℕ)) (j : ℕ) →

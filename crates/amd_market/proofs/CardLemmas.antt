@@ -1,5 +1,6 @@
 -- What the words of a card spell, and that others spell nothing.
-use Rattle.std.proofs.Common.{◌≡◌, ◌<◌, ◌∙◌, ◌*◌, ℕ, zero, suc, pos, Bool, true, false, List, [], ◌∷◌, ◌++◌, length, take, drop}
+use Rattle.std.proofs.Common.{◌≡◌, ◌<◌, ◌∙◌, ◌*◌, ◌+◌, ℕ, zero, suc, pos, Bool, true, false, List, [], ◌∷◌, ◌++◌, length}
+use Rattle.std.proofs.Common.{take, drop, get_or}
 use Rattle.std.proofs.Common.{refl, sym, ap, subst, cond, arith, Option, Some, None, inl, inr}
 use Rattle.std.specs.Prelude.{◌==◌, ◌||◌, All, MatchOption, slice_index}
 use Rattle.std.specs.Char.{to_ascii_lowercase, digit_value}
@@ -12,8 +13,9 @@ use Rattle.std.proofs.lemmas.List.Sums.{fails_before_first}
 use Rattle.std.specs.List.{position, position_or_len}
 use Rattle.amd_lines.specs.Words.{words, SpellsNumber}
 use Rattle.amd_market.specs.Boeing.{is_whole_letter, IsCount, SpellsCounts, SpellsSides, SpellsSizes, SpellsType}
-use Rattle.amd_market.specs.Boeing.{SpellsRepeat, SpellsWidth, SpellsGroup, AreGroups, SpellsFormat, SpellsKind, SpellsLayout}
-use Rattle.amd_market.specs.Boeing.{is_point, is_bracket, bare, pointed}
+use Rattle.amd_market.specs.Boeing.{SpellsRepeat, SpellsWidth, SpellsItem, SpellsGroup, AreGroups, SpellsSkip, SpellsSkipped}
+use Rattle.amd_market.specs.Boeing.{SpellsFormat, SpellsFormats, SpellsKind, joined, kept_byte, depth_behind}
+use Rattle.amd_market.specs.Boeing.{is_point, is_comma, is_bracket, bare, pointed}
 use Rattle.amd_market.specs.Faults.{HasTypeFault, HasCardFault}
 use Rattle.amd_market.specs.declared.headers.Symmetry.{Symmetry}
 use Rattle.amd_market.specs.declared.formats.Layout.{Layout}
@@ -78,17 +80,16 @@ no-sizes line word behind parts none s r c e h = none r c e
     (subst (λ z. SpellsSizes z r c e) (same-rest (words line) _ behind h.word word h.parts parts) h.has_sizes)
 
 -- a fourth line whose first or second word is no format
-pub no-pointer-format : (line first : List ℕ) (behind : List (List ℕ)) → words line ≡ first ∷ behind →
-    ((k w : ℕ) → SpellsFormat first k w → ⊥) → (l : Layout) → SpellsLayout line l → ⊥
-no-pointer-format line first behind parts none l h = none _ _
-    (subst (λ z. SpellsFormat z l.pointers.per_line l.pointers.width)
-    (same-first (words line) _ _ h.first first h.parts parts) h.has_pointers)
+pub no-pointer-format : (ws behind : List (List ℕ)) (first : List ℕ) → ws ≡ first ∷ behind →
+    ((f : Fields) → SpellsFormat first f → ⊥) → (l : Layout) → SpellsFormats ws l → ⊥
+no-pointer-format ws behind first parts none l h = none l.pointers
+    (subst (λ z. SpellsFormat z l.pointers) (same-first ws _ _ h.first first h.parts parts) h.has_pointers)
 
-pub no-row-format : (line first second : List ℕ) (us vs : List (List ℕ)) → words line ≡ first ∷ us → us ≡ second ∷ vs →
-    ((k w : ℕ) → SpellsFormat second k w → ⊥) → (l : Layout) → SpellsLayout line l → ⊥
-no-row-format line first second us vs one two none l h =
-    let rest = same-rest (words line) _ us h.first first h.parts one in none _ _
-    (subst (λ z. SpellsFormat z l.rows.per_line l.rows.width) (same-first us _ _ h.second second (sym rest) two) h.has_rows)
+pub no-row-format : (ws us vs : List (List ℕ)) (first second : List ℕ) → ws ≡ first ∷ us → us ≡ second ∷ vs →
+    ((f : Fields) → SpellsFormat second f → ⊥) → (l : Layout) → SpellsFormats ws l → ⊥
+no-row-format ws us vs first second one two none l h =
+    let rest = same-rest ws _ us h.first first h.parts one in none l.rows
+    (subst (λ z. SpellsFormat z l.rows) (same-first us _ _ h.second second (sym rest) two) h.has_rows)
 
 -- none of the bytes passes
 abbrev pub NoneOf : (ℕ → Bool) → List ℕ → Type 0
@@ -127,6 +128,16 @@ point-foreign = (none, refl, refl)
       where
         at : (x : Bool) → (b == 46) ≡ x → x ≡ false
         at true p = let small = subst (λ z. digit_value z < 10) (eqb-true b 46 p) h in absurd (omega (arith, small))
+        at false p = refl
+
+comma-foreign : IsForeign is_comma
+comma-foreign = (none, refl, refl)
+  where
+    none : (b : ℕ) → digit_value b < 10 → is_comma b ≡ false
+    none b h = at (b == 44) refl
+      where
+        at : (x : Bool) → (b == 44) ≡ x → x ≡ false
+        at true p = let small = subst (λ z. digit_value z < 10) (eqb-true b 44 p) h in absurd (omega (arith, small))
         at false p = refl
 
 bracket-foreign : IsForeign is_bracket
@@ -206,21 +217,17 @@ inner-last (x ∷ t) (y ∷ u) e =
 pub inner-same : (word t u : List ℕ) → word ≡ 40 ∷ (t ++ 41 ∷ []) → word ≡ 40 ∷ (u ++ 41 ∷ []) → t ≡ u
 inner-same word t u h k = let e : t ++ 41 ∷ [] ≡ u ++ 41 ∷ [] = same-rest word _ _ 40 40 h k in inner-last t u e
 
--- the parts of a group between its parentheses
-pub group-parts : (word inner front back : List ℕ) (letter : ℕ) → word ≡ 40 ∷ (inner ++ 41 ∷ []) → inner ≡ front ++ letter ∷ back →
-    to_ascii_lowercase letter ≡ 105 → All (λ b. is_whole_letter b ≡ false) front → (k w : ℕ) → (h : SpellsGroup word k w) →
-    (front ≡ h.front) × (back ≡ h.back)
-group-parts word inner front back letter whole parts low none k w h =
-    let same = inner-same word inner (h.front ++ h.letter ∷ h.back) whole h.parts in
+-- the parts of what says fields
+pub item-parts : (text front back : List ℕ) (letter : ℕ) → text ≡ front ++ letter ∷ back → to_ascii_lowercase letter ≡ 105 →
+    All (λ b. is_whole_letter b ≡ false) front → (k w : ℕ) → (h : SpellsItem text k w) → (front ≡ h.front) × (back ≡ h.back)
+item-parts text front back letter parts low none k w h =
     parted is_whole_letter front h.front back h.back letter h.letter (none-of is_whole_letter front none)
     (repeat-none is_whole_letter letter-foreign h.front k h.repeated)
-    (low-whole letter low) (low-whole h.letter h.is_whole) (sym parts ∙ same)
+    (low-whole letter low) (low-whole h.letter h.is_whole) (sym parts ∙ h.parts)
 
-pub no-group-letter : (word inner : List ℕ) → word ≡ 40 ∷ (inner ++ 41 ∷ []) → All (λ b. is_whole_letter b ≡ false) inner → (k w : ℕ) →
-    SpellsGroup word k w → ⊥
-no-group-letter word inner whole none k w h =
-    let same = inner-same word inner (h.front ++ h.letter ∷ h.back) whole h.parts in
-    none-at is_whole_letter h.front h.back h.letter (subst (NoneOf is_whole_letter) same (none-of is_whole_letter inner none))
+pub no-item-letter : (text : List ℕ) → All (λ b. is_whole_letter b ≡ false) text → (k w : ℕ) → SpellsItem text k w → ⊥
+no-item-letter text none k w h =
+    none-at is_whole_letter h.front h.back h.letter (subst (NoneOf is_whole_letter) h.parts (none-of is_whole_letter text none))
     (low-whole h.letter h.is_whole)
 
 -- where no byte is found that passes, none does, and none before the first that does
@@ -297,32 +304,128 @@ pub pointed-option : (back front digits : List ℕ) (least : ℕ) (o : Option �
 pointed-option back front digits least None parts none d other = λ w h. other w (width-parts back front digits parts none w h).0
 pointed-option back front digits least (Some k) parts none d s = pointed front digits least parts s d
 
--- a format has one group, or more of them
-pub format-option : (word : List ℕ) (o : Option Fields) → ((k w : ℕ) → SpellsGroup word k w → ⊥) →
-    MatchOption o ((k w : ℕ) → AreGroups word k w → ⊥) (λ f. AreGroups word f.per_line f.width) →
-    MatchOption o ((k w : ℕ) → SpellsFormat word k w → ⊥) (λ f. SpellsFormat word f.per_line f.width)
-format-option word None none other = λ k w h. elim h [
-  | inl g ↦ none k w g
-  | inr g ↦ other k w g
-]
-format-option word (Some f) none g = inr g
-
--- a group has one number of fields, and one width
-pub group-same : (word front back : List ℕ) (j v k w : ℕ) → SpellsRepeat front j → SpellsWidth back v →
-    (h : SpellsGroup word k w) → (front ≡ h.front) × (back ≡ h.back) → (j ≡ k) × (v ≡ w)
-group-same word front back j v k w repeated wide h same = (
+-- a text says one number of fields, and one width
+pub item-same : (text front back : List ℕ) (j v k w : ℕ) → SpellsRepeat front j → SpellsWidth back v →
+    (h : SpellsItem text k w) → (front ≡ h.front) × (back ≡ h.back) → (j ≡ k) × (v ≡ w)
+item-same text front back j v k w repeated wide h same = (
   repeat-same front j k repeated (subst (λ z. SpellsRepeat z k) (sym same.0) h.repeated),
   width-same back v w wide (subst (λ z. SpellsWidth z w) (sym same.1) h.wide),
 )
 
-groups-same : (word : List ℕ) (j v k w : ℕ) → SpellsGroup word j v → SpellsGroup word k w → j ≡ k
-groups-same word j v k w g h =
-    (group-same word g.front g.back j v k w g.repeated g.wide h
-    (group-parts word (g.front ++ g.letter ∷ g.back) g.front g.back g.letter g.parts refl g.is_whole
+items-same : (text : List ℕ) (j v k w : ℕ) → SpellsItem text j v → SpellsItem text k w → j ≡ k
+items-same text j v k w g h =
+    (item-same text g.front g.back j v k w g.repeated g.wide h
+    (item-parts text g.front g.back g.letter g.parts g.is_whole
     (all-none is_whole_letter g.front (repeat-none is_whole_letter letter-foreign g.front j g.repeated)) k w h)).0
 
+groups-same : (word : List ℕ) (j v k w : ℕ) → SpellsGroup word j v → SpellsGroup word k w → j ≡ k
+groups-same word j v k w g h =
+    let same = inner-same word g.inner h.inner g.parts h.parts in
+    items-same g.inner j v k w g.item (subst (λ z. SpellsItem z k w) (sym same) h.item)
+
+-- a group is what its parentheses hold
+pub group-option : (word inner : List ℕ) (o : Option Fields) → word ≡ 40 ∷ (inner ++ 41 ∷ []) →
+    MatchOption o ((k w : ℕ) → SpellsItem inner k w → ⊥) (λ f. (f.skipped ≡ 0) × SpellsItem inner f.per_line f.width) →
+    MatchOption o ((k w : ℕ) → SpellsGroup word k w → ⊥) (λ f. (f.skipped ≡ 0) × SpellsGroup word f.per_line f.width)
+group-option word inner None parts none = λ k w h.
+    let same = inner-same word h.inner inner h.parts parts in none k w (subst (λ z. SpellsItem z k w) same h.item)
+group-option word inner (Some f) parts both = (
+  both.0,
+  record {
+    inner = inner;
+    parts = parts;
+    item = both.1;
+  },
+)
+
+-- a format has one group, or more of them, or bytes are skipped before its fields
+pub format-option : (word : List ℕ) (o : Option Fields) → ((k w : ℕ) → SpellsGroup word k w → ⊥) →
+    ((k w : ℕ) → AreGroups word k w → ⊥) →
+    MatchOption o ((s k w : ℕ) → SpellsSkipped word s k w → ⊥) (λ f. SpellsSkipped word f.skipped f.per_line f.width) →
+    MatchOption o ((f : Fields) → SpellsFormat word f → ⊥) (SpellsFormat word)
+format-option word None none no_groups other = λ f h. elim h [
+  | inl g ↦ none f.per_line f.width g.1
+  | inr g ↦ elim g [
+    | inl k ↦ no_groups f.per_line f.width k.1
+    | inr k ↦ other f.skipped f.per_line f.width k
+  ]
+]
+format-option word (Some f) none no_groups skipped = inr (inr skipped)
+
+-- what says that bytes are skipped has one number before its last letter
+last-same : (f g : List ℕ) (l m : ℕ) → f ++ l ∷ [] ≡ g ++ m ∷ [] → (f ≡ g) × (l ≡ m)
+last-same [] [] l m e = (refl, cc)
+last-same [] (y ∷ g) l m e = absurd (short g (let rest : [] ≡ g ++ m ∷ [] = cc in rest))
+  where
+    short : (v : List ℕ) → [] ≡ v ++ m ∷ [] → ⊥
+    short [] h = cc
+    short (z ∷ v) h = cc
+last-same (x ∷ f) [] l m e = absurd (short f (let rest : f ++ l ∷ [] ≡ [] = cc in rest))
+  where
+    short : (v : List ℕ) → v ++ l ∷ [] ≡ [] → ⊥
+    short [] h = cc
+    short (z ∷ v) h = cc
+last-same (x ∷ f) (y ∷ g) l m e =
+    let same : x ≡ y = cc in
+    let rest : f ++ l ∷ [] ≡ g ++ m ∷ [] = cc in
+    let more = last-same f g l m rest in
+    (rw (same, more.0) refl, more.1)
+
+pub no-skip-empty : (text : List ℕ) → text ≡ [] → (s : ℕ) → SpellsSkip text s → ⊥
+no-skip-empty text e s h = short h.front (sym e ∙ h.parts)
+  where
+    short : (v : List ℕ) → [] ≡ v ++ h.letter ∷ [] → ⊥
+    short [] k = cc
+    short (z ∷ v) k = cc
+
+pub skip-parts : (text front : List ℕ) (letter : ℕ) → text ≡ front ++ letter ∷ [] → (s : ℕ) → (h : SpellsSkip text s) →
+    (front ≡ h.front) × (letter ≡ h.letter)
+skip-parts text front letter parts s h = last-same front h.front letter h.letter (sym parts ∙ h.parts)
+
+pub skip-option : (text front : List ℕ) (letter : ℕ) (o : Option ℕ) → text ≡ front ++ letter ∷ [] → to_ascii_lowercase letter ≡ 120 →
+    MatchOption o ((k : ℕ) → SpellsNumber front (pos k) → ⊥) (λ k. SpellsNumber front (pos k)) →
+    MatchOption o ((s : ℕ) → SpellsSkip text s → ⊥) (SpellsSkip text)
+skip-option text front letter None parts low none = λ s h.
+    let same = skip-parts text front letter parts s h in none s (subst (λ z. SpellsNumber z (pos s)) (sym same.0) h.number)
+skip-option text front letter (Some s) parts low number = record {
+  front = front;
+  letter = letter;
+  parts = parts;
+  is_skip = low;
+  number = number;
+}
+
+none-append : (p : ℕ → Bool) (f : List ℕ) (l : ℕ) → NoneOf p f → p l ≡ false → NoneOf p (f ++ l ∷ [])
+none-append p [] l h x = (x, tt)
+none-append p (b ∷ f) l h x = (h.0, none-append p f l h.1 x)
+
+skip-comma : (b : ℕ) → to_ascii_lowercase b ≡ 120 → is_comma b ≡ false
+skip-comma b h = at (b == 44) refl
+  where
+    at : (x : Bool) → (b == 44) ≡ x → x ≡ false
+    at true p = let e : to_ascii_lowercase 44 ≡ 120 = subst (λ z. to_ascii_lowercase z ≡ 120) (eqb-true b 44 p) h in cc
+    at false p = refl
+
+skip-none : (text : List ℕ) (s : ℕ) → SpellsSkip text s → NoneOf is_comma text
+skip-none text s h = subst (NoneOf is_comma) (sym h.parts)
+    (none-append is_comma h.front h.letter (number-none is_comma comma-foreign h.front h.number.numeral.1) (skip-comma h.letter h.is_skip))
+
+-- a format with bytes that are skipped is parted at its first comma
+pub skipped-parts : (word inner front back : List ℕ) → word ≡ 40 ∷ (inner ++ 41 ∷ []) → inner ≡ front ++ 44 ∷ back →
+    All (λ b. is_comma b ≡ false) front → (s k w : ℕ) → (h : SpellsSkipped word s k w) → (front ≡ h.front) × (back ≡ h.back)
+skipped-parts word inner front back whole parts none s k w h =
+    let same = inner-same word inner (h.front ++ 44 ∷ h.back) whole h.parts in
+    parted is_comma front h.front back h.back 44 44 (none-of is_comma front none) (skip-none h.front s h.skip) refl refl
+    (sym parts ∙ same)
+
+pub no-skipped-comma : (word inner : List ℕ) → word ≡ 40 ∷ (inner ++ 41 ∷ []) → All (λ b. is_comma b ≡ false) inner → (s k w : ℕ) →
+    SpellsSkipped word s k w → ⊥
+no-skipped-comma word inner whole none s k w h =
+    let same = inner-same word inner (h.front ++ 44 ∷ h.back) whole h.parts in
+    none-at is_comma h.front h.back 44 (subst (NoneOf is_comma) same (none-of is_comma inner none)) refl
+
 -- a format of groups has one front, and one group
-bracket-first : (inner : List ℕ) (k w : ℕ) → (h : SpellsGroup inner k w) → inner ≡ 40 ∷ ((h.front ++ h.letter ∷ h.back) ++ 41 ∷ [])
+bracket-first : (inner : List ℕ) (k w : ℕ) → (h : SpellsGroup inner k w) → inner ≡ 40 ∷ (h.inner ++ 41 ∷ [])
 bracket-first inner k w h = h.parts
 
 pub groups-parts : (word text front inner : List ℕ) → word ≡ 40 ∷ (text ++ 41 ∷ []) → text ≡ front ++ inner → slice_index inner 0 ≡ 40 →
@@ -350,3 +453,11 @@ groups-count word front inner g i v k w repeated group h same =
     let one = repeat-same front g h.groups repeated (subst (λ z. SpellsRepeat z h.groups) (sym same.0) h.has_groups) in
     let two = groups-same inner i v h.each w group (subst (λ z. SpellsGroup z h.each w) (sym same.1) h.group) in
     h.counted ∙ rw (one, two) refl
+
+-- what is kept of one byte more
+pub joined-turn : (line : List ℕ) (k depth d : ℕ) → k < length line →
+    joined depth (drop k line) ≡ kept_byte depth (get_or line k d) ++ joined (depth_behind depth (get_or line k d)) (drop (k + 1) line)
+joined-turn [] k depth d h = absurd (omega (arith, h))
+joined-turn (b ∷ bs) zero depth d h = refl
+joined-turn (b ∷ bs) (suc k) depth d h =
+    let e : suc k + 1 ≡ suc (k + 1) = omega arith in rw e (joined-turn bs k depth d (omega (arith, h)))

@@ -6,7 +6,7 @@ use Rattle.amd_lines.specs.Lines.{telling, percent}
 use Rattle.amd_market.specs.Arrays.{array_places, column_places, first_row}
 use Rattle.amd_market.specs.Files.{TakesEntries, TakesValues}
 use Rattle.amd_market.specs.Stops.{Stop, after, EntryStops, ValueStops, EntriesStop, ValuesStop}
-use Rattle.amd_market.specs.Faults.{HasFieldsFault, IsOfMachine}
+use Rattle.amd_market.specs.Faults.{HasLineFault, IsOfMachine}
 use Rattle.amd_market.specs.Stops.{CardStops, at_line}
 use Rattle.amd_market.specs.Stops.{TableStop, PointersStop, ColumnsStop, in_table, behind_table, in_pointers, in_rows}
 use Rattle.amd_market.specs.declared.headers.Field.{Field}
@@ -142,7 +142,7 @@ table-behind listed fields count bound ls before s h = record {
   numbers = h.numbers;
   full = h.full;
   few = h.few;
-  stops = subst (λ z. CardStops (HasFieldsFault listed fields.width (min fields.per_line (count - length h.numbers)) bound) z (after ls s))
+  stops = subst (λ z. CardStops (HasLineFault listed fields (min fields.per_line (count - length h.numbers)) bound) z (after ls s))
       (sym (append_assoc ls before h.lines)) (all-more ls (before ++ h.lines) s h.stops);
 }
 
@@ -164,8 +164,8 @@ columns-behind k l ls s (in_rows lines pointers spells are h) =
     in_rows lines pointers spells are (table-behind _ l.rows _ _ ls lines s h)
 
 -- a fault of the numbers of a line
-pub list-stop : (listed : Listed) (width count bound : ℕ) (f : ReadFault) (line : List ℕ) (rest : Option (List ℕ)) (longest : ℕ) →
-    (f ≡ fault.OutOfMemory) ⊎ HasFieldsFault listed width count bound f line → IsOfMachine f ⊎
-    CardStops (HasFieldsFault listed width count bound) [] (record { fault = f; lines = line ∷ []; rest = rest; longest = longest })
-list-stop listed width count bound f line rest longest (inl is) = inl (subst IsOfMachine (sym is) tt)
-list-stop listed width count bound f line rest longest (inr has) = inr (at_line [] line refl refl refl has)
+pub list-stop : (listed : Listed) (fields : Fields) (count bound : ℕ) (f : ReadFault) (line : List ℕ) (rest : Option (List ℕ))
+    (longest : ℕ) → (f ≡ fault.OutOfMemory) ⊎ HasLineFault listed fields count bound f line → IsOfMachine f ⊎
+    CardStops (HasLineFault listed fields count bound) [] (record { fault = f; lines = line ∷ []; rest = rest; longest = longest })
+list-stop listed fields count bound f line rest longest (inl is) = inl (subst IsOfMachine (sym is) tt)
+list-stop listed fields count bound f line rest longest (inr has) = inr (at_line [] line refl refl refl has)

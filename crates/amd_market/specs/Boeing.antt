@@ -1,5 +1,6 @@
 -- The lines of a Harwell-Boeing file, and the entries that its pointers and rows stand for.
-use Rattle.std.specs.Prelude.{◌≡◌, ◌<◌, ◌≤◌, ◌+◌, ◌-◌, ◌*◌, ◌^◌, ◌⊎◌, ◌==◌, ◌||◌, cond, ℕ, pos, zero, suc, Bool, true, List, [], ◌∷◌, ◌++◌}
+use Rattle.std.specs.Prelude.{◌≡◌, ◌<◌, ◌≤◌, ◌+◌, ◌-◌, ◌*◌, ◌^◌, ◌⊎◌, ◌==◌, ◌||◌, ◌&&◌, cond, nat_lt, ℕ, pos, zero, suc}
+use Rattle.std.specs.Prelude.{Bool, true, List, [], ◌∷◌, ◌++◌}
 use Rattle.std.specs.Prelude.{Option, Some, None, length, map, take, drop, min, slice_index, slice_range, flat_map}
 use Rattle.std.specs.Char.{to_ascii_lowercase}
 use Rattle.amd_lines.specs.Words.{words, SpellsNumber}
@@ -9,18 +10,39 @@ use Rattle.amd_market.specs.Columns.{HoldsOnce}
 use Rattle.amd_market.specs.declared.headers.Symmetry.{Symmetry}
 use Rattle.amd_market.specs.declared.headers.Symmetry.TheVariants as kind
 use Rattle.amd_market.specs.declared.cards.Kind.{Kind}
+use Rattle.amd_market.specs.declared.formats.Fields.{Fields}
 use Rattle.amd_market.specs.declared.formats.Layout.{Layout}
 
 -- 'i' and 'I'
 abbrev pub is_whole_letter : ℕ → Bool
 is_whole_letter b = b == 105 || b == 73
 
--- '.' and '('
+-- '.', ',', '(' and ' '
 abbrev pub is_point : ℕ → Bool
 is_point b = b == 46
 
+abbrev pub is_comma : ℕ → Bool
+is_comma b = b == 44
+
 abbrev pub is_bracket : ℕ → Bool
 is_bracket b = b == 40
+
+abbrev pub is_space : ℕ → Bool
+is_space b = b == 32
+
+-- how many parentheses are open behind a byte, behind so many: '(' opens one, and ')' closes one
+abbrev pub depth_behind : ℕ → ℕ → ℕ
+depth_behind depth b = cond (b == 40) (depth + 1) (cond (b == 41) (depth - 1) depth)
+
+-- a byte, or nothing where it is a space in parentheses
+abbrev pub kept_byte : ℕ → ℕ → List ℕ
+kept_byte depth b = cond (is_space b && nat_lt 0 depth) [] (b ∷ [])
+
+-- a text, before which so many parentheses are open, without the spaces that stand in parentheses: Fortran reads a
+-- format as if they were not there
+abbrev pub joined : ℕ → List ℕ → List ℕ
+joined depth [] = []
+joined depth (b ∷ bs) = kept_byte depth b ++ joined (depth_behind depth b) bs
 
 -- how many numbers the front of a format says: it is empty, or their number
 abbrev pub SpellsRepeat : List ℕ → ℕ → Type 0
@@ -34,17 +56,39 @@ pub data SpellsWidth (back : List ℕ) (width : ℕ) : Type 0 where
   pointed : (front digits : List ℕ) → (least : ℕ) → back ≡ front ++ 46 ∷ digits → SpellsNumber front (pos width) →
       SpellsNumber digits (pos least) → SpellsWidth back width
 
--- the word is a format of fields of whole numbers, so many and of so many bytes, as (16I5)
-pub record SpellsGroup (word : List ℕ) (count width : ℕ) : Type 0 where
+-- the text says fields of whole numbers, so many and of so many bytes, as 16I5
+pub record SpellsItem (text : List ℕ) (count width : ℕ) : Type 0 where
   pub front : List ℕ
   pub letter : ℕ
   pub back : List ℕ
-  pub parts : word ≡ 40 ∷ ((front ++ letter ∷ back) ++ 41 ∷ [])
+  pub parts : text ≡ front ++ letter ∷ back
   pub is_whole : to_ascii_lowercase letter ≡ 105
   pub repeated : SpellsRepeat front count
   pub wide : SpellsWidth back width
   pub some : 0 < count
   pub room : 0 < width
+
+-- the word has them in parentheses, as (16I5)
+pub record SpellsGroup (word : List ℕ) (count width : ℕ) : Type 0 where
+  pub inner : List ℕ
+  pub parts : word ≡ 40 ∷ (inner ++ 41 ∷ [])
+  pub item : SpellsItem inner count width
+
+-- the text says that so many bytes are skipped, as 1X
+pub record SpellsSkip (text : List ℕ) (skipped : ℕ) : Type 0 where
+  pub front : List ℕ
+  pub letter : ℕ
+  pub parts : text ≡ front ++ letter ∷ []
+  pub is_skip : to_ascii_lowercase letter ≡ 120
+  pub number : SpellsNumber front (pos skipped)
+
+-- the word has such bytes before the fields, as (1X,16I5)
+pub record SpellsSkipped (word : List ℕ) (skipped count width : ℕ) : Type 0 where
+  pub front : List ℕ
+  pub back : List ℕ
+  pub parts : word ≡ 40 ∷ ((front ++ 44 ∷ back) ++ 41 ∷ [])
+  pub skip : SpellsSkip front skipped
+  pub item : SpellsItem back count width
 
 -- the word has so many such groups, as (4(4I5)): so many fields in all, which 64 bits count
 pub record AreGroups (word : List ℕ) (count width : ℕ) : Type 0 where
@@ -59,10 +103,10 @@ pub record AreGroups (word : List ℕ) (count width : ℕ) : Type 0 where
   pub some : 0 < count
   pub fits : count < 2 ^ 64
 
--- the word is a format of whole numbers, so many on a line and in fields of so many bytes, one behind another from the
--- first byte on
-abbrev pub SpellsFormat : List ℕ → ℕ → ℕ → Type 0
-SpellsFormat word per_line width = SpellsGroup word per_line width ⊎ AreGroups word per_line width
+-- the word is a format of fields one behind another: from the first byte of a line on, or behind those that are skipped
+abbrev pub SpellsFormat : List ℕ → Fields → Type 0
+SpellsFormat word f = ((f.skipped ≡ 0) × SpellsGroup word f.per_line f.width) ⊎
+    (((f.skipped ≡ 0) × AreGroups word f.per_line f.width) ⊎ SpellsSkipped word f.skipped f.per_line f.width)
 
 -- the field has one word, the number of one of so many things, of which the first is 1
 abbrev pub SpellsField : List ℕ → ℕ → ℕ → Type 0
@@ -78,18 +122,22 @@ abbrev pub behind_fields : ℕ → List ℕ → List ℕ → List ℕ
 behind_fields width text [] = text
 behind_fields width text (k ∷ ks) = behind_fields width (drop width text) ks
 
+-- the numbers stand in the fields of a line
+abbrev pub SpellsLine : Fields → ℕ → List ℕ → List ℕ → Type 0
+SpellsLine f bound line ks = SpellsFields f.width bound (drop f.skipped line) ks
+
 -- the numbers stand on the lines, and each line has as many as it may
-abbrev pub FillsLines : ℕ → ℕ → ℕ → List (List ℕ) → List ℕ → Type 0
-FillsLines per_line width bound [] ks = ks ≡ []
-FillsLines per_line width bound (l ∷ ls) ks = (here : List ℕ) × (behind : List ℕ) × (ks ≡ here ++ behind) ×
-    (length here ≡ per_line) × SpellsFields width bound l here × FillsLines per_line width bound ls behind
+abbrev pub FillsLines : Fields → ℕ → List (List ℕ) → List ℕ → Type 0
+FillsLines f bound [] ks = ks ≡ []
+FillsLines f bound (l ∷ ls) ks = (here : List ℕ) × (behind : List ℕ) × (ks ≡ here ++ behind) ×
+    (length here ≡ f.per_line) × SpellsLine f bound l here × FillsLines f bound ls behind
 
 -- so many numbers stand on the lines: each line has as many as it may, and the last one the rest
-abbrev pub SpellsTable : ℕ → ℕ → ℕ → ℕ → List (List ℕ) → List ℕ → Type 0
-SpellsTable per_line width bound count [] ks = (count ≡ 0) × (ks ≡ [])
-SpellsTable per_line width bound count (l ∷ ls) ks = (0 < count) × ((here : List ℕ) × ((behind : List ℕ) ×
-    ((ks ≡ here ++ behind) × ((length here ≡ min per_line count) × (SpellsFields width bound l here ×
-    SpellsTable per_line width bound (count - min per_line count) ls behind)))))
+abbrev pub SpellsTable : Fields → ℕ → ℕ → List (List ℕ) → List ℕ → Type 0
+SpellsTable f bound count [] ks = (count ≡ 0) × (ks ≡ [])
+SpellsTable f bound count (l ∷ ls) ks = (0 < count) × ((here : List ℕ) × ((behind : List ℕ) ×
+    ((ks ≡ here ++ behind) × ((length here ≡ min f.per_line count) × (SpellsLine f bound l here ×
+    SpellsTable f bound (count - min f.per_line count) ls behind)))))
 
 -- what stands behind the first four words of the second line: nothing, or the number of lines of right-hand sides
 abbrev pub SpellsSides : List (List ℕ) → ℕ → Type 0
@@ -155,14 +203,18 @@ pub record SpellsKind (line : List ℕ) (s : Symmetry) (rows columns entries : �
   pub has_type : SpellsType word s
   pub has_sizes : SpellsSizes behind rows columns entries
 
--- the fourth line begins with the formats of pointers and of rows
-pub record SpellsLayout (line : List ℕ) (l : Layout) : Type 0 where
+-- the words begin with the formats of pointers and of rows
+pub record SpellsFormats (ws : List (List ℕ)) (l : Layout) : Type 0 where
   pub first : List ℕ
   pub second : List ℕ
   pub behind : List (List ℕ)
-  pub parts : words line ≡ first ∷ (second ∷ behind)
-  pub has_pointers : SpellsFormat first l.pointers.per_line l.pointers.width
-  pub has_rows : SpellsFormat second l.rows.per_line l.rows.width
+  pub parts : ws ≡ first ∷ (second ∷ behind)
+  pub has_pointers : SpellsFormat first l.pointers
+  pub has_rows : SpellsFormat second l.rows
+
+-- the fourth line does: spaces in parentheses do not part its words
+abbrev pub SpellsLayout : List ℕ → Layout → Type 0
+SpellsLayout line l = SpellsFormats (words (joined 0 line)) l
 
 -- a pair for each of these rows, in one column
 abbrev pub column_entries : List ℕ → ℕ → List (ℕ × ℕ)
@@ -200,8 +252,8 @@ pub record SpellsColumns (lines : List (List ℕ)) (k : Kind) (l : Layout) (pair
   pub parts : lines ≡ pointer_lines ++ row_lines
   pub pointers : List ℕ
   pub rows : List ℕ
-  pub has_pointers : SpellsTable l.pointers.per_line l.pointers.width (k.entries + 1) (k.n + 1) pointer_lines pointers
-  pub has_rows : SpellsTable l.rows.per_line l.rows.width k.n k.entries row_lines rows
+  pub has_pointers : SpellsTable l.pointers (k.entries + 1) (k.n + 1) pointer_lines pointers
+  pub has_rows : SpellsTable l.rows k.n k.entries row_lines rows
   pub are_pointers : ArePointers k.n k.entries pointers
   pub pairs_are : pairs ≡ flat_map (pairs_of k.symmetry) (listed_entries pointers rows k.n)
 

@@ -1,6 +1,6 @@
 -- Which fault a line has.
 use Rattle.std.specs.Prelude.{◌≡◌, ◌≢◌, ◌<◌, ℕ, ℤ, true, false, List, [], ◌∷◌, Option, None}
-use Rattle.std.specs.Prelude.{length, take, map, codes, slice_index}
+use Rattle.std.specs.Prelude.{length, take, drop, map, codes, slice_index}
 use Rattle.std.specs.Char.{to_ascii_lowercase}
 use Rattle.amd_lines.specs.Words.{words, SpellsNumber}
 use Rattle.amd_lines.specs.Lines.{is_note, percent}
@@ -11,6 +11,7 @@ use Rattle.amd_market.specs.declared.headers.Format.{Format}
 use Rattle.amd_market.specs.declared.headers.Field.{Field}
 use Rattle.amd_market.specs.declared.headers.Header.{Header}
 use Rattle.amd_market.specs.declared.headers.Symmetry.{Symmetry}
+use Rattle.amd_market.specs.declared.formats.Fields.{Fields}
 use Rattle.amd_market.specs.declared.formats.Layout.{Layout}
 use Rattle.amd_market.specs.declared.fields.Listed.{Listed}
 use Rattle.amd_market.specs.declared.fields.Listed.TheVariants as listed
@@ -182,6 +183,11 @@ pub record HasFieldsFault (listed : Listed) (width count bound : ℕ) (f : ReadF
   pub spells : SpellsFields width bound line numbers
   pub none : (k : ℕ) → SpellsField (take width (behind_fields width line numbers)) bound k → ⊥
   pub has : HasFieldFault listed bound f (take width (behind_fields width line numbers))
+
+-- the same behind the bytes of the line that are skipped
+abbrev pub HasLineFault : Listed → Fields → ℕ → ℕ → ReadFault → List ℕ → Type 0
+HasLineFault listed fields count bound f line =
+    HasFieldsFault listed fields.width count bound f (drop fields.skipped line)
 
 -- the faults that no text has: memory was refused, or 64 bits do not count the lines
 abbrev pub IsOfMachine : ReadFault → Type 0

@@ -8,7 +8,7 @@ use Rattle.amd_market.specs.Entries.{SpellsSize, SpellsEntries}
 use Rattle.amd_market.specs.Arrays.{SpellsShape, SpellsValues, HasShapeFault, array_places}
 use Rattle.amd_market.specs.Boeing.{SpellsCounts, SpellsKind, SpellsLayout, SpellsHead, SpellsTable, FillsLines, ArePointers}
 use Rattle.amd_market.specs.Faults.{HasFirstFault, HasHeaderFault, HasSizeFault, HasEntryFault, HasCellFault}
-use Rattle.amd_market.specs.Faults.{HasCardFault, HasLayoutFault, HasFieldsFault, HasUnknownFault, IsOfMachine}
+use Rattle.amd_market.specs.Faults.{HasCardFault, HasLayoutFault, HasLineFault, HasUnknownFault, IsOfMachine}
 use Rattle.amd_market.specs.declared.headers.Format.{Format}
 use Rattle.amd_market.specs.declared.headers.Format.TheVariants.{Coordinate, Array}
 use Rattle.amd_market.specs.declared.headers.Header.{Header}
@@ -148,16 +148,16 @@ pub record TableStop (listed : Listed) (fields : Fields) (count bound : ℕ) (be
   where
     pub lines : List (List ℕ)
     pub numbers : List ℕ
-    pub full : FillsLines fields.per_line fields.width bound lines numbers
+    pub full : FillsLines fields bound lines numbers
     pub few : length numbers < count
-    pub stops : CardStops (HasFieldsFault listed fields.width (min fields.per_line (count - length numbers)) bound)
+    pub stops : CardStops (HasLineFault listed fields (min fields.per_line (count - length numbers)) bound)
         (before ++ lines) s
 
 -- among the pointers, or at the last line of them, where they do not rise from 1 to one more than the entries
 pub data PointersStop (k : Kind) (fields : Fields) (before : List (List ℕ)) (s : Stop) : Type 0 where
   in_table : TableStop listed.Pointers fields (k.n + 1) (k.entries + 1) before s → PointersStop k fields before s
   behind_table : (lines : List (List ℕ)) → (pointers : List ℕ) →
-      SpellsTable fields.per_line fields.width (k.entries + 1) (k.n + 1) lines pointers →
+      SpellsTable fields (k.entries + 1) (k.n + 1) lines pointers →
       (ArePointers k.n k.entries pointers → ⊥) → s.fault ≡ fault.Pointers → s.lines ≡ before ++ lines →
       PointersStop k fields before s
 
@@ -165,7 +165,7 @@ pub data PointersStop (k : Kind) (fields : Fields) (before : List (List ℕ)) (s
 pub data ColumnsStop (k : Kind) (l : Layout) (before : List (List ℕ)) (s : Stop) : Type 0 where
   in_pointers : PointersStop k l.pointers before s → ColumnsStop k l before s
   in_rows : (lines : List (List ℕ)) → (pointers : List ℕ) →
-      SpellsTable l.pointers.per_line l.pointers.width (k.entries + 1) (k.n + 1) lines pointers →
+      SpellsTable l.pointers (k.entries + 1) (k.n + 1) lines pointers →
       ArePointers k.n k.entries pointers → TableStop listed.Rows l.rows k.entries k.n (before ++ lines) s →
       ColumnsStop k l before s
 

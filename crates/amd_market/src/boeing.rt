@@ -19,7 +19,7 @@ ghost use Rattle.amd_market.specs.Files.{FailsFor};
 
 use crate::cards::{Kind, kind_of, layout_of, sides_of};
 use crate::faults::{ReadError, ReadFault};
-use crate::fields::{Listed, add_numbers};
+use crate::fields::{Listed, add_numbers, behind_bytes};
 use crate::formats::{Fields, Layout};
 use crate::headers::Symmetry;
 use crate::lines::{at_line, take_line};
@@ -83,7 +83,8 @@ fn take_extra<R: Read + Drop, A: Allocator>(
 }
 
 /// Reads the fourth line.
-fn take_layout<R: Read + Drop, A: Allocator>(
+fn take_layout<R: Read + Drop, A: Allocator + Copy>(
+    alloc: A,
     lines: &mut LineReader<R, A>,
 ) -> Result<Layout, ReadError>
     ensures takes { IfOk result (λ l. (line : List ℕ) × TakesLines R.remaining lines.old lines.new (line ∷ []) ×
@@ -91,7 +92,10 @@ fn take_layout<R: Read + Drop, A: Allocator>(
     ensures fails { IfErr result (FailsFor (CardStops HasLayoutFault []) R.remaining lines.old) }
 {
     take_some(lines)?;
-    match layout_of(lines.line()) {
+    let Ok(layout) = layout_of(alloc, lines.line()) else {
+        return Err(at_line(lines, ReadFault::OutOfMemory));
+    };
+    match layout {
         Some(layout) => Ok(layout),
         None => Err(at_line(lines, ReadFault::Layout)),
     }
@@ -107,7 +111,7 @@ fn take_numbers<R: Read + Drop, A: Allocator + Copy>(
     listed: Listed,
 ) -> Result<Vec<usize, A>, ReadError>
     ensures takes { IfOk result (λ v. (ls : List (List ℕ)) × TakesLines R.remaining lines.old lines.new ls ×
-        SpellsTable fields.per_line fields.width bound count ls v.items) }
+        SpellsTable fields bound count ls v.items) }
     ensures fails { IfErr result (FailsFor (TableStop listed fields count bound []) R.remaining lines.old) }
 {
     let mut numbers = Vec::new(alloc);
@@ -116,7 +120,7 @@ fn take_numbers<R: Read + Drop, A: Allocator + Copy>(
         let here = fields.per_line.min(count - numbers.len());
         let added = add_numbers(
             &mut numbers,
-            lines.line(),
+            behind_bytes(lines.line(), fields.skipped),
             fields.width,
             here,
             bound,
@@ -204,7 +208,7 @@ fn take_pointers<R: Read + Drop, A: Allocator + Copy>(
     kind: Kind,
 ) -> Result<Vec<usize, A>, ReadError>
     ensures takes { IfOk result (λ v. (ls : List (List ℕ)) × TakesLines R.remaining lines.old lines.new ls ×
-        SpellsTable fields.per_line fields.width (kind.entries + 1) (kind.n + 1) ls v.items) }
+        SpellsTable fields (kind.entries + 1) (kind.n + 1) ls v.items) }
     ensures pointers { IfOk result (λ v. ArePointers kind.n kind.entries v.items) }
     ensures fails { IfErr result (FailsFor (PointersStop kind fields []) R.remaining lines.old) }
 {
@@ -223,7 +227,8 @@ fn take_pointers<R: Read + Drop, A: Allocator + Copy>(
 }
 
 /// Reads the lines before the pointers; `None` where the second line is none of a Harwell-Boeing file.
-fn take_head<R: Read + Drop, A: Allocator>(
+fn take_head<R: Read + Drop, A: Allocator + Copy>(
+    alloc: A,
     lines: &mut LineReader<R, A>,
 ) -> Result<Option<(Kind, Layout)>, ReadError>
     ensures takes { IfOk result (λ o. MatchOption o (LacksCounts (rest_of R.remaining lines.old)) (λ h.
@@ -234,7 +239,7 @@ fn take_head<R: Read + Drop, A: Allocator>(
         return Ok(None);
     };
     let kind = take_kind(lines)?;
-    let layout = take_layout(lines)?;
+    let layout = take_layout(alloc, lines)?;
     take_extra(lines, sides)?;
     Ok(Some((kind, layout)))
 }
@@ -276,7 +281,7 @@ pub(crate) fn take_boeing<R: Read + Drop, A: Allocator + Copy>(
         SpellsBoeing ls m.n m.a_p.items m.a_i.items m.repeats)) }
     ensures fails { IfErr result (FailsFor BoeingStops R.remaining lines.old) }
 {
-    let Some((kind, layout)) = take_head(lines)? else {
+    let Some((kind, layout)) = take_head(alloc, lines)? else {
         return Ok(None);
     };
     let pairs = take_columns(alloc, lines, kind, layout)?;

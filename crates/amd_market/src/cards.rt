@@ -1,10 +1,12 @@
 // The lines at the head of a Harwell-Boeing or a Rutherford-Boeing file, behind its title. Source: the Harwell-Boeing
 // and Rutherford-Boeing exchange formats.
 
-ghost use Rattle.std.specs.Prelude.{◌≡◌, ◌∷◌, ℕ, List, pos, IfOk, IfErr, MatchOption, MatchResult};
+ghost use Rattle.std.specs.Prelude.{◌≡◌, ◌∷◌, ◌+◌, ◌<◌, ◌^◌, [], ℕ, List, cond, pos};
+ghost use Rattle.std.specs.Prelude.{IfOk, IfErr, MatchOption, MatchResult};
 ghost use Rattle.amd_market.specs.Faults.{HasTypeFault, HasCardFault};
 ghost use Rattle.amd_lines.specs.Words.{words, SpellsNumber};
-ghost use Rattle.amd_market.specs.Boeing.{SpellsSides, SpellsCounts, SpellsType, SpellsSizes, SpellsKind, SpellsLayout};
+ghost use Rattle.amd_market.specs.Boeing.{SpellsSides, SpellsCounts, SpellsType, SpellsSizes, SpellsKind};
+ghost use Rattle.amd_market.specs.Boeing.{SpellsFormats, SpellsLayout, joined, kept_byte, depth_behind};
 ghost use Rattle.amd_market.specs.Boeing.{is_value_letter, letter_symmetry, BeginsWithNoCount};
 ghost use Rattle.amd_market.specs.declared.headers.Symmetry.{Symmetry};
 ghost use Rattle.amd_market.specs.declared.formats.Layout.{Layout};
@@ -15,6 +17,7 @@ use crate::fields::fields_of;
 use crate::formats::Layout;
 use crate::headers::Symmetry;
 use amd_lines::words::first_word;
+use std::alloc::{AllocError, Allocator};
 
 /// What the third line of a file says.
 #[derive(Clone, Copy)]
@@ -136,14 +139,57 @@ pub(crate) fn kind_of(line: &[u8]) -> Result<Kind, ReadFault>
     })
 }
 
-/// The formats of pointers and of rows, with which the fourth line of a file begins.
-pub(crate) fn layout_of(line: &[u8]) -> Option<Layout>
-    ensures { MatchOption result ((l : Layout) → SpellsLayout line.now l → ⊥) (SpellsLayout line.now) }
+/// How many parentheses are open behind a byte.
+fn depth_behind(depth: usize, byte: u8) -> usize
+    requires { depth + 1 < 2 ^ 64 }
+    ensures { result ≡ depth_behind depth byte }
 {
-    let (first, rest) = first_word(line)?;
+    match byte {
+        b'(' => depth + 1,
+        b')' => depth.saturating_sub(1),
+        _ => depth,
+    }
+}
+
+/// Whether a byte stands in a text of which spaces in parentheses are left out, where so many of these are open.
+fn is_kept(depth: usize, byte: u8) -> bool
+    ensures { kept_byte depth byte ≡ cond result (byte ∷ []) [] }
+{
+    byte != b' ' || depth == 0
+}
+
+/// A line without the spaces that stand in parentheses: Fortran reads a format as if they were not there.
+fn joined<A: Allocator>(alloc: A, line: &[u8]) -> Result<Vec<u8, A>, AllocError>
+    ensures { IfOk result (λ v. v.items ≡ joined 0 line.now) }
+{
+    let mut text = Vec::new(alloc);
+    let mut depth = 0;
+    'bytes: for &byte in line {
+        if is_kept(depth, byte) {
+            text.push(byte)?;
+        }
+        depth = depth_behind(depth, byte);
+    }
+    Ok(text)
+}
+
+/// The formats of pointers and of rows with which a text begins.
+fn formats_of(text: &[u8]) -> Option<Layout>
+    ensures { MatchOption result ((l : Layout) → SpellsFormats (words text.now) l → ⊥)
+        (SpellsFormats (words text.now)) }
+{
+    let (first, rest) = first_word(text)?;
     let (second, _) = first_word(rest)?;
     Some(Layout {
         pointers: fields_of(first)?,
         rows: fields_of(second)?,
     })
+}
+
+/// The formats of pointers and of rows with which the fourth line of a file begins.
+pub(crate) fn layout_of<A: Allocator>(alloc: A, line: &[u8]) -> Result<Option<Layout>, AllocError>
+    ensures { IfOk result (λ o. MatchOption o ((l : Layout) → SpellsLayout line.now l → ⊥) (SpellsLayout line.now)) }
+{
+    let text = joined(alloc, line)?;
+    Ok(formats_of(&text))
 }

@@ -1,14 +1,16 @@
-// Numbers in fields of one width, so many on a line, as Fortran writes them: a format such as `(16I5)`. Source: the
-// Harwell-Boeing and Rutherford-Boeing exchange formats.
+// Numbers in fields of one width, so many on a line, as Fortran writes them: a format such as `(16I5)` or
+// `(1X,16I5)`. Source: the Harwell-Boeing and Rutherford-Boeing exchange formats, and the Fortran standard on formats.
 
-ghost use Rattle.std.specs.Prelude.{◌≡◌, ◌≢◌, ◌++◌, ◌∷◌, ◌⊎◌, [], ℕ, List, false, length, All};
+ghost use Rattle.std.specs.Prelude.{◌≡◌, ◌≢◌, ◌==◌, ◌++◌, ◌∷◌, ◌⊎◌, [], ℕ, List, false, drop, length, All};
 ghost use Rattle.std.specs.Prelude.{IfErr, OnOk, MatchOption, slice_index};
 ghost use Rattle.amd_market.specs.Faults.{HasFieldFault, HasFieldsFault};
 ghost use Rattle.amd_market.specs.declared.faults.ReadFault.TheVariants as fault;
 ghost use Rattle.std.specs.Char.{to_ascii_lowercase};
 ghost use Rattle.std.specs.List.{position};
-ghost use Rattle.amd_market.specs.Boeing.{is_whole_letter, is_point, is_bracket, SpellsRepeat, SpellsWidth, SpellsGroup};
-ghost use Rattle.amd_market.specs.Boeing.{AreGroups, SpellsFormat, SpellsField, SpellsFields};
+ghost use Rattle.amd_market.specs.Boeing.{is_whole_letter, is_bracket, SpellsRepeat, SpellsWidth, SpellsItem};
+ghost use Rattle.amd_market.specs.Boeing.{SpellsGroup, AreGroups, SpellsSkip, SpellsSkipped, SpellsFormat};
+ghost use Rattle.amd_market.specs.Boeing.{SpellsField, SpellsFields};
+ghost use Rattle.amd_market.specs.declared.formats.Fields.{Fields};
 
 use crate::entries::{count_of, index_of};
 use crate::faults::ReadFault;
@@ -58,19 +60,19 @@ fn repeat_of(front: &[u8]) -> Option<usize>
     }
 }
 
-/// Where the first point of a text stands.
-fn point_place(text: &[u8]) -> Option<usize>
-    ensures { result ≡ position is_point text.now }
+/// Where a byte stands first in a text.
+fn byte_place(text: &[u8], byte: u8) -> Option<usize>
+    ensures { result ≡ position (λ b. b == byte) text.now }
 {
-    text.iter().position(|b| *b == b'.')
+    text.iter().position(|b| *b == byte)
 }
 
-/// What stands before and behind the first point of a text.
-fn around_point(text: &[u8]) -> Option<(&[u8], &[u8])>
-    ensures { MatchOption result (All (λ b. is_point b ≡ false) text.now)
-        (λ p. (text.now ≡ p.0.now ++ 46 ∷ p.1.now) × All (λ b. is_point b ≡ false) p.0.now) }
+/// What stands before and behind a byte where it stands first in a text.
+fn around_byte(text: &[u8], byte: u8) -> Option<(&[u8], &[u8])>
+    ensures { MatchOption result (All (λ b. (b == byte) ≡ false) text.now)
+        (λ p. (text.now ≡ p.0.now ++ byte ∷ p.1.now) × All (λ b. (b == byte) ≡ false) p.0.now) }
 {
-    let place = point_place(text)?;
+    let place = byte_place(text, byte)?;
     Some((&text[..place], &text[place + 1..]))
 }
 
@@ -78,25 +80,64 @@ fn around_point(text: &[u8]) -> Option<(&[u8], &[u8])>
 fn width_of(back: &[u8]) -> Option<usize>
     ensures { MatchOption result ((w : ℕ) → SpellsWidth back.now w → ⊥) (SpellsWidth back.now) }
 {
-    let Some((front, digits)) = around_point(back) else {
+    let Some((front, digits)) = around_byte(back, b'.') else {
         return count_of(back);
     };
     count_of(digits)?;
     count_of(front)
 }
 
-/// The fields of which a word is the format, where it has one group.
-fn group_of(word: &[u8]) -> Option<Fields>
-    ensures { MatchOption result ((k w : ℕ) → SpellsGroup word.now k w → ⊥)
-        (λ f. SpellsGroup word.now f.per_line f.width) }
+/// The fields that a text says.
+fn item_of(text: &[u8]) -> Option<Fields>
+    ensures { MatchOption result ((k w : ℕ) → SpellsItem text.now k w → ⊥)
+        (λ f. (f.skipped ≡ 0) × SpellsItem text.now f.per_line f.width) }
 {
-    let (front, back) = around_letter(bracketed(word)?)?;
+    let (front, back) = around_letter(text)?;
     let per_line = repeat_of(front)?;
     let width = width_of(back)?;
     if per_line == 0 || width == 0 {
         return None;
     }
-    Some(Fields { per_line, width })
+    Some(Fields {
+        skipped: 0,
+        per_line,
+        width,
+    })
+}
+
+/// The fields of which a word is the format, where it has one group.
+fn group_of(word: &[u8]) -> Option<Fields>
+    ensures { MatchOption result ((k w : ℕ) → SpellsGroup word.now k w → ⊥)
+        (λ f. (f.skipped ≡ 0) × SpellsGroup word.now f.per_line f.width) }
+{
+    item_of(bracketed(word)?)
+}
+
+/// How many bytes a text says that are skipped.
+fn skip_of(text: &[u8]) -> Option<usize>
+    ensures { MatchOption result ((s : ℕ) → SpellsSkip text.now s → ⊥) (SpellsSkip text.now) }
+{
+    let (last, front) = text.split_last()?;
+    if last.to_ascii_lowercase() == b'x' {
+        count_of(front)
+    } else {
+        None
+    }
+}
+
+/// The fields of which a word is the format, where bytes are skipped before them.
+fn skipped_of(word: &[u8]) -> Option<Fields>
+    ensures { MatchOption result ((s k w : ℕ) → SpellsSkipped word.now s k w → ⊥)
+        (λ f. SpellsSkipped word.now f.skipped f.per_line f.width) }
+{
+    let (front, back) = around_byte(bracketed(word)?, b',')?;
+    let skipped = skip_of(front)?;
+    let item = item_of(back)?;
+    Some(Fields {
+        skipped,
+        per_line: item.per_line,
+        width: item.width,
+    })
 }
 
 /// Where the first bracket of a text stands that opens.
@@ -117,7 +158,8 @@ fn at_bracket(text: &[u8]) -> Option<(&[u8], &[u8])>
 
 /// The fields of which a word is the format, where it has groups in brackets of their own.
 fn groups_of(word: &[u8]) -> Option<Fields>
-    ensures { MatchOption result ((k w : ℕ) → AreGroups word.now k w → ⊥) (λ f. AreGroups word.now f.per_line f.width) }
+    ensures { MatchOption result ((k w : ℕ) → AreGroups word.now k w → ⊥)
+        (λ f. (f.skipped ≡ 0) × AreGroups word.now f.per_line f.width) }
 {
     let (front, inner) = at_bracket(bracketed(word)?)?;
     let groups = repeat_of(front)?;
@@ -127,6 +169,7 @@ fn groups_of(word: &[u8]) -> Option<Fields>
         return None;
     }
     Some(Fields {
+        skipped: 0,
         per_line,
         width: group.width,
     })
@@ -134,12 +177,14 @@ fn groups_of(word: &[u8]) -> Option<Fields>
 
 /// The fields of which a word is the format.
 pub(crate) fn fields_of(word: &[u8]) -> Option<Fields>
-    ensures { MatchOption result ((k w : ℕ) → SpellsFormat word.now k w → ⊥)
-        (λ f. SpellsFormat word.now f.per_line f.width) }
+    ensures { MatchOption result ((f : Fields) → SpellsFormat word.now f → ⊥) (SpellsFormat word.now) }
 {
-    match group_of(word) {
+    if let Some(fields) = group_of(word) {
+        return Some(fields);
+    }
+    match groups_of(word) {
         Some(fields) => Some(fields),
-        None => groups_of(word),
+        None => skipped_of(word),
     }
 }
 
@@ -173,6 +218,14 @@ fn field_fault(field: &[u8], bound: usize, listed: Listed) -> ReadFault
         },
         (None, _) => ReadFault::Number,
     }
+}
+
+/// What stands behind the first bytes of a line, so many.
+pub(crate) fn behind_bytes(line: &[u8], count: usize) -> &[u8]
+    ensures { result.now ≡ drop count line.now }
+{
+    let (_, rest) = line.split_at(count.min(line.len()));
+    rest
 }
 
 /// The number that a field has, from 0 on; the field counts from 1.

@@ -5,6 +5,8 @@ ghost use Rattle.std.specs.Prelude.{◌<◌};
 /// How numbers stand on lines.
 #[derive(Clone, Copy)]
 pub(crate) struct Fields {
+    /// How many bytes stand before the first of them.
+    pub(crate) skipped: usize,
     /// How many stand on a line.
     pub(crate) per_line: usize,
     /// How many bytes each of them has.

@@ -34,8 +34,9 @@
 //!
 //! The type is three letters in any case: `R`, `C`, `I`, `P` or `Q`; `U`, `R`, `S`, `Z` or `H`; and `A`. The last three
 //! of the second letters say that each entry off the diagonal stands for its mirror image too. A format is `(kIw)` or
-//! `(Iw)`: `k` numbers on a line, or one, in fields of `w` bytes. A point and a number may follow the width, and a
-//! format `(g(kIw))` has `g` such groups on a line. What stands behind the rows is not read.
+//! `(Iw)`: `k` numbers on a line, or one, in fields of `w` bytes. A point and a number may follow the width. A format
+//! `(g(kIw))` has `g` such groups on a line, and with `(sX,kIw)` the first `s` bytes of each line are skipped. Formats
+//! are parted by white space, but spaces in their parentheses are left out. What stands behind the rows is not read.
 //!
 //! Refused are: another first line; a size of other than three numbers, of an array two, and one that is not square; an
 //! entry whose row or column is no number from 1 to the number of rows, whose value is no number, or with more or fewer

@@ -377,7 +377,7 @@ fn arrays(rt: HostRuntime) -> Result<(), Fail> {
 
 /// Harwell-Boeing and Rutherford-Boeing files. scipy's `hb_write` wrote the first one, SuiteSparse's `RBwrite` the
 /// second; the others were worked by hand.
-static BOEINGS: [(&str, &str); 6] = [
+static BOEINGS: [(&str, &str); 9] = [
     (
         "Default title                                                           0       
              5             1             1             3
@@ -417,6 +417,21 @@ isa                        3             3             4             0
         "title\n4 1 2 0 1\npsa 3 3 4\n(2(2i1.1)) ((3I1)) none\nF 1 0\n1355\n321\n2\n",
         "[0, 2, 4, 5] [1, 2, 0, 1, 0]",
     ),
+    // the same with bytes that are skipped on each line, whatever they are
+    (
+        "title\n4 1 2 0 1\npsa 3 3 4\n(1X,4I2) (3x,2I1.1) none\nF 1 0\n9 1 3 5 5\n 7 32\nabc12\n",
+        "[0, 2, 4, 5] [1, 2, 0, 1, 0]",
+    ),
+    // the same with spaces in the formats, which no word parts there
+    (
+        "title\n4 1 2 0 1\npsa 3 3 4\n( 4 i 1 )  (1 X, 3 I 1) none\nF 1 0\n1355\n 321\n 2\n",
+        "[0, 2, 4, 5] [1, 2, 0, 1, 0]",
+    ),
+    // sixteen of five behind one column, and sixteen of five with spaces in the format
+    (
+        "title\n3 1 1 0\nPUA 2 2 2\n(1X,16I5)       ( 16 I 5 )\n     1    2    3\n    2    1\n",
+        "[0, 1, 2] [1, 0]",
+    ),
     (
         "\r\n1 1 0 0\r\nPUA 0 0 0\r\n(I8) (I8)\r\n       1\r\n",
         "[0] []",
@@ -424,7 +439,7 @@ isa                        3             3             4             0
 ];
 
 /// The lines behind the title of a Harwell-Boeing file at fault, and what is told of it.
-static NO_BOEINGS: [(&str, &str); 17] = [
+static NO_BOEINGS: [(&str, &str); 20] = [
     ("1 1 0 none\n", UNKNOWN_TITLE),
     ("1 1 0\n", UNKNOWN_TITLE),
     ("", UNKNOWN_TITLE),
@@ -458,9 +473,23 @@ static NO_BOEINGS: [(&str, &str); 17] = [
         , found: (2(2(I4))) (I4.)",
     ),
     (
-        "2 1 1 0\nRUA 1 1 1\n(1X,2I4) (I4)\n",
+        "2 1 1 0\nRUA 1 1 1\n(1X2I4) (I4)\n",
         "line 4: in a Harwell-Boeing file here must stand the formats of pointers and rows, such as (16I5) or (4(4I5))\
-        , found: (1X,2I4) (I4)",
+        , found: (1X2I4) (I4)",
+    ),
+    (
+        "2 1 1 0\nRUA 1 1 1\n(2X,2(I4)) (I4)\n",
+        "line 4: in a Harwell-Boeing file here must stand the formats of pointers and rows, such as (16I5) or (4(4I5))\
+        , found: (2X,2(I4)) (I4)",
+    ),
+    (
+        "2 1 1 0\nRUA 1 1 1\n( 2I4 (I4)\n",
+        "line 4: in a Harwell-Boeing file here must stand the formats of pointers and rows, such as (16I5) or (4(4I5))\
+        , found: ( 2I4 (I4)",
+    ),
+    (
+        "2 1 1 0\nRUA 1 1 1\n(1X,2I4) (I4)\n1   2\n",
+        "line 5: here must stand numbers, as the formats of the fourth line tell, found: 1   2",
     ),
     (
         "2 1 1 0\nRUA 1 1 1\n(2I4) (I4)\n   1   x\n",

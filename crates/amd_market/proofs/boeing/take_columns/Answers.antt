@@ -22,7 +22,7 @@ returns-in_err-rows-clause-fails g c =
 pub listed_pairs-requires : goal.listed_pairs-requires
 listed_pairs-requires g c =
     let second = c.in_ok-rows.ensures.takes in
-    let size = table-size _ _ _ _ second.0 c.in_ok-rows.rows.items second.2 in
+    let size = table-size c.args.layout.rows _ _ second.0 c.in_ok-rows.rows.items second.2 in
     rw (c.deref.ensures.value, c.deref-2.ensures.value, size) c.in_ok-pointers.ensures.pointers
 
 pub returns-in-Ok-clause-takes : goal.returns-in-Ok-clause-takes
@@ -47,7 +47,7 @@ returns-in-Ok-clause-takes g c =
 pub returns-in-Ok-clause-inside : goal.returns-in-Ok-clause-inside
 returns-in-Ok-clause-inside g c =
     let second = c.in_ok-rows.ensures.takes in
-    let within = table-within _ _ _ _ second.0 c.in_ok-rows.rows.items second.2 in
+    let within = table-within c.args.layout.rows _ _ second.0 c.in_ok-rows.rows.items second.2 in
     let are = rw (c.deref.ensures.value, c.deref-2.ensures.value) at c.in-Ok.ensures in
     rw are (boeing-inside c.args.kind.n c.args.kind.symmetry c.in_ok-pointers.pointers.items c.in_ok-rows.rows.items within)
 

@@ -14,7 +14,7 @@ lines-init g c =
       [],
       takes-none _ _,
       omega (arith, none),
-      λ ns js h. table-none _ _ _ _ _ js ns c.new-numbers.ensures.items h,
+      λ ns js h. table-none c.args.fields _ _ _ js ns c.new-numbers.ensures.items h,
       λ h. c.new-numbers.ensures.items,
     )
 
@@ -48,7 +48,7 @@ returns-in-Err-clause-fails g c =
       few = room;
       stops = all-first inv.0 s h;
     }) (for-here _ _ _ (line ∷ []) _ _ c.in_ok-take_some.ensures.takes c.at_line.ensures
-    (list-stop _ _ _ _ _ line _ _ (rw (here, c.line.ensures) at c.in-Err.ensures.fault)))
+    (list-stop _ c.args.fields _ _ _ line _ _ (rw (here, c.behind_bytes.ensures, c.line.ensures) at c.in-Err.ensures.fault)))
 
 pub lines-preserved : goal.lines-preserved
 lines-preserved g c =
@@ -56,7 +56,7 @@ lines-preserved g c =
     let line = line_of c.take_some.new.lines in
     let numbers = c.lines.numbers.items in
     let added = c.in_default.ensures.adds in
-    let fields = rw c.line.ensures at added.3 in
+    let fields = rw (c.behind_bytes.ensures, c.line.ensures) at added.3 in
     let before = c.len-in-lines.ensures ∙ c.lines.numbers.ok.0 in
     let size = added.1 ∙ c.min-here.ensures ∙ ap (λ z. min c.args.fields.per_line (c.args.count - z)) before in
     let items = added.2 in
@@ -66,9 +66,9 @@ lines-preserved g c =
       inv.0 ++ line ∷ [],
       takes-append _ _ _ _ inv.0 (line ∷ []) inv.1 c.in_ok-take_some.ensures.takes,
       omega (arith, long, size, old, room),
-      (rw items (λ ns js h. table-turn c.args.fields.per_line c.args.fields.width c.args.bound c.args.count inv.0 ns line numbers added.0 js
+      (rw items (λ ns js h. table-turn c.args.fields c.args.bound c.args.count inv.0 ns line numbers added.0 js
           (omega (arith, old, room)) inv.3 size fields h)),
-      (rw items (λ h. fills-more c.args.fields.per_line c.args.fields.width c.args.bound inv.0 numbers line added.0
+      (rw items (λ h. fills-more c.args.fields c.args.bound inv.0 numbers line added.0
           (inv.4 (omega (arith, old, room))) (let both = length-append numbers added.0 in omega (arith, size, both, h)) fields)),
     )
 
@@ -77,4 +77,4 @@ returns-clause-takes g c =
     let inv = c.lines.invariant in
     let old = c.len.ensures ∙ c.lines.numbers.ok.0 in
     let done = c.lines-test.false in
-    (inv.0, inv.1, table-whole _ _ _ _ inv.0 c.lines.numbers.items (omega (arith, old, done)) inv.3)
+    (inv.0, inv.1, table-whole c.args.fields _ _ inv.0 c.lines.numbers.items (omega (arith, old, done)) inv.3)

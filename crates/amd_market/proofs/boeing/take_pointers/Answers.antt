@@ -24,7 +24,7 @@ pub are_pointers-requires : goal.are_pointers-requires
 are_pointers-requires g c =
     let read = c.in_ok-pointers.ensures.takes in
     let e : c.in-Some.count ≡ c.args.kind.n + 1 = search rules in
-    rw c.deref.ensures.value (table-size _ _ _ _ read.0 c.in_ok-pointers.pointers.items read.2 ∙ e)
+    rw c.deref.ensures.value (table-size c.args.fields _ _ read.0 c.in_ok-pointers.pointers.items read.2 ∙ e)
 
 pub returns-else-are_pointers-clause-fails : goal.returns-else-are_pointers-clause-fails
 returns-else-are_pointers-clause-fails g c =

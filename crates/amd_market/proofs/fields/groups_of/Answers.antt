@@ -27,14 +27,14 @@ returns-in_err-per_line c =
     let parts = c.in_ok-front.ensures in
     rw c.from_residual-in_err-per_line.ensures (λ k w h.
     let same = groups-parts c.args.word.now _ _ _ c.in_ok-bracketed.ensures parts.0 parts.1 parts.2 k w h in
-    let is = groups-count c.args.word.now _ _ _ _ _ k w c.in_ok-groups.ensures c.in_ok-group.ensures h same in
+    let is = groups-count c.args.word.now _ _ _ _ _ k w c.in_ok-groups.ensures c.in_ok-group.ensures.1 h same in
     c.in_err-per_line.ensures (subst (λ z. z < 2 ^ 64) is h.fits))
 
 pub returns-then-per_line-eq0 : goal.returns-then-per_line-eq0
 returns-then-per_line-eq0 c k w h =
     let parts = c.in_ok-front.ensures in
     let same = groups-parts c.args.word.now _ _ _ c.in_ok-bracketed.ensures parts.0 parts.1 parts.2 k w h in
-    let is = groups-count c.args.word.now _ _ _ _ _ k w c.in_ok-groups.ensures c.in_ok-group.ensures h same in
+    let is = groups-count c.args.word.now _ _ _ _ _ k w c.in_ok-groups.ensures c.in_ok-group.ensures.1 h same in
     let product = c.in_ok-per_line.ensures in
     let none = c.if-per_line-eq0.true in
     let some = h.some in
