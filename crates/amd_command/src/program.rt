@@ -3,7 +3,7 @@
 // nothing is left half written where memory is refused. The pictures come last, since they may want more memory than
 // all before them: where one fails, all else is written.
 
-ghost use Rattle.std.specs.Prelude.{◌≤◌, option_map, IfOk, IfSome};
+ghost use Rattle.std.specs.Prelude.{◌≡◌, ◌≤◌, is_none, option_map, IfOk, IfSome};
 ghost use Rattle.amd_command.specs.Answers.{AreTextsOf, IsOrderingOf};
 ghost use Rattle.amd_command.specs.Compared.{Compares, ComparesOrdered, TellsInfo, TellsListed, TellsOther};
 
@@ -85,6 +85,13 @@ fn named_need<'a, R: Files + Input + Clock + Eprint + AllocGlobal>(
     Ok(Some(about(path, need)?))
 }
 
+/// Whether the file with another order lists the place of each row: `--with` does not name it.
+fn is_inverse(options: &Options<'_>) -> bool
+    ensures { result ≡ is_none options.now.with }
+{
+    options.with.is_none()
+}
+
 /// What the factor needs under each order, where that is asked for.
 fn compare_orders<'a, R: Files + Input + Clock + Eprint + AllocGlobal>(
     rt: &R,
@@ -98,6 +105,7 @@ fn compare_orders<'a, R: Files + Input + Clock + Eprint + AllocGlobal>(
         p.now info.now) }
     ensures other { IfOk result (λ made. IfSome made (λ c. TellsOther options.now matrix.now.n matrix.now.a_p.items
         matrix.now.a_i.items c.other)) }
+    ensures named { IfOk result (λ made. IfSome made (λ compared. compared.inverse ≡ is_none options.now.with)) }
 {
     if !options.compare {
         return Ok(None);
@@ -110,6 +118,7 @@ fn compare_orders<'a, R: Files + Input + Clock + Eprint + AllocGlobal>(
         stands,
         ordered,
         other,
+        inverse: is_inverse(options),
     }))
 }
 

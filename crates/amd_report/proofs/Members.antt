@@ -67,11 +67,6 @@ two-line a b =
     append_assoc (decimal a) (codes " as it stands, " ++ (decimal b ++ codes " ordered")) (codes "\n")
     ∙ ap (λ z. decimal a ++ (codes " as it stands, " ++ z)) (append_assoc (decimal b) (codes " ordered") (codes "\n"))
 
-pub three-line : (a b c : ℕ) → three_figures a b c ++ codes "\n"
-    ≡ decimal a ++ (codes " as it stands, " ++ (decimal b ++ (codes " ordered, " ++ (decimal c ++ codes " by --with\n"))))
-three-line a b c =
-    append_assoc (decimal a) (codes " as it stands, " ++ (decimal b ++ (codes " ordered, " ++ (decimal c ++ codes " by --with"))))
-    (codes "\n")
-    ∙ ap (λ z. decimal a ++ (codes " as it stands, " ++ z))
-    (append_assoc (decimal b) (codes " ordered, " ++ (decimal c ++ codes " by --with")) (codes "\n")
-    ∙ ap (λ z. decimal b ++ (codes " ordered, " ++ z)) (append_assoc (decimal c) (codes " by --with") (codes "\n")))
+pub three-line : (a b c : ℕ) (option : List ℕ) → three_figures a b c option ++ codes "\n"
+    ≡ decimal a ++ (codes " as it stands, " ++ (decimal b ++ (codes " ordered, " ++ (decimal c ++ (codes " by " ++ (option ++ codes "\n"))))))
+three-line a b c option = simp append_assoc

@@ -1,5 +1,5 @@
 -- The text of what the factor needs under several orders.
-use Rattle.std.specs.Prelude.{◌+◌, ◌-◌, ◌*◌, ◌^◌, ℕ, Some, None, Option, List, ◌++◌, codes, decimal, min}
+use Rattle.std.specs.Prelude.{◌+◌, ◌-◌, ◌*◌, ◌^◌, ℕ, Bool, true, false, Some, None, Option, List, ◌++◌, codes, decimal, min}
 use Rattle.amd_texts.specs.Texts.{labelled}
 use Rattle.amd_report.specs.declared.compare.Needs.{Needs}
 use Rattle.amd_report.specs.declared.compare.Comparison.{Comparison}
@@ -22,25 +22,31 @@ figure_of FlopsLdl rows edges need = min (need.lnz + 2 * need.n_mult_subs_ldl) g
 figure_of LargestColumn rows edges need = need.d_max
 figure_of Bytes rows edges need = min (8 * (need.lnz + rows)) greatest
 
+-- the option that names the file with the third order
+abbrev pub option_name : Bool → List ℕ
+option_name true = codes "--with-inverse"
+option_name false = codes "--with"
+
 -- a figure under two orders, and under three
 abbrev pub two_figures : ℕ → ℕ → List ℕ
 two_figures stands ordered = decimal stands ++ (codes " as it stands, " ++ (decimal ordered ++ codes " ordered"))
 
-abbrev pub three_figures : ℕ → ℕ → ℕ → List ℕ
-three_figures stands ordered other =
+abbrev pub three_figures : ℕ → ℕ → ℕ → List ℕ → List ℕ
+three_figures stands ordered other option =
     decimal stands ++ (codes " as it stands, " ++ (decimal ordered ++ (codes " ordered, " ++ (decimal other
-    ++ codes " by --with"))))
+    ++ (codes " by " ++ option)))))
 
 -- a figure under each order
-abbrev pub figures_under : Figure → ℕ → ℕ → Needs → Needs → Option Needs → List ℕ
-figures_under f rows edges stands ordered None =
+abbrev pub figures_under : Figure → ℕ → ℕ → Needs → Needs → Option Needs → Bool → List ℕ
+figures_under f rows edges stands ordered None inverse =
     two_figures (figure_of f rows edges stands) (figure_of f rows edges ordered)
-figures_under f rows edges stands ordered (Some other) =
+figures_under f rows edges stands ordered (Some other) inverse =
     three_figures (figure_of f rows edges stands) (figure_of f rows edges ordered) (figure_of f rows edges other)
+    (option_name inverse)
 
 -- the line of a figure
 abbrev pub compared_line : List ℕ → Figure → Comparison → List ℕ
-compared_line label f c = labelled label (figures_under f c.rows c.edges c.stands c.ordered c.other)
+compared_line label f c = labelled label (figures_under f c.rows c.edges c.stands c.ordered c.other c.inverse)
 
 -- the lines on the orders
 abbrev pub comparison_lines : Comparison → List ℕ

@@ -6,7 +6,8 @@ ghost use Rattle.std.specs.Char.{is_ascii};
 ghost use Rattle.std.specs.List.{list_all};
 ghost use Rattle.std.specs.Io.KnownBytes.{Appends};
 ghost use Rattle.amd_texts.specs.Texts.{labelled};
-ghost use Rattle.amd_report.specs.Comparisons.{compared_line, comparison_lines, figure_of, three_figures, two_figures};
+ghost use Rattle.amd_report.specs.Comparisons.{compared_line, comparison_lines, figure_of, option_name, three_figures};
+ghost use Rattle.amd_report.specs.Comparisons.{two_figures};
 
 use std::io;
 use std::io::Write;
@@ -37,6 +38,8 @@ pub struct Comparison {
     pub ordered: Needs,
     /// As another file lists them, where there is one.
     pub other: Option<Needs>,
+    /// Whether `--with-inverse` names that file, and not `--with`.
+    pub inverse: bool,
 }
 
 /// A figure of what a factor needs.
@@ -90,21 +93,29 @@ fn write_two<W: Write>(label: &str, stands: u128, ordered: u128, out: &mut W) ->
     Ok(())
 }
 
-/// Writes a line with a figure under three orders. The label is of ASCII characters.
+/// The option that names the file with another order.
+fn option_name(inverse: bool) -> &'static str
+    ensures { result.now ≡ option_name inverse }
+{
+    if inverse { "--with-inverse" } else { "--with" }
+}
+
+/// Writes a line with a figure under three orders, the last of which an option names. The label is of ASCII characters.
 fn write_three<W: Write>(
     label: &str,
     stands: u128,
     ordered: u128,
     other: u128,
+    option: &str,
     out: &mut W,
 ) -> io::Result<()>
     requires { IsTrue (list_all is_ascii label.now) }
     ensures { OnOk result (Appends (W.contents out.old) (W.contents out.new)
-        (labelled label.now (three_figures stands ordered other))) }
+        (labelled label.now (three_figures stands ordered other option.now))) }
 {
     writeln!(
         out,
-        "    {label:<52}{stands} as it stands, {ordered} ordered, {other} by --with"
+        "    {label:<52}{stands} as it stands, {ordered} ordered, {other} by {option}"
     )?;
     Ok(())
 }
@@ -125,7 +136,8 @@ fn write_compared<W: Write>(
     match compared.other {
         Some(need) => {
             let other = figure_of(figure, compared.rows, compared.edges, &need);
-            write_three(label, stands, ordered, other, out)
+            let option = option_name(compared.inverse);
+            write_three(label, stands, ordered, other, option, out)
         }
         None => write_two(label, stands, ordered, out),
     }

@@ -103,6 +103,7 @@ fn three_needs(alloc: Global, matrix: &Matrix<Global>) -> Result<Comparison, Fau
         stands: told(&need_under(alloc, matrix, &standing)?),
         ordered: told(&need_under(alloc, matrix, &ORDER)?),
         other: Some(told(&need_under(alloc, matrix, &[2, 0, 1])?)),
+        inverse: false,
     })
 }
 

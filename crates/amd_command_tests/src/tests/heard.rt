@@ -225,10 +225,8 @@ fn orders_in_each_form(rt: HostRuntime) -> Result<(), Fail> {
         fs::write(&rt, with, lines.as_str())?;
         let words = ["order", "-", "--compare", option, with];
         let end = run_at_desk(&rt, &words, TWENTY, 0, Broken::Neither)?;
-        let is_told = end
-            .told
-            .contains("89 as it stands, 55 ordered, 55 by --with\n");
-        check!(&rt; end.status == 0 && is_told);
+        let wanted = format!(in rt.alloc(); "89 as it stands, 55 ordered, 55 by {option}\n")?;
+        check!(&rt; end.status == 0 && end.told.contains(wanted.as_str()), option);
     }
     fs::remove_dir_all(&rt, folder.as_str())?;
     Ok(())

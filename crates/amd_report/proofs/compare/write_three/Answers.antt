@@ -8,4 +8,4 @@ use Rattle.amd_report.proofs.compare.write_three.Goals as goal
 pub returns : goal.returns
 returns g c =
     let shown = ap (λ s. styled_text s c.args.label.now) c.laid_out.ensures ∙ padded-label c.args.label.now c.requires (omega arith) in
-    line-from_format c.args.label.now _ _ _ _ _ shown (three-line _ _ _) c.in_ok-writeln.ensures.bytes
+    line-from_format c.args.label.now _ _ _ _ _ shown (three-line _ _ _ _) c.in_ok-writeln.ensures.bytes
