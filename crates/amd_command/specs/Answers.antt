@@ -24,6 +24,7 @@ use Rattle.amd_command.specs.Lists.{ArePlacesIn, number_lines}
 use Rattle.amd_command.specs.Needs.{IsNeedUnder, TellsNeed, standing_rows}
 use Rattle.amd_command.specs.Parts.{TellsFactor, TellsTree}
 use Rattle.amd_command.specs.Permuted.{TellsPermuted}
+use Rattle.amd_command.specs.Postorders.{IsPostorderUnder}
 
 -- the order is one of the task's matrix, with its control and its marks
 pub record IsOrderingOf (task : Task) (p : List ℕ) (info : Info) : Type 0 where
@@ -99,6 +100,12 @@ abbrev pub told_figures : Options → Info → ℕ → Option Comparison → Lis
 told_figures o info repeats compared =
     if o.json || o.quiet then [] else utf8_lossy (order_figures info repeats compared)
 
+-- the text has a line for each column of such a postorder, from 0 or from 1 on
+pub record TellsPostorder (n : ℕ) (ap ai p : List ℕ) (zero_based : Bool) (text : List ℕ) : Type 0 where
+  pub columns : List ℕ
+  pub postorder : IsPostorderUnder n ap ai p columns
+  pub tells : text ≡ lines_of zero_based columns
+
 -- the texts of an ordering of a matrix: its lines or its object, its figures, and each other one exactly where it is
 -- asked for, the permuted matrix where the text of the matrix is given
 pub record AreTextsOf (o : Options) (n : ℕ) (ap ai : List ℕ) (repeats : ℕ) (given : Option (List ℕ)) (ordered : Ordered)
@@ -111,6 +118,8 @@ pub record AreTextsOf (o : Options) (n : ℕ) (ap ai : List ℕ) (repeats : ℕ)
       (λ made. TellsPermuted n ap ai ordered.p.items text made.items))
   pub tree : MatchOption o.tree (t.tree ≡ None) (λ path. MatchOption t.tree ⊥
       (λ made. TellsTree n ap ai ordered.p.items made.items))
+  pub postorder : MatchOption o.postorder (t.postorder ≡ None) (λ path. MatchOption t.postorder ⊥
+      (λ made. TellsPostorder n ap ai ordered.p.items o.zero_based made.items))
 
 -- what is written of a matrix, and of what its factor needs where that is known: one object, or lines
 abbrev pub facts_answer : Bool → Facts → Option Comparison → List ℕ

@@ -7,3 +7,4 @@ pub mod Needs
 pub mod Panels
 pub mod Parts
 pub mod Permuted
+pub mod Postorders

@@ -8,7 +8,7 @@ ghost use Rattle.std.specs.Io.KnownBytes.{Appends};
 ghost use Rattle.amd_symbolic.specs.Supernodes.{IsSupernodesOf};
 ghost use Rattle.amd_command.specs.Answers.{AreCountsIn, AreNumbers, AreTwoNeeds, IsOrderingOf, lines_of};
 ghost use Rattle.amd_command.specs.Answers.{AreTextsOf, TellsAnalysis, TellsBounds, TellsColumns, TellsFacts};
-ghost use Rattle.amd_command.specs.Answers.{TellsOrder, order_figures, told_figures};
+ghost use Rattle.amd_command.specs.Answers.{TellsOrder, TellsPostorder, order_figures, told_figures};
 ghost use Rattle.amd_command.specs.Needs.{IsNeedUnder};
 ghost use Rattle.amd_command.specs.Parts.{AreParentsUnder, TellsFactor, TellsTree, forest_text};
 ghost use Rattle.amd_command.specs.Permuted.{TellsPermuted};
@@ -19,6 +19,7 @@ use crate::lists::{places_in, write_numbers};
 use crate::needs::{need_under, standing_order, told};
 use crate::ordering::order_matrix;
 use crate::permuted::{pattern_text, valued_text};
+use crate::postorder::postorder_under;
 use amd::{Control, Info};
 use amd_market::reader::Matrix;
 use amd_report::compare::{Comparison, Needs, write_comparison_lines};
@@ -53,6 +54,8 @@ pub struct Texts {
     pub permuted: Option<Vec<u8>>,
     /// The elimination tree and its supernodes, where they are asked for.
     pub tree: Option<Vec<u8>>,
+    /// A postorder of the elimination tree, where it is asked for.
+    pub postorder: Option<Vec<u8>>,
 }
 
 /// An ordering, and what the factor needs under each order, where that is asked for.
@@ -217,6 +220,25 @@ fn tree_text(
     Ok(Some(text))
 }
 
+/// The text of a postorder of the elimination tree, where it is asked for: a line for each column, counted as the rows.
+fn postorder_text(
+    alloc: Global,
+    options: &Options<'_>,
+    matrix: &Matrix<Global>,
+    p: &[usize],
+) -> Result<Option<Vec<u8>>, Cause>
+    ensures { IfOk result (λ made. MatchOption options.now.postorder (made ≡ None) (λ path. MatchOption made ⊥
+        (λ text. TellsPostorder matrix.now.n matrix.now.a_p.items matrix.now.a_i.items p.now options.now.zero_based
+        text.items))) }
+{
+    let Some(_) = options.postorder else {
+        return Ok(None);
+    };
+    let columns = postorder_under(alloc, matrix, p)?;
+    let text = lines_of(alloc, options.zero_based, &columns)?;
+    Ok(Some(text))
+}
+
 /// The figures of an ordering, and how many duplicates were dropped from the file.
 fn figures_text(alloc: Global, ordered: &Ordered, duplicates: usize) -> Result<String, Cause>
     ensures { IfOk result (λ s. string_bytes s ≡
@@ -310,6 +332,7 @@ pub fn order_texts(
         factor: factor_text(alloc, options, matrix, &ordered.p)?,
         permuted: permuted_text(alloc, matrix, text, &ordered.p)?,
         tree: tree_text(alloc, options, matrix, &ordered.p)?,
+        postorder: postorder_text(alloc, options, matrix, &ordered.p)?,
     })
 }
 
@@ -387,6 +410,7 @@ pub fn analysis_texts(alloc: Global, task: &Task, json: bool) -> Result<Texts, C
         factor: None,
         permuted: None,
         tree: None,
+        postorder: None,
     })
 }
 

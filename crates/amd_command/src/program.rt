@@ -152,6 +152,7 @@ fn put_texts<'a, R: Files + Print + AllocGlobal>(
     put_where_asked(rt, options.factor, &texts.factor)?;
     put_where_asked(rt, options.permuted, &texts.permuted)?;
     put_where_asked(rt, options.tree, &texts.tree)?;
+    put_where_asked(rt, options.postorder, &texts.postorder)?;
     let out = options.out.unwrap_or(STANDARD);
     about(output_name(out), put_text(rt, out, &texts.lines))
 }

@@ -52,6 +52,7 @@ pub record AreOptionsOf (m : ArgMatches) (o : Options) : Type 0 where
   pub factor : IsText m (codes "factor") o.factor
   pub permuted : IsText m (codes "permuted") o.permuted
   pub tree : IsText m (codes "tree") o.tree
+  pub postorder : IsText m (codes "postorder") o.postorder
   pub picture : IsText m (codes "picture") o.picture
   pub symmetric : IsFlag m (codes "symmetric") o.symmetric
   pub tree_picture : IsText m (codes "tree-picture") o.tree_picture

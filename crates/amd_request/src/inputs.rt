@@ -248,12 +248,13 @@ fn inputs_of<'a>(options: &Options<'a>) -> [Option<&'a str>; 4] {
 }
 
 /// The files that a run writes. What has no file of its own goes to standard output.
-fn outputs_of<'a>(options: &Options<'a>) -> [Option<&'a str>; 6] {
+fn outputs_of<'a>(options: &Options<'a>) -> [Option<&'a str>; 7] {
     [
         Some(options.out.unwrap_or(STANDARD)),
         options.factor,
         options.permuted,
         options.tree,
+        options.postorder,
         options.picture,
         options.tree_picture,
     ]

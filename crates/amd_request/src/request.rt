@@ -52,6 +52,8 @@ pub struct Options<'a> {
     pub permuted: Option<&'a str>,
     /// The file for the elimination tree and its supernodes.
     pub tree: Option<&'a str>,
+    /// The file for a postorder of the elimination tree.
+    pub postorder: Option<&'a str>,
     /// The file for the picture.
     pub picture: Option<&'a str>,
     /// Whether the pattern before is that of `A + A'`.
@@ -139,7 +141,7 @@ static ORDERING: [Choice; 2] = [
 ];
 
 /// The options of what `order` writes beside the permutation.
-static WRITING: [Choice; 5] = [
+static WRITING: [Choice; 6] = [
     Choice {
         name: "inverse",
         has_path: false,
@@ -164,6 +166,11 @@ static WRITING: [Choice; 5] = [
         name: "tree",
         has_path: true,
         help: "Write the elimination tree to PATH: the parent of each column, 0 for a root; and then the supernodes",
+    },
+    Choice {
+        name: "postorder",
+        has_path: true,
+        help: "Write a postorder of the elimination tree to PATH: columns in the new order, one a line",
     },
 ];
 
@@ -382,6 +389,7 @@ fn options_of<'a>(matches: &ArgMatches<'a>) -> Options<'a>
         factor: matches.get_str("factor"),
         permuted: matches.get_str("permuted"),
         tree: matches.get_str("tree"),
+        postorder: matches.get_str("postorder"),
         picture: matches.get_str("picture"),
         symmetric: flag_of(matches, "symmetric"),
         tree_picture: matches.get_str("tree-picture"),

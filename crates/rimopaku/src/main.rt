@@ -3,7 +3,7 @@
 //!
 //!     rimopaku order FILE.mtx [--dense T] [--no-aggressive] [--hold PATH] [--out PATH] [--json] [--progress] [--quiet] [--yes]
 //!         [--inverse] [--zero-based] [--compare [--with PATH | --with-inverse PATH]] [--factor PATH] [--permuted PATH]
-//!         [--tree PATH] [--picture PATH [--symmetric]] [--tree-picture PATH]
+//!         [--tree PATH] [--postorder PATH] [--picture PATH [--symmetric]] [--tree-picture PATH]
 //!     rimopaku analyze FILE.mtx [--dense T] [--no-aggressive] [--hold PATH] [--out PATH] [--json] [--progress]
 //!         [--quiet] [--yes]
 //!     rimopaku info FILE.mtx [--dense T] [--json] [--progress] [--quiet] [--yes]

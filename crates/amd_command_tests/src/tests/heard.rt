@@ -123,6 +123,12 @@ const PLACES: &str = "6 9 16 11 2 12 14 4 8 13 15 10 1 17 3 18 20 7 19 5";
 /// The rows in the first of the orders, from 0 on.
 const ROWS: &str = "12 4 14 7 19 0 17 8 1 11 3 5 9 6 10 2 13 15 18 16";
 
+/// The columns of the factor under the first of the orders in a postorder of its elimination tree.
+const POSTORDER: &str = "10 11 12 13 14 3 2 4 5 1 6 7 8 9 15 16 17 18 19 20";
+
+/// The same, from 0 on.
+const POSTORDER_FROM_0: &str = "9 10 11 12 13 2 1 3 4 0 5 6 7 8 14 15 16 17 18 19";
+
 /// Whether each line begins with the row that an order has there, and there are as many.
 fn lists_order(shown: &str, order: &str) -> bool {
     let mut rows = order.split(' ');
@@ -187,6 +193,27 @@ fn forms_of_an_order(rt: HostRuntime) -> Result<(), Fail> {
     let words = ["order", "-", "--zero-based", "--inverse"];
     let end = run_at_desk(&rt, &words, TWENTY, 0, Broken::Neither)?;
     check!(&rt; end.status == 0 && end.shown.starts_with("5\n8\n15\n"));
+    Ok(())
+}
+
+/// A postorder of the elimination tree, whose columns count as the rows do.
+#[test]
+fn postorders_of_a_tree(rt: HostRuntime) -> Result<(), Fail> {
+    let words = ["order", "-", "--out", "/dev/null", "--postorder", "-"];
+    let end = run_at_desk(&rt, &words, TWENTY, 0, Broken::Neither)?;
+    check!(&rt; end.status == 0 && lists_order(end.shown.as_str(), POSTORDER));
+    let words = [
+        "order",
+        "-",
+        "--out",
+        "/dev/null",
+        "--postorder",
+        "-",
+        "--zero-based",
+        "--inverse",
+    ];
+    let end = run_at_desk(&rt, &words, TWENTY, 0, Broken::Neither)?;
+    check!(&rt; end.status == 0 && lists_order(end.shown.as_str(), POSTORDER_FROM_0));
     Ok(())
 }
 

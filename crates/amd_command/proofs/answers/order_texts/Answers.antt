@@ -23,4 +23,5 @@ returns c =
           (λ text. TellsPermuted m.n m.a_p.items m.a_i.items c.args.ordered.now.p.items given text.items))
           (rw c.deref-2.ensures.value at c.in_ok-permuted_text.ensures);
       tree = rw c.deref-3.ensures.value at c.in_ok-tree_text.ensures;
+      postorder = rw c.deref-4.ensures.value at c.in_ok-postorder_text.ensures;
     }

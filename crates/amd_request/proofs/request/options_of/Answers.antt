@@ -23,7 +23,8 @@ returns c = record {
   factor = c.get_str-7.ensures;
   permuted = c.get_str-8.ensures;
   tree = c.get_str-9.ensures;
-  picture = c.get_str-10.ensures;
+  postorder = c.get_str-10.ensures;
+  picture = c.get_str-11.ensures;
   symmetric = c.flag_of-8.ensures;
-  tree_picture = c.get_str-11.ensures;
+  tree_picture = c.get_str-12.ensures;
 }
