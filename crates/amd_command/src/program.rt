@@ -23,9 +23,10 @@ use amd_request::advice::{Advice, advice_on, advice_on_words};
 use amd_request::causes::Cause;
 use amd_request::inputs::{
     Complaint, Task, about, check_inputs, control_of, read_file, read_listing, read_task,
+    tell_ordering,
 };
 use amd_request::places::{STANDARD, folder_and_name};
-use amd_request::progress::Progress;
+use amd_request::progress::{Moment, Progress};
 use amd_request::putting::put_file;
 use amd_request::request::{Options, Request, request_of};
 use amd_request::unreadable::word_at_fault;
@@ -189,6 +190,12 @@ fn tell_drawn<R: Eprint>(rt: &R, quiet: bool, path: &str, drawn: Drawn) {
     }
 }
 
+/// Says that a factor with at most so many entries is drawn, or was, where it is large.
+fn tell_drawing<R: Clock + Eprint>(rt: &R, progress: &Progress, moment: Moment, lnz: usize) {
+    let stage = format_args!("rimopaku: drawing up to {lnz} entries of L");
+    progress.tell_moment(rt, lnz >= LARGE_FACTOR, moment, stage);
+}
+
 /// Draws what a task has and its ordering, whose factor has at most so many entries, to a file.
 fn draw_file<R: Files + Print + Clock + Eprint + AllocGlobal>(
     rt: &R,
@@ -198,8 +205,7 @@ fn draw_file<R: Files + Print + Clock + Eprint + AllocGlobal>(
     ordered: &Ordered,
 ) -> Result<(), Cause> {
     let lnz = ordered.info.lnz;
-    let stage = format_args!("rimopaku: drawing up to {lnz} entries of L");
-    task.progress.tell(rt, lnz >= LARGE_FACTOR, stage);
+    tell_drawing(rt, &task.progress, Moment::Begin, lnz);
     let source = Source {
         name: legend_name(options.file),
         edges: ordered.info.nz_a_plus_at / 2,
@@ -207,7 +213,9 @@ fn draw_file<R: Files + Print + Clock + Eprint + AllocGlobal>(
         most: MOST_ROWS,
     };
     let mut text = Vec::new(rt.alloc());
-    let drawn = write_picture(rt.alloc(), &task.matrix, &ordered.p, &source, &mut text)?;
+    let drawn = write_picture(rt.alloc(), &task.matrix, &ordered.p, &source, &mut text);
+    tell_drawing(rt, &task.progress, Moment::End, lnz);
+    let drawn = drawn?;
     put_text(rt, path, &text)?;
     tell_drawn(rt, options.quiet, path, drawn);
     Ok(())
@@ -265,7 +273,9 @@ fn order_made<'a, R: Files + Input + Clock + Eprint + AllocGlobal>(
     ensures texts { IfOk result (λ r. AreTextsOf options.now task.now.matrix.n task.now.matrix.a_p.items
         task.now.matrix.a_i.items task.now.matrix.repeats (option_map (λ v. v.items) task.now.text) r.0 r.1) }
 {
-    let (p, info) = about(options.file, order_task(rt.alloc(), task))?;
+    let ordered = order_task(rt.alloc(), task);
+    tell_ordering(rt, &task.progress, Moment::End, &task.matrix);
+    let (p, info) = about(options.file, ordered)?;
     let compared = compare_orders(rt, &task.progress, options, &task.matrix, &p, &info)?;
     let ordered = Ordered { p, info, compared };
     let given = task.text.as_deref();
@@ -294,6 +304,7 @@ fn analyze_file<'a, R: Runtime + AllocGlobal>(
 ) -> Result<(), Complaint<'a>> {
     let task = read_task(rt, options)?;
     let texts = analysis_texts(rt.alloc(), &task, options.json);
+    tell_ordering(rt, &task.progress, Moment::End, &task.matrix);
     let texts = about(options.file, texts)?;
     put_texts(rt, options, &texts)?;
     tell_figures(rt, options.quiet, texts.figures)
@@ -316,7 +327,9 @@ fn exact_needs<'a, R: Files + Input + Clock + Eprint + AllocGlobal>(
     if !options.compare {
         return Ok(None);
     }
+    tell_ordering(rt, progress, Moment::Begin, matrix);
     let ordered = order_matrix(rt.alloc(), matrix, control, None).map_err(Cause::from);
+    tell_ordering(rt, progress, Moment::End, matrix);
     let (p, info) = about(options.file, ordered)?;
     compare_orders(rt, progress, options, matrix, &p, &info)
 }

@@ -11,7 +11,7 @@ use crate::held::read_held;
 use crate::listed::{Listed, read_listed};
 use crate::listing::{Listing, listing_of};
 use crate::places::{STANDARD, are_one_output, check_place, input_path, is_input};
-use crate::progress::Progress;
+use crate::progress::{Moment, Progress};
 use crate::request::Options;
 use crate::sizes::{gibibytes_for, rows_without_bytes};
 use crate::watched::Watched;
@@ -102,6 +102,12 @@ fn check_size<R: Files + AllocGlobal>(rt: &R, path: &str) -> Result<(), Cause> {
     }
 }
 
+/// Ends the line of a bar that an error cuts off.
+fn cut_bar<R: Eprint>(rt: &R, error: ReadError) -> Cause {
+    let _ = rt.eprint("\n");
+    Cause::Text(error)
+}
+
 /// Reads the matrix of a file, or of standard input for `-`.
 pub fn read_file<R: Files + Input + Clock + Eprint + AllocGlobal>(
     rt: &R,
@@ -112,11 +118,11 @@ pub fn read_file<R: Files + Input + Clock + Eprint + AllocGlobal>(
         return read_matrix(rt.alloc(), rt.reader()).map_err(Cause::Text);
     }
     let input = open_file(rt, progress, path)?;
-    if !progress.percent {
+    let size = input.metadata().map_err(Cause::Open)?.len();
+    if !progress.has_bar(rt, size >= LONG_FILE) {
         return read_matrix(rt.alloc(), input).map_err(Cause::Text);
     }
-    let size = input.metadata().map_err(Cause::Open)?.len();
-    read_matrix(rt.alloc(), Watched::new(rt, input, size)).map_err(Cause::Text)
+    read_matrix(rt.alloc(), Watched::new(rt, input, size)).map_err(|error| cut_bar(rt, error))
 }
 
 /// All bytes of an input.
@@ -141,10 +147,10 @@ fn read_text<R: Files + Input + Clock + Eprint + AllocGlobal>(
         return bytes_of(rt.alloc(), rt.reader());
     }
     let input = open_file(rt, progress, path)?;
-    if !progress.percent {
+    let size = input.metadata().map_err(Cause::Open)?.len();
+    if !progress.has_bar(rt, size >= LONG_FILE) {
         return bytes_of(rt.alloc(), input);
     }
-    let size = input.metadata().map_err(Cause::Open)?.len();
     bytes_of(rt.alloc(), Watched::new(rt, input, size))
 }
 
@@ -207,12 +213,17 @@ pub fn read_listing<R: Files + Input + Clock + Eprint + AllocGlobal>(
     listing_of(rt.alloc(), n, &listed)
 }
 
-/// Says that a matrix is ordered, where it is large.
-fn tell_ordering<R: Clock + Eprint>(rt: &R, progress: &Progress, matrix: &Matrix<Global>) {
+/// Says that a matrix is ordered, or was, where it is large.
+pub fn tell_ordering<R: Clock + Eprint>(
+    rt: &R,
+    progress: &Progress,
+    moment: Moment,
+    matrix: &Matrix<Global>,
+) {
     let rows = matrix.n;
     let entries = matrix.a_i.len();
     let stage = format_args!("rimopaku: ordering {rows} rows, {entries} entries");
-    progress.tell(rt, entries >= MANY_ENTRIES, stage);
+    progress.tell_moment(rt, entries >= MANY_ENTRIES, moment, stage);
 }
 
 /// What the words of a subcommand choose.
@@ -362,7 +373,7 @@ pub fn read_task<'a, R: Files + Input + Clock + Eprint + AllocGlobal>(
     let progress = Progress::begin(rt, options.progress, options.quiet);
     let (matrix, text) = about(options.file, read_kept(rt, &progress, options))?;
     let hold = read_hold(rt, &progress, options, matrix.n)?;
-    tell_ordering(rt, &progress, &matrix);
+    tell_ordering(rt, &progress, Moment::Begin, &matrix);
     Ok(Task {
         progress,
         control,

@@ -30,7 +30,7 @@ pub struct Options<'a> {
     pub out: Option<&'a str>,
     /// Whether the answer is one object of JSON.
     pub json: bool,
-    /// Whether the reading of a file is told in percent.
+    /// Whether each stage is told, with a bar.
     pub progress: bool,
     /// Whether what the factor needs is told for other orders too.
     pub compare: bool,
@@ -117,7 +117,7 @@ static COMMON: [Choice; 4] = [
     Choice {
         name: "progress",
         has_path: false,
-        help: "Tell in percent how much of FILE was read",
+        help: "Tell each stage on standard error, with a bar, as on a terminal where it takes long",
     },
     Choice {
         name: "quiet",

@@ -1,9 +1,10 @@
-// A file that tells on standard error, in percent, how much of it was read. What is read is what the file has, by
-// contract; what is told is tested.
+// A file that tells on standard error, by a bar and in percent, how much of it was read. What is read is what the file
+// has, by contract; what is told is tested.
 
 ghost use Rattle.std.specs.Prelude.{◌≡◌};
 ghost use Rattle.amd_request.specs.Watched.{input_of};
 
+use crate::progress::bar_at;
 use std::io;
 use std::io::Read;
 
@@ -63,9 +64,10 @@ impl<P: Eprint, F: Read + Drop> Read for Watched<'_, P, F> {
         let count = self.input.read(buf)?;
         if let Some(percent) = self.meter.pass(count) {
             let end = if percent == 100 { "\n" } else { "\r" };
-            let _ = self
-                .told
-                .eprint(format_args!("rimopaku: reading, {percent}%{end}"));
+            let (full, empty) = bar_at(percent);
+            let _ = self.told.eprint(format_args!(
+                "rimopaku: reading [{full}{empty}] {percent}%{end}"
+            ));
         }
         Ok(count)
     }

@@ -1,6 +1,6 @@
 // A runtime for tests: its input is a text, it keeps what is shown on standard output and told on standard error, its
 // output may fail, it may move no file, and its clock goes on by so many seconds whenever it is read. Files are those of
-// the host.
+// the host, but that its standard error is no terminal.
 
 use std::alloc::{Allocator, Global};
 use std::cell::{Cell, RefCell};
@@ -197,6 +197,9 @@ impl Files for Desk<'_> {
     }
 
     fn read_link<B: Allocator>(&self, alloc: B, path: &str) -> io::Result<PathBuf<B>> {
+        if path == "/proc/self/fd/2" {
+            return Err(io::Error::from(ErrorKind::NotFound));
+        }
         self.host.read_link(alloc, path)
     }
 

@@ -460,6 +460,35 @@ fn causes_that_are_told(rt: HostRuntime) -> Result<(), Fail> {
     Ok(())
 }
 
+/// What is told of the path with a bar for each stage.
+const BARS: &str = concat!(
+    "rimopaku: ordering 3 rows, 5 entries [....................]\r",
+    "rimopaku: ordering 3 rows, 5 entries [####################]\n",
+);
+
+/// The same of its picture.
+const DRAWN_BARS: &str = concat!(
+    "\nrimopaku: drawing up to 2 entries of L [....................]\r",
+    "rimopaku: drawing up to 2 entries of L [####################]\n",
+);
+
+/// Each stage has a bar that fills, where that is asked for, unless nothing is to be told.
+#[test]
+fn bars_of_a_run(rt: HostRuntime) -> Result<(), Fail> {
+    let words = ["order", "-", "--progress", "--picture", "/dev/null"];
+    let end = run_at_desk(&rt, &words, PATH, 0, Broken::Neither)?;
+    check!(&rt; end.status == 0 && end.told.starts_with(BARS) && end.told.ends_with(DRAWN_BARS));
+    for words in [["analyze", "-", "--progress"], ["info", "--progress", "-"]] {
+        let end = run_at_desk(&rt, &words, PATH, 0, Broken::Neither)?;
+        let is_ordered = words.first().copied().unwrap_or("") == "analyze";
+        check!(&rt; end.status == 0 && end.told.starts_with(BARS) == is_ordered);
+    }
+    let words = ["order", "-", "--progress", "--quiet"];
+    let end = run_at_desk(&rt, &words, PATH, 2, Broken::Neither)?;
+    check!(&rt; end.status == 0 && end.told.is_empty());
+    Ok(())
+}
+
 /// A run that has taken some seconds tells each stage that it begins; one that has not tells none.
 #[test]
 fn stages_of_long_runs(rt: HostRuntime) -> Result<(), Fail> {
