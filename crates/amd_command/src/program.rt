@@ -29,6 +29,7 @@ use amd_request::places::{STANDARD, folder_and_name};
 use amd_request::progress::{Moment, Progress};
 use amd_request::putting::put_file;
 use amd_request::request::{Options, Request, request_of};
+use amd_request::sizes::Work;
 use amd_request::unreadable::word_at_fault;
 use amd_symbolic::{Fault, supernodes};
 use clap::Error;
@@ -261,6 +262,17 @@ fn put_pictures<'a, R: Files + Print + Clock + Eprint + AllocGlobal>(
     Ok(())
 }
 
+/// What a run of `order` does with its matrix.
+fn work_of(options: &Options<'_>) -> Work {
+    let is_counted = options.compare || options.factor.is_some() || options.tree.is_some();
+    let is_drawn = options.picture.is_some() || options.tree_picture.is_some();
+    if is_counted || is_drawn || options.postorder.is_some() {
+        Work::Factor
+    } else {
+        Work::Order
+    }
+}
+
 /// The ordering of what a task has, and its texts.
 fn order_made<'a, R: Files + Input + Clock + Eprint + AllocGlobal>(
     rt: &R,
@@ -289,7 +301,7 @@ fn order_file<'a, R: Runtime + AllocGlobal>(
     rt: &R,
     options: &Options<'a>,
 ) -> Result<(), Complaint<'a>> {
-    let task = read_task(rt, options)?;
+    let task = read_task(rt, options, work_of(options))?;
     let (ordered, texts) = order_made(rt, options, &task)?;
     put_texts(rt, options, &texts)?;
     let told = tell_figures(rt, options.quiet, texts.figures);
@@ -302,7 +314,7 @@ fn analyze_file<'a, R: Runtime + AllocGlobal>(
     rt: &R,
     options: &Options<'a>,
 ) -> Result<(), Complaint<'a>> {
-    let task = read_task(rt, options)?;
+    let task = read_task(rt, options, Work::Factor)?;
     let texts = analysis_texts(rt.alloc(), &task, options.json);
     tell_ordering(rt, &task.progress, Moment::End, &task.matrix);
     let texts = about(options.file, texts)?;
@@ -356,9 +368,15 @@ fn describe_file<'a, R: Runtime + AllocGlobal>(
     options: &Options<'a>,
 ) -> Result<(), Complaint<'a>> {
     let control = control_of(options)?;
-    check_inputs(rt, options)?;
+    let work = if options.compare {
+        Work::Factor
+    } else {
+        Work::Facts
+    };
+    let budget = check_inputs(rt, options, work)?;
     let progress = Progress::begin(rt, options.progress, options.quiet);
-    let matrix = about(options.file, read_file(rt, &progress, options.file))?;
+    let read = read_file(rt, &progress, budget, options.file);
+    let matrix = about(options.file, read)?;
     let text = facts_made(rt, &progress, options, &matrix, &control)?;
     about(output_name(STANDARD), put_text(rt, STANDARD, &text))
 }

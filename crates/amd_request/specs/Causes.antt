@@ -6,7 +6,8 @@ use Rattle.amd_market.specs.declared.faults.ReadError.{ReadError}
 use Rattle.amd_market.specs.declared.faults.ReadError.TheVariants.{Line, Input}
 use Rattle.amd_request.specs.declared.causes.Cause.{Cause}
 use Rattle.amd_request.specs.declared.causes.Cause.TheVariants.{Dense, Open, Folder, Twice, StandardInput, Text}
-use Rattle.amd_request.specs.declared.causes.Cause.TheVariants.{Form, Large, Order, List, Memory, Write, Picture}
+use Rattle.amd_request.specs.declared.causes.Cause.TheVariants.{Form, Large, LimitWord, Limit, Order, List, Memory}
+use Rattle.amd_request.specs.declared.causes.Cause.TheVariants.{Write, Picture}
 
 -- the exit status after a fault of a line: 1 where memory was refused, else 2
 abbrev pub fault_status : ReadFault → ℕ
@@ -30,7 +31,9 @@ exit_status (Text e) = read_status e
 exit_status Form = 2
 exit_status (Order f) = 2
 exit_status (List f) = 2
-exit_status (Large rows gibibytes) = 2
+exit_status (Large rows gibibytes source) = 2
+exit_status LimitWord = 2
+exit_status (Limit mebibytes) = 1
 exit_status Memory = 1
 exit_status (Write e) = 1
 exit_status (Picture e) = 3

@@ -1,5 +1,5 @@
 -- What the words of a command line ask for.
-use Rattle.std.specs.Prelude.{◌≡◌, ◌||◌, ℕ, ℤ, Bool, true, false, not, Option, None, Some, List, codes, pos}
+use Rattle.std.specs.Prelude.{◌≡◌, ◌||◌, if◌then◌else◌, ℕ, ℤ, Bool, true, false, not, Option, None, Some, List, codes, pos}
 use Rattle.std.specs.Prelude.{option_map, unwrap_or}
 use Rattle.std.specs.Borrow.{Bor}
 use Rattle.clap.specs.Simple.{HasMatchesOf, app_of, subcommand_rows_of}
@@ -8,7 +8,10 @@ use Rattle.clap.specs.Matches.{first_value, found_of, has_subcommand, one_text, 
 use Rattle.clap.specs.Walk.{rows_of}
 use Rattle.clap.specs.declared.parser.matches.ArgMatches.{ArgMatches}
 use Rattle.amd_types.specs.declared.amd.Control.{Control}
+use Rattle.amd_request.specs.Limits.{SpellsLimit}
 use Rattle.amd_request.specs.Numbers.{SpellsThousandths}
+use Rattle.amd_request.specs.declared.request.Allowance.{Allowance}
+use Rattle.amd_request.specs.declared.request.Allowance.TheVariants.{Justified, Any, Limit}
 use Rattle.amd_request.specs.declared.request.Options.{Options}
 use Rattle.amd_request.specs.declared.request.Request.{Request}
 use Rattle.amd_request.specs.declared.request.Request.TheVariants.{Order, Analyze, Info}
@@ -49,6 +52,7 @@ pub record AreOptionsOf (m : ArgMatches) (o : Options) : Type 0 where
   pub zero_based : IsFlag m (codes "zero-based") o.zero_based
   pub quiet : IsFlag m (codes "quiet") o.quiet
   pub yes : IsFlag m (codes "yes") o.yes
+  pub memory : IsText m (codes "memory") o.memory
   pub factor : IsText m (codes "factor") o.factor
   pub permuted : IsText m (codes "permuted") o.permuted
   pub tree : IsText m (codes "tree") o.tree
@@ -84,3 +88,15 @@ IsDense (Some text) d = SpellsThousandths text.now d
 pub record IsControlOf (o : Options) (c : Control) : Type 0 where
   pub aggressive : c.aggressive ≡ o.aggressive
   pub dense : IsDense o.dense c.dense
+
+-- the memory that a run may take is the number of bytes that was given
+abbrev pub IsLimitIn : List ℕ → Allowance → Type 0
+IsLimitIn text a = (bytes : ℕ) × SpellsLimit text bytes × (a ≡ Limit bytes)
+
+-- it is that, or any where a flag says so, and else what is justified
+abbrev pub AllowsMemory : Option (Bor (List ℕ)) → Bool → Allowance → Type 0
+AllowsMemory (Some text) set a = IsLimitIn text.now a
+AllowsMemory None set a = a ≡ (if set then Any else Justified)
+
+abbrev pub IsAllowanceOf : Options → Allowance → Type 0
+IsAllowanceOf o a = AllowsMemory o.memory o.yes a

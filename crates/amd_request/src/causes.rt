@@ -12,6 +12,17 @@ use std::alloc::{AllocError, AllocFailed};
 use std::io;
 use thiserror::Error;
 
+/// What should justify the rows of a matrix.
+#[derive(Clone, Copy, Debug, Drop, Error)]
+pub enum Source {
+    /// The bytes of its file.
+    #[error("bytes")]
+    Bytes,
+    /// Its entries, where it comes by a pipe.
+    #[error("entries")]
+    Entries,
+}
+
 /// Why a run ends early.
 #[derive(Debug, Drop, Error)]
 pub enum Cause {
@@ -43,12 +54,23 @@ pub enum Cause {
     #[error("{0}")]
     List(ListFault),
     /// A file asks for much more memory than its entries justify.
-    #[error("tells of {rows} rows, which take {gibibytes} GiB or more, in fewer bytes: give --yes to go on")]
+    #[error("tells of {rows} rows, which take {gibibytes} GiB or more, in fewer {source}: give --yes or --memory to go on")]
     Large {
         /// The rows that it tells of.
         rows: u64,
         /// The memory.
         gibibytes: u64,
+        /// What should justify them.
+        source: Source,
+    },
+    /// The limit of the memory is no number of bytes.
+    #[error("must be a number of bytes, or of K, M or G, which are 1024 times as many, such as 800M or 2G")]
+    LimitWord,
+    /// A run would take more memory than it may.
+    #[error("would take about {mebibytes} MiB, more than --memory allows")]
+    Limit {
+        /// The memory that it would take.
+        mebibytes: u64,
     },
     /// Memory was refused.
     #[error("out of memory")]
@@ -69,7 +91,7 @@ impl Cause {
         ensures most { result ≤ 3 }
     {
         match self {
-            Cause::Dense | Cause::Open(_) | Cause::Folder | Cause::Twice => 2,
+            Cause::Dense | Cause::LimitWord | Cause::Open(_) | Cause::Folder | Cause::Twice => 2,
             Cause::StandardInput | Cause::Form | Cause::Order(_) | Cause::List(_) => 2,
             Cause::Large { .. } => 2,
             Cause::Text(ReadError::Line { fault, .. }) => {
@@ -80,7 +102,7 @@ impl Cause {
                 }
             }
             Cause::Text(ReadError::Input { .. }) => 2,
-            Cause::Memory | Cause::Write(_) => 1,
+            Cause::Memory | Cause::Limit { .. } | Cause::Write(_) => 1,
             Cause::Picture(_) => 3,
         }
     }
@@ -101,11 +123,14 @@ impl Cause {
             Cause::Write(error) | Cause::Open(error) | Cause::Picture(error) => {
                 Cause::Picture(error)
             }
-            Cause::Memory => Cause::Picture(io::Error::from(io::ErrorKind::OutOfMemory)),
+            Cause::Memory | Cause::Limit { .. } => {
+                Cause::Picture(io::Error::from(io::ErrorKind::OutOfMemory))
+            }
             Cause::Folder => Cause::Picture(io::Error::from(io::ErrorKind::IsADirectory)),
-            Cause::Dense | Cause::Twice | Cause::StandardInput | Cause::Text(_) => {
+            Cause::Dense | Cause::LimitWord | Cause::Twice | Cause::StandardInput => {
                 Cause::Picture(io::Error::from(io::ErrorKind::InvalidInput))
             }
+            Cause::Text(_) => Cause::Picture(io::Error::from(io::ErrorKind::InvalidInput)),
             Cause::Form | Cause::Order(_) | Cause::List(_) | Cause::Large { .. } => {
                 Cause::Picture(io::Error::from(io::ErrorKind::InvalidInput))
             }

@@ -13,7 +13,7 @@ use crate::listing::{Listing, listing_of};
 use crate::places::{STANDARD, are_one_output, check_place, input_path, is_input};
 use crate::progress::{Moment, Progress};
 use crate::request::Options;
-use crate::sizes::{gibibytes_for, rows_without_bytes};
+use crate::sizes::{Budget, Work, check_told, head_of, told_size};
 use crate::watched::Watched;
 use amd_market::faults::ReadError;
 use amd_market::reader::{Matrix, read_matrix};
@@ -21,7 +21,7 @@ use amd_types::amd::Control;
 use std::alloc::Global;
 use std::fs;
 use std::fs::OpenFile;
-use std::io::{ErrorKind, Read};
+use std::io::{Error, ErrorKind, Read};
 use std::rt::{Clock, Files};
 use thiserror::Error;
 
@@ -84,22 +84,39 @@ fn open_file<R: Files + Clock + Eprint>(
     Ok(file)
 }
 
-/// Refuses a regular file that asks for much more memory than its entries justify. A pipe is not looked at: what it has
-/// could not be read again.
-fn check_size<R: Files + AllocGlobal>(rt: &R, path: &str) -> Result<(), Cause> {
-    let path = input_path(path);
-    if !fs::metadata(rt, path).is_ok_and(|found| found.is_file()) {
+/// Whether a path leads to a regular file, which can be read again.
+fn is_regular<R: Files>(rt: &R, path: &str) -> bool {
+    fs::metadata(rt, input_path(path)).is_ok_and(|found| found.is_file())
+}
+
+/// Refuses a regular file that asks for more memory than it may. What else there is, as a pipe, is looked at when it is
+/// read, since it could not be read again.
+fn check_size<R: Files + AllocGlobal>(rt: &R, budget: Budget, path: &str) -> Result<(), Cause> {
+    if !is_regular(rt, path) {
         return Ok(());
     }
-    let input = fs::open(rt, path).map_err(Cause::Open)?;
+    let input = fs::open(rt, input_path(path)).map_err(Cause::Open)?;
     let size = input.metadata().map_err(Cause::Open)?.len();
-    match rows_without_bytes(rt.alloc(), input, size) {
-        Some(rows) => Err(Cause::Large {
-            rows,
-            gibibytes: gibibytes_for(rows),
-        }),
-        None => Ok(()),
+    check_told(budget, told_size(rt.alloc(), input), Some(size))
+}
+
+/// Why bytes were not read.
+fn unread(error: Error) -> Cause {
+    if error.kind() == ErrorKind::OutOfMemory {
+        return Cause::Memory;
     }
+    Cause::Text(ReadError::Input { line: 0, error })
+}
+
+/// Reads the matrix of a pipe, whose first bytes are looked at before: they may ask for more memory than they may take.
+fn read_pipe<I: Read + Drop>(
+    alloc: Global,
+    budget: Budget,
+    mut input: I,
+) -> Result<Matrix<Global>, Cause> {
+    let head = head_of(alloc, &mut input).map_err(unread)?;
+    check_told(budget, told_size(alloc, head.as_slice()), None)?;
+    read_matrix(alloc, head.as_slice().chain(input)).map_err(Cause::Text)
 }
 
 /// Ends the line of a bar that an error cuts off.
@@ -112,12 +129,20 @@ fn cut_bar<R: Eprint>(rt: &R, error: ReadError) -> Cause {
 pub fn read_file<R: Files + Input + Clock + Eprint + AllocGlobal>(
     rt: &R,
     progress: &Progress,
+    budget: Budget,
     path: &str,
 ) -> Result<Matrix<Global>, Cause> {
+    let is_pipe = !is_regular(rt, path);
     if path == STANDARD {
+        if is_pipe {
+            return read_pipe(rt.alloc(), budget, rt.reader());
+        }
         return read_matrix(rt.alloc(), rt.reader()).map_err(Cause::Text);
     }
     let input = open_file(rt, progress, path)?;
+    if is_pipe {
+        return read_pipe(rt.alloc(), budget, input);
+    }
     let size = input.metadata().map_err(Cause::Open)?.len();
     if !progress.has_bar(rt, size >= LONG_FILE) {
         return read_matrix(rt.alloc(), input).map_err(Cause::Text);
@@ -132,8 +157,7 @@ fn bytes_of<I: Read + Drop>(alloc: Global, mut input: I) -> Result<Vec<u8>, Caus
     let mut text = Vec::new(alloc);
     match input.read_to_end(&mut text) {
         Ok(_) => Ok(text),
-        Err(error) if error.kind() == ErrorKind::OutOfMemory => Err(Cause::Memory),
-        Err(error) => Err(Cause::Text(ReadError::Input { line: 0, error })),
+        Err(error) => Err(unread(error)),
     }
 }
 
@@ -158,6 +182,7 @@ fn read_text<R: Files + Input + Clock + Eprint + AllocGlobal>(
 fn read_kept<R: Files + Input + Clock + Eprint + AllocGlobal>(
     rt: &R,
     progress: &Progress,
+    budget: Budget,
     options: &Options<'_>,
 ) -> Result<(Matrix<Global>, Option<Vec<u8>>), Cause>
     ensures text { IfOk result (λ r. IfSome r.1 (λ text.
@@ -165,9 +190,14 @@ fn read_kept<R: Files + Input + Clock + Eprint + AllocGlobal>(
     ensures kept { IfOk result (λ r. is_some r.1 ≡ is_some options.now.permuted) }
 {
     if options.permuted.is_none() {
-        return Ok((read_file(rt, progress, options.file)?, None));
+        return Ok((read_file(rt, progress, budget, options.file)?, None));
     }
     let text = read_text(rt, progress, options.file)?;
+    check_told(
+        budget,
+        told_size(rt.alloc(), text.as_slice()),
+        Some(text.len() as u64),
+    )?;
     match read_matrix(rt.alloc(), text.as_slice()) {
         Ok(matrix) => Ok((matrix, Some(text))),
         Err(error) => Err(Cause::Text(error)),
@@ -281,17 +311,23 @@ fn check_standard<'a>(options: &Options<'a>) -> Result<(), Complaint<'a>> {
     Ok(())
 }
 
-/// Refuses standard input for more than one of the files to read, and, unless that is allowed, a matrix that asks for
-/// much more memory than its entries justify.
+/// How much memory a run of the words may take that does this work.
+fn budget_of<'a>(options: &Options<'a>, work: Work) -> Result<Budget, Complaint<'a>> {
+    let allowance = about("--memory", options.allowance().ok_or(Cause::LimitWord))?;
+    Ok(Budget { allowance, work })
+}
+
+/// Refuses standard input for more than one of the files to read, and a file that asks for more memory than it may;
+/// returns how much a run may take that does this work.
 pub fn check_inputs<'a, R: Files + AllocGlobal>(
     rt: &R,
     options: &Options<'a>,
-) -> Result<(), Complaint<'a>> {
+    work: Work,
+) -> Result<Budget, Complaint<'a>> {
     check_standard(options)?;
-    if options.yes {
-        return Ok(());
-    }
-    about(options.file, check_size(rt, options.file))
+    let budget = budget_of(options, work)?;
+    about(options.file, check_size(rt, budget, options.file))?;
+    Ok(budget)
 }
 
 /// Refuses an output that is one of some files to read.
@@ -356,10 +392,11 @@ fn check_outputs<'a, R: Files + AllocGlobal>(
     Ok(())
 }
 
-/// Reads what is to be ordered, and says so where it is large.
+/// Reads what is to be ordered, for a run that does this work, and says so where it is large.
 pub fn read_task<'a, R: Files + Input + Clock + Eprint + AllocGlobal>(
     rt: &R,
     options: &Options<'a>,
+    work: Work,
 ) -> Result<Task, Complaint<'a>>
     ensures control { IfOk result (λ task. IsControlOf options.now task.control) }
     ensures hold { IfOk result (λ task. is_some task.hold ≡ is_some options.now.hold) }
@@ -368,10 +405,11 @@ pub fn read_task<'a, R: Files + Input + Clock + Eprint + AllocGlobal>(
     ensures kept { IfOk result (λ task. is_some task.text ≡ is_some options.now.permuted) }
 {
     let control = control_of(options)?;
-    check_inputs(rt, options)?;
+    let budget = check_inputs(rt, options, work)?;
     check_outputs(rt, options)?;
     let progress = Progress::begin(rt, options.progress, options.quiet);
-    let (matrix, text) = about(options.file, read_kept(rt, &progress, options))?;
+    let read = read_kept(rt, &progress, budget, options);
+    let (matrix, text) = about(options.file, read)?;
     let hold = read_hold(rt, &progress, options, matrix.n)?;
     tell_ordering(rt, &progress, Moment::Begin, &matrix);
     Ok(Task {

@@ -10,6 +10,7 @@ pub mod advice;
 pub mod causes;
 pub mod held;
 pub mod inputs;
+pub mod limits;
 pub mod list_faults;
 pub mod listed;
 pub mod listing;

@@ -1,11 +1,12 @@
 // The words of the command line, and what they ask for. Which options there are is tested; what those that were found
 // ask for is told by contracts.
 
-ghost use Rattle.std.specs.Prelude.{◌≡◌, ◌||◌, map, option_map, unwrap_or, IfOk, IfSome};
+ghost use Rattle.std.specs.Prelude.{◌≡◌, ◌||◌, if◌then◌else◌, map, option_map, unwrap_or, IfOk, IfSome};
 ghost use Rattle.std.specs.String.{string_bytes};
 ghost use Rattle.amd_request.specs.Requests.{AreOptionsOf, AsksComparison, AsksFor, AsksInWords};
-ghost use Rattle.amd_request.specs.Requests.{IsControlOf, IsFlag};
+ghost use Rattle.amd_request.specs.Requests.{IsAllowanceOf, IsControlOf, IsFlag, IsLimitIn};
 
+use crate::limits::limit_of;
 use crate::numbers::thousandths_of;
 use amd_types::amd::Control;
 use clap::{Arg, ArgAction, ArgMatches, Command, Error};
@@ -46,6 +47,8 @@ pub struct Options<'a> {
     pub quiet: bool,
     /// Whether a file may ask for much more memory than its entries justify.
     pub yes: bool,
+    /// How much memory the run may take, as text.
+    pub memory: Option<&'a str>,
     /// The file for the pattern of the factor.
     pub factor: Option<&'a str>,
     /// The file for the permuted matrix.
@@ -60,6 +63,17 @@ pub struct Options<'a> {
     pub symmetric: bool,
     /// The file for the picture of the tree of the supernodes.
     pub tree_picture: Option<&'a str>,
+}
+
+/// How much memory a run may take.
+#[derive(Clone, Copy)]
+pub enum Allowance {
+    /// What the bytes or the entries of a matrix justify.
+    Justified,
+    /// Any.
+    Any,
+    /// So many bytes.
+    Limit(u64),
 }
 
 /// What is asked for.
@@ -92,6 +106,16 @@ fn dense_argument<'a>(alloc: Global) -> Arg<'a> {
         )
 }
 
+/// The option with the memory that a run may take.
+fn memory_argument<'a>(alloc: Global) -> Arg<'a> {
+    Arg::new(alloc, "memory")
+        .long("memory")
+        .value_name("LIMIT")
+        .help(
+            "Refuse a matrix that would take more than about LIMIT bytes; K, M or G may stand behind the number",
+        )
+}
+
 /// An option of a subcommand.
 struct Choice {
     /// Its name, behind two hyphens.
@@ -107,7 +131,7 @@ static COMMON: [Choice; 4] = [
     Choice {
         name: "yes",
         has_path: false,
-        help: "Go on where FILE tells of many more rows than it has bytes",
+        help: "Go on where FILE tells of many more rows than it has bytes, or a pipe of more than entries",
     },
     Choice {
         name: "json",
@@ -257,7 +281,8 @@ fn matrix_command<'a>(
     let command = Command::new(alloc, name)
         .about(about)
         .arg(file_argument(alloc))?
-        .arg(dense_argument(alloc))?;
+        .arg(dense_argument(alloc))?
+        .arg(memory_argument(alloc))?;
     with_choices(alloc, command, &COMMON)
 }
 
@@ -386,6 +411,7 @@ fn options_of<'a>(matches: &ArgMatches<'a>) -> Options<'a>
         zero_based: flag_of(matches, "zero-based"),
         quiet: flag_of(matches, "quiet"),
         yes: flag_of(matches, "yes"),
+        memory: matches.get_str("memory"),
         factor: matches.get_str("factor"),
         permuted: matches.get_str("permuted"),
         tree: matches.get_str("tree"),
@@ -420,6 +446,25 @@ pub fn request_of<'a>(alloc: Global, words: &'a [String]) -> Result<Request<'a>,
     Ok(request_in(&matches))
 }
 
+/// As much memory as a text tells, where it is a number of bytes.
+fn limit_in(text: &str) -> Option<Allowance>
+    ensures { IfSome result (IsLimitIn text.now) }
+{
+    let bytes = limit_of(text)?;
+    Some(Allowance::Limit(bytes))
+}
+
+/// Any memory, or what is justified.
+fn without_limit(any: bool) -> Allowance
+    ensures { result ≡ (if any then Allowance.Any else Allowance.Justified) }
+{
+    if any {
+        Allowance::Any
+    } else {
+        Allowance::Justified
+    }
+}
+
 impl<'a> Options<'a> {
     /// What the words choose, where the dense row parameter is a decimal number with up to three places.
     pub fn control(&self) -> Option<Control>
@@ -431,5 +476,15 @@ impl<'a> Options<'a> {
             control.dense = thousandths_of(text)?;
         }
         Some(control)
+    }
+
+    /// How much memory the run may take, where the text of it is a number of bytes.
+    pub fn allowance(&self) -> Option<Allowance>
+        ensures { IfSome result (IsAllowanceOf self.now) }
+    {
+        match self.memory {
+            Some(text) => limit_in(text),
+            None => Some(without_limit(self.yes)),
+        }
     }
 }

@@ -1,12 +1,13 @@
 //! Orders the rows of a sparse matrix in a file, works out the exact factor, or tells what the
 //! matrix is.
 //!
-//!     rimopaku order FILE.mtx [--dense T] [--no-aggressive] [--hold PATH] [--out PATH] [--json] [--progress] [--quiet] [--yes]
-//!         [--inverse] [--zero-based] [--compare [--with PATH | --with-inverse PATH]] [--factor PATH] [--permuted PATH]
-//!         [--tree PATH] [--postorder PATH] [--picture PATH [--symmetric]] [--tree-picture PATH]
+//!     rimopaku order FILE.mtx [--dense T] [--no-aggressive] [--hold PATH] [--out PATH] [--json] [--progress] [--quiet]
+//!         [--yes] [--memory LIMIT] [--inverse] [--zero-based] [--compare [--with PATH | --with-inverse PATH]]
+//!         [--factor PATH] [--permuted PATH] [--tree PATH] [--postorder PATH] [--picture PATH [--symmetric]]
+//!         [--tree-picture PATH]
 //!     rimopaku analyze FILE.mtx [--dense T] [--no-aggressive] [--hold PATH] [--out PATH] [--json] [--progress]
-//!         [--quiet] [--yes]
-//!     rimopaku info FILE.mtx [--dense T] [--json] [--progress] [--quiet] [--yes]
+//!         [--quiet] [--yes] [--memory LIMIT]
+//!     rimopaku info FILE.mtx [--dense T] [--json] [--progress] [--quiet] [--yes] [--memory LIMIT]
 //!         [--exact [--with PATH | --with-inverse PATH]]
 //!
 //! `-` in place of a file is standard input, or standard output. `order` writes the permutation, the number of a row a

@@ -1,6 +1,6 @@
 // A runtime for tests: its input is a text, it keeps what is shown on standard output and told on standard error, its
 // output may fail, it may move no file, and its clock goes on by so many seconds whenever it is read. Files are those of
-// the host, but that its standard error is no terminal.
+// the host, but that its input is a pipe and its standard error no terminal.
 
 use std::alloc::{Allocator, Global};
 use std::cell::{Cell, RefCell};
@@ -174,6 +174,9 @@ impl Files for Desk<'_> {
     }
 
     fn metadata(&self, path: &str) -> io::Result<Metadata> {
+        if path == "/dev/stdin" {
+            return Err(io::Error::from(ErrorKind::NotFound));
+        }
         self.host.metadata(path)
     }
 

@@ -4,6 +4,7 @@
 use crate::tests::outputs::PATH;
 use crate::tests::runs::{Broken, run_at_desk};
 use amd_testing::check;
+use std::alloc::{AllocError, Global};
 use std::fs::Permissions;
 use std::io::ErrorKind;
 use std::os::unix::fs::{MetadataExt, PermissionsExt, symlink};
@@ -168,6 +169,73 @@ fn many_rows_in_few_bytes(rt: HostRuntime) -> Result<(), Fail> {
             .contains("tells of 99000000 rows, which take 2 GiB or more");
         check!(&rt; end.status == 2 && end.shown.is_empty() && is_told, name);
     }
+    fs::remove_dir_all(&rt, folder)?;
+    Ok(())
+}
+
+/// The head of a pipe, with notes that are longer than what is looked at first.
+fn long_head(alloc: Global, size: &str) -> Result<String, AllocError> {
+    let mut text = String::from_str(alloc, "%%MatrixMarket matrix coordinate pattern general\n")?;
+    for _ in 0..300 {
+        text.push_str("% a note that says nothing of the matrix\n")?;
+    }
+    text.push_str(size)?;
+    Ok(text)
+}
+
+/// A pipe that tells of more rows than entries, which take a gibibyte, is refused before it is read on.
+#[test]
+fn many_rows_by_a_pipe(rt: HostRuntime) -> Result<(), Fail> {
+    let text = long_head(rt.alloc(), "99000000 99000000 98999999\n")?;
+    for name in ["info", "order", "analyze"] {
+        let end = run_at_desk(&rt, &[name, "-"], text.as_str(), 0, Broken::Neither)?;
+        let is_told = end.told.contains(
+            "tells of 99000000 rows, which take 2 GiB or more, in fewer entries",
+        );
+        check!(&rt; end.status == 2 && end.shown.is_empty() && is_told, name);
+    }
+    let few = long_head(rt.alloc(), "3 3 1\n2 1\n")?;
+    let end = run_at_desk(&rt, &["order", "-"], few.as_str(), 0, Broken::Neither)?;
+    check!(&rt; end.status == 0 && end.shown.lines().count() == 3);
+    Ok(())
+}
+
+/// A limit of the memory and a run, and whether the run stays within it: three rows and four entries.
+static WITHIN: [(&str, &str, bool); 8] = [
+    ("info", "104", true),
+    ("info", "103", false),
+    ("order", "256", true),
+    ("order", "255", false),
+    ("analyze", "512", true),
+    ("analyze", "511", false),
+    ("analyze", "1K", true),
+    ("order", "0", false),
+];
+
+/// A run that would take more than `--memory` allows is refused with status 1, by a pipe and by a file, and tells how
+/// much it would take.
+#[test]
+fn a_limit_of_memory(rt: HostRuntime) -> Result<(), Fail> {
+    let folder = make_folder(&rt)?;
+    let folder = folder.as_str();
+    let file = within(&rt, folder, "small.mtx")?;
+    let file = file.as_str();
+    let text = "%%MatrixMarket matrix coordinate pattern general\n3 3 4\n2 1\n1 2\n3 2\n3 3\n";
+    fs::write(&rt, file, text)?;
+    for (name, limit, is_within) in &WITHIN {
+        for path in [file, "-"] {
+            let words = [*name, path, "--memory", *limit];
+            let end = run_at_desk(&rt, &words, text, 0, Broken::Neither)?;
+            let is_told = end
+                .told
+                .contains("would take about 1 MiB, more than --memory allows\n");
+            check!(&rt; end.status == u8::from(!*is_within) && is_told != *is_within, limit);
+            check!(&rt; end.shown.is_empty() != *is_within, limit);
+        }
+    }
+    let words = ["order", "-", "--memory", "much"];
+    let end = run_at_desk(&rt, &words, text, 0, Broken::Neither)?;
+    check!(&rt; end.status == 2 && end.told.starts_with("rimopaku: --memory: must be a number of bytes"));
     fs::remove_dir_all(&rt, folder)?;
     Ok(())
 }

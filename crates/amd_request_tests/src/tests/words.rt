@@ -1,5 +1,6 @@
 // The words of a command line: what they ask for, and the dense row parameter.
 
+use amd_request::limits::limit_of;
 use amd_request::numbers::thousandths_of;
 use amd_request::request::{Request, request_of};
 use amd_testing::check;
@@ -38,6 +39,32 @@ static PARAMETERS: [(&str, Option<i32>); 24] = [
 fn decimal_parameters(rt: HostRuntime) {
     for (text, wanted) in &PARAMETERS {
         check!(&rt; thousandths_of(text) == *wanted, text);
+    }
+}
+
+/// Texts of limits of memory, and bytes.
+static LIMITS: [(&str, Option<u64>); 15] = [
+    ("0", Some(0)),
+    ("4096", Some(4096)),
+    ("1K", Some(1024)),
+    ("3k", Some(3072)),
+    ("800M", Some(838_860_800)),
+    ("1m", Some(1_048_576)),
+    ("2G", Some(2_147_483_648)),
+    ("2g", Some(2_147_483_648)),
+    ("17179869183G", Some(18_446_744_072_635_809_792)),
+    ("17179869184G", None),
+    ("", None),
+    ("K", None),
+    ("1.5G", None),
+    ("-1", None),
+    ("2GB", None),
+];
+
+#[test]
+fn limits_of_memory(rt: HostRuntime) {
+    for (text, wanted) in &LIMITS {
+        check!(&rt; limit_of(text) == *wanted, text);
     }
 }
 
