@@ -1,6 +1,6 @@
 -- What stands in the answers: orderings of what a task has, what the factor needs under two orders, and texts.
 use Rattle.std.specs.Prelude.{◌≡◌, if◌then◌else◌, ℕ, ℤ, Bool, true, false, Option, None, Some, List, [], ◌++◌, ◌||◌, length}
-use Rattle.std.specs.Prelude.{map, option_map, pos, string_bytes, MatchOption}
+use Rattle.std.specs.Prelude.{map, option_map, pos, string_bytes}
 use Rattle.std.specs.Str.Lossy.{utf8_lossy}
 use Rattle.amd.specs.Answers.{IsOrderingHolding}
 use Rattle.amd_types.specs.declared.amd.Info.{Info}
@@ -18,13 +18,9 @@ use Rattle.amd_report.specs.Json.{facts_json, order_json}
 use Rattle.amd_report.specs.Texts.{figures_text, row_lines}
 use Rattle.amd_request.specs.declared.inputs.Task.{Task}
 use Rattle.amd_request.specs.declared.request.Options.{Options}
-use Rattle.amd_command.specs.declared.answers.Ordered.{Ordered}
 use Rattle.amd_command.specs.declared.answers.Texts.{Texts}
 use Rattle.amd_command.specs.Lists.{ArePlacesIn, number_lines}
 use Rattle.amd_command.specs.Needs.{IsNeedUnder, TellsNeed, standing_rows}
-use Rattle.amd_command.specs.Parts.{TellsFactor, TellsTree}
-use Rattle.amd_command.specs.Permuted.{TellsPermuted}
-use Rattle.amd_command.specs.Postorders.{IsPostorderUnder}
 
 -- the order is one of the task's matrix, with its control and its marks
 pub record IsOrderingOf (task : Task) (p : List ℕ) (info : Info) : Type 0 where
@@ -84,7 +80,7 @@ pub record TellsAnalysis (task : Task) (json : Bool) (t : Texts) : Type 0 where
   pub counted : AreCountsIn task p sizes parents need
   pub tells : TellsColumns json task.matrix.repeats info p sizes parents need t.lines.items
   pub bounds : TellsBounds json task.matrix.repeats info need (string_bytes t.figures)
-  pub alone : (t.factor ≡ None) × (t.permuted ≡ None) × (t.tree ≡ None)
+  pub alone : (t.factor ≡ None) × (t.permuted ≡ None) × (t.tree ≡ None) × (t.postorder ≡ None)
 
 -- the lines on what the factor needs under each order, where that is known
 abbrev pub known_lines : Option Comparison → List ℕ
@@ -99,27 +95,6 @@ order_figures info repeats compared = figures_text info repeats ++ known_lines c
 abbrev pub told_figures : Options → Info → ℕ → Option Comparison → List ℕ
 told_figures o info repeats compared =
     if o.json || o.quiet then [] else utf8_lossy (order_figures info repeats compared)
-
--- the text has a line for each column of such a postorder, from 0 or from 1 on
-pub record TellsPostorder (n : ℕ) (ap ai p : List ℕ) (zero_based : Bool) (text : List ℕ) : Type 0 where
-  pub columns : List ℕ
-  pub postorder : IsPostorderUnder n ap ai p columns
-  pub tells : text ≡ lines_of zero_based columns
-
--- the texts of an ordering of a matrix: its lines or its object, its figures, and each other one exactly where it is
--- asked for, the permuted matrix where the text of the matrix is given
-pub record AreTextsOf (o : Options) (n : ℕ) (ap ai : List ℕ) (repeats : ℕ) (given : Option (List ℕ)) (ordered : Ordered)
-    (t : Texts) : Type 0 where
-  pub lines : TellsOrder o ordered.info repeats ordered.compared ordered.p.items t.lines.items
-  pub figures : string_bytes t.figures ≡ told_figures o ordered.info repeats ordered.compared
-  pub factor : MatchOption o.factor (t.factor ≡ None) (λ path. MatchOption t.factor ⊥
-      (λ made. TellsFactor n ap ai ordered.p.items made.items))
-  pub permuted : MatchOption given (t.permuted ≡ None) (λ text. MatchOption t.permuted ⊥
-      (λ made. TellsPermuted n ap ai ordered.p.items text made.items))
-  pub tree : MatchOption o.tree (t.tree ≡ None) (λ path. MatchOption t.tree ⊥
-      (λ made. TellsTree n ap ai ordered.p.items made.items))
-  pub postorder : MatchOption o.postorder (t.postorder ≡ None) (λ path. MatchOption t.postorder ⊥
-      (λ made. TellsPostorder n ap ai ordered.p.items o.zero_based made.items))
 
 -- what is written of a matrix, and of what its factor needs where that is known: one object, or lines
 abbrev pub facts_answer : Bool → Facts → Option Comparison → List ℕ

@@ -8,3 +8,4 @@ pub mod Panels
 pub mod Parts
 pub mod Permuted
 pub mod Postorders
+pub mod Written

@@ -4,6 +4,7 @@ use Rattle.amd_model.specs.Listing.{ListsEachRow, ListsTrees, Tree, roots}
 use Rattle.amd_postorder.specs.Trees.{link_of, tree_of}
 use Rattle.amd_symbolic.specs.Counted.{IsCountsOf}
 use Rattle.amd_symbolic.specs.declared.needs.Need.{Need}
+use Rattle.amd_command.specs.Answers.{lines_of}
 
 -- the columns of a factor as elements of one row each, with these parents; all weigh the same
 abbrev pub forest_of : List (Option ℕ) → Tree
@@ -27,3 +28,9 @@ pub record IsPostorderUnder (n : ℕ) (ap ai p columns : List ℕ) : Type 0 wher
   pub need : Need
   pub counted : IsCountsOf (pos n) (map pos ap) (map pos ai) (map pos p) sizes parents need
   pub postorder : IsPostorder parents columns
+
+-- the text has a line for each column of such a postorder, from 0 or from 1 on
+pub record TellsPostorder (n : ℕ) (ap ai p : List ℕ) (zero_based : Bool) (text : List ℕ) : Type 0 where
+  pub columns : List ℕ
+  pub postorder : IsPostorderUnder n ap ai p columns
+  pub tells : text ≡ lines_of zero_based columns

@@ -7,11 +7,13 @@ ghost use Rattle.std.specs.Str.Lossy.{utf8_lossy};
 ghost use Rattle.std.specs.Io.KnownBytes.{Appends};
 ghost use Rattle.amd_symbolic.specs.Supernodes.{IsSupernodesOf};
 ghost use Rattle.amd_command.specs.Answers.{AreCountsIn, AreNumbers, AreTwoNeeds, IsOrderingOf, lines_of};
-ghost use Rattle.amd_command.specs.Answers.{AreTextsOf, TellsAnalysis, TellsBounds, TellsColumns, TellsFacts};
-ghost use Rattle.amd_command.specs.Answers.{TellsOrder, TellsPostorder, order_figures, told_figures};
+ghost use Rattle.amd_command.specs.Answers.{TellsAnalysis, TellsBounds, TellsColumns, TellsFacts};
+ghost use Rattle.amd_command.specs.Answers.{TellsOrder, order_figures, told_figures};
 ghost use Rattle.amd_command.specs.Needs.{IsNeedUnder};
 ghost use Rattle.amd_command.specs.Parts.{AreParentsUnder, TellsFactor, TellsTree, forest_text};
 ghost use Rattle.amd_command.specs.Permuted.{TellsPermuted};
+ghost use Rattle.amd_command.specs.Postorders.{TellsPostorder};
+ghost use Rattle.amd_command.specs.Written.{AreTextsOf};
 
 use crate::analysis::{Analysis, analyze_matrix};
 use crate::faults::cause_of;

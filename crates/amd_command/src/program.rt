@@ -4,8 +4,9 @@
 // all before them: where one fails, all else is written.
 
 ghost use Rattle.std.specs.Prelude.{◌≡◌, ◌≤◌, is_none, option_map, IfOk, IfSome};
-ghost use Rattle.amd_command.specs.Answers.{AreTextsOf, IsOrderingOf};
+ghost use Rattle.amd_command.specs.Answers.{IsOrderingOf};
 ghost use Rattle.amd_command.specs.Compared.{Compares, ComparesOrdered, TellsInfo, TellsListed, TellsOther};
+ghost use Rattle.amd_command.specs.Written.{AreTextsOf};
 
 use crate::answers::{
     Ordered, Texts, analysis_texts, facts_text, order_task, order_texts, two_needs,
