@@ -64,7 +64,7 @@ module _ {g : Graph} {dense : ℕ → Bool} {nzaat : ℕ} {aggressive : Bool} {p
         omega (arith, at, now, low),
         omega (arith, at, now, few, high, c),
         most_now ∙ ap (λ m. max m (r.total - r.gone)) (most_stays r)
-        ∙ ap (max p.most) (sym (pivot_border r p4 merges v ended)) ∙ ap (λ c. max p.most (num v.degree c)) (is_pivot r p4 merges),
+            ∙ ap (max p.most) (sym (pivot_border r p4 merges v ended)) ∙ ap (λ c. max p.most (num v.degree c)) (is_pivot r p4 merges),
       )
 
 -- the parts raise the flag as a round does
