@@ -3,9 +3,11 @@ use Rattle.std.specs.Prelude.{◌≡◌, if◌then◌else◌, ℕ, ℤ, Bool, tr
 use Rattle.std.specs.Prelude.{map, option_map, pos, string_bytes}
 use Rattle.std.specs.Str.Lossy.{utf8_lossy}
 use Rattle.amd.specs.Answers.{IsOrderingHolding}
+use Rattle.amd_types.specs.Statuses.{IsStatusOf}
 use Rattle.amd_types.specs.declared.amd.Info.{Info}
 use Rattle.amd_symbolic.specs.Counted.{IsCountsOf}
 use Rattle.amd_symbolic.specs.declared.needs.Need.{Need}
+use Rattle.amd_market.specs.declared.sources.Source.{Source}
 use Rattle.amd_report.specs.declared.compare.Needs.{Needs}
 use Rattle.amd_report.specs.declared.compare.Comparison.{Comparison}
 use Rattle.amd_report.specs.declared.facts.Facts.{Facts}
@@ -101,10 +103,12 @@ abbrev pub facts_answer : Bool → Facts → Option Comparison → List ℕ
 facts_answer true f compared = facts_json f compared
 facts_answer false f compared = facts_text f ++ known_lines compared
 
--- what is written is what the matrix is, for a dense row parameter of t thousandths
-pub record TellsFacts (json : Bool) (n : ℕ) (t : ℤ) (ap ai : List ℕ) (repeats : ℕ) (compared : Option Comparison)
-    (text : List ℕ) : Type 0 where
+-- what is written is what the matrix is, for a dense row parameter of t thousandths, and what its file says
+pub record TellsFacts (json : Bool) (n : ℕ) (t : ℤ) (ap ai : List ℕ) (source : Source) (repeats : ℕ)
+    (compared : Option Comparison) (text : List ℕ) : Type 0 where
   pub facts : Facts
   pub are_facts : IsFacts n t (map pos ap) (map pos ai) facts
+  pub status : IsStatusOf (pos n) (pos n) (map pos ap) (map pos ai) facts.info.status
+  pub said : facts.source ≡ source
   pub dropped : facts.duplicates ≡ repeats
   pub tells : text ≡ facts_answer json facts compared

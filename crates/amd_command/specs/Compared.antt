@@ -4,6 +4,7 @@ use Rattle.amd.specs.Answers.{IsOrderingHolding}
 use Rattle.amd_types.specs.declared.amd.Control.{Control}
 use Rattle.amd_types.specs.declared.amd.Info.{Info}
 use Rattle.amd_symbolic.specs.declared.needs.Need.{Need}
+use Rattle.amd_market.specs.declared.sources.Source.{Source}
 use Rattle.amd_report.specs.declared.compare.Needs.{Needs}
 use Rattle.amd_report.specs.declared.compare.Comparison.{Comparison}
 use Rattle.amd_request.specs.declared.request.Options.{Options}
@@ -51,8 +52,9 @@ ComparesOrdered false c n ap ai compared = compared ≡ None
 ComparesOrdered true c n ap ai compared = ComparesAnOrdering c n ap ai compared
 
 -- what is written is what the matrix is, for this control, and what its factor needs where that is asked for
-pub record TellsInfo (o : Options) (c : Control) (n : ℕ) (ap ai : List ℕ) (repeats : ℕ) (text : List ℕ) : Type 0 where
+pub record TellsInfo (o : Options) (c : Control) (n : ℕ) (ap ai : List ℕ) (source : Source) (repeats : ℕ)
+    (text : List ℕ) : Type 0 where
   pub compared : Option Comparison
   pub compares : ComparesOrdered o.compare c n ap ai compared
   pub other : IfSome compared (λ told. TellsOther o n ap ai told.other)
-  pub tells : TellsFacts o.json n c.dense ap ai repeats compared text
+  pub tells : TellsFacts o.json n c.dense ap ai source repeats compared text

@@ -128,6 +128,7 @@ fn factor_text(
         n: matrix.n,
         a_p: factor.ptr,
         a_i: factor.rows,
+        source: matrix.source,
         repeats: 0,
     };
     let mut text = Vec::new(alloc);
@@ -425,7 +426,7 @@ pub fn facts_text(
     compared: Option<Comparison>,
 ) -> Result<Vec<u8>, Cause>
     ensures { IfOk result (λ text. TellsFacts json matrix.now.n control.now.dense matrix.now.a_p.items
-        matrix.now.a_i.items matrix.now.repeats compared text.items) }
+        matrix.now.a_i.items matrix.now.source matrix.now.repeats compared text.items) }
 {
     let facts = facts_of(alloc, matrix, control)?;
     let mut text = Vec::new(alloc);

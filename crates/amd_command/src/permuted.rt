@@ -80,6 +80,7 @@ pub fn permuted<A: Allocator + Copy>(
         n,
         a_p,
         a_i,
+        source: matrix.source,
         repeats: 0,
     })
 }

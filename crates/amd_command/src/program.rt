@@ -356,7 +356,7 @@ fn facts_made<'a, R: Files + Input + Clock + Eprint + AllocGlobal>(
     control: &Control,
 ) -> Result<Vec<u8>, Complaint<'a>>
     ensures { IfOk result (λ text. TellsInfo options.now control.now matrix.now.n matrix.now.a_p.items
-        matrix.now.a_i.items matrix.now.repeats text.items) }
+        matrix.now.a_i.items matrix.now.source matrix.now.repeats text.items) }
 {
     let compared = exact_needs(rt, progress, options, matrix, control)?;
     let text = facts_text(rt.alloc(), options.json, matrix, control, compared);

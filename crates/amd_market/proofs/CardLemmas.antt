@@ -17,7 +17,7 @@ use Rattle.amd_market.specs.Boeing.{SpellsRepeat, SpellsWidth, SpellsItem, Spell
 use Rattle.amd_market.specs.Boeing.{SpellsFormat, SpellsFormats, SpellsKind, joined, kept_byte, depth_behind}
 use Rattle.amd_market.specs.Boeing.{is_point, is_comma, is_bracket, bare, pointed}
 use Rattle.amd_market.specs.Faults.{HasTypeFault, HasCardFault}
-use Rattle.amd_market.specs.declared.headers.Symmetry.{Symmetry}
+use Rattle.amd_market.specs.declared.sources.Letters.{Letters}
 use Rattle.amd_market.specs.declared.formats.Layout.{Layout}
 use Rattle.amd_market.specs.declared.formats.Fields.{Fields}
 use Rattle.amd_market.specs.declared.faults.ReadFault.{ReadFault}
@@ -75,7 +75,7 @@ card-type fault.Elemental line word behind parts has = (word, (behind, (parts, h
 card-type f line word behind parts has = absurd has
 
 pub no-sizes : (line word : List ℕ) (behind : List (List ℕ)) → words line ≡ word ∷ behind →
-    ((r c e : ℕ) → SpellsSizes behind r c e → ⊥) → (s : Symmetry) → (r c e : ℕ) → SpellsKind line s r c e → ⊥
+    ((r c e : ℕ) → SpellsSizes behind r c e → ⊥) → (t : Letters) → (r c e : ℕ) → SpellsKind line t r c e → ⊥
 no-sizes line word behind parts none s r c e h = none r c e
     (subst (λ z. SpellsSizes z r c e) (same-rest (words line) _ behind h.word word h.parts parts) h.has_sizes)
 

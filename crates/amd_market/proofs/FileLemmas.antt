@@ -20,6 +20,8 @@ use Rattle.amd_market.proofs.EntryLemmas.{Inside, entries-more, all-inside}
 use Rattle.amd_market.specs.declared.headers.Format.{Format}
 use Rattle.amd_market.specs.declared.headers.Format.TheVariants.{Coordinate, Array}
 use Rattle.amd_market.specs.declared.headers.Header.{Header}
+use Rattle.amd_market.specs.declared.sources.Source.{Source}
+use Rattle.amd_market.specs.declared.sources.Source.TheVariants as source
 use Rattle.amd_market.specs.declared.faults.ReadFault.TheVariants as fault
 use Rattle.amd_lines.specs.declared.lines.LineReader.{LineReader}
 use Rattle.amd_market.proofs.FaultLemmas.{for-behind, for-machine}
@@ -120,19 +122,18 @@ array-body Coordinate h n size_line ls es is size spells = cc
 
 -- all lines of a file of the Matrix Market
 pub market-whole : {R Z : Type 0} (remaining : R → Option (List ℕ)) (a b c : LineReader R Z) (input : R) (line : List ℕ) (header : Header)
-    (n : ℕ) (ps : List (ℕ × ℕ)) (ap' ai : List ℕ) (repeats : ℕ) → rest_of remaining a ≡ remaining input →
-    TakesLines remaining a b (line ∷ []) → SpellsHeader line header → TakesBody remaining b c header n ps →
-    HoldsOnce n ps ap' ai repeats → IfSome (remaining input) (λ bytes. SpellsFile bytes n ap' ai repeats)
-market-whole remaining a b c input line header n ps ap' ai repeats same first head body holds =
+    (s : Source) (n : ℕ) (ps : List (ℕ × ℕ)) (ap' ai : List ℕ) (repeats : ℕ) → rest_of remaining a ≡ remaining input →
+    TakesLines remaining a b (line ∷ []) → SpellsHeader line header → s ≡ source.Market header → TakesBody remaining b c header n ps →
+    HoldsOnce n ps ap' ai repeats → IfSome (remaining input) (λ bytes. SpellsFile bytes s n ap' ai repeats)
+market-whole remaining a b c input line header s n ps ap' ai repeats same first head told body holds =
     let whole = takes-append remaining a b c (line ∷ []) body.lines first body.takes in
     rw (← same) (known (rest_of remaining a) (rest_of remaining c) whole.took (end-append (line ∷ []) _ _ _ first.took body.end))
   where
-    made : (bytes : List ℕ) → BeginsWith (line ∷ body.lines) bytes (Some []) → SpellsFile bytes n ap' ai repeats
-    made bytes h = market (record {
+    made : (bytes : List ℕ) → BeginsWith (line ∷ body.lines) bytes (Some []) → SpellsFile bytes s n ap' ai repeats
+    made bytes h = market header told (record {
       first = line;
       others = body.lines;
       lines = h;
-      header = header;
       has_header = head;
       size_line = body.size_line;
       entry_lines = body.entry_lines;
@@ -143,20 +144,20 @@ market-whole remaining a b c input line header n ps ap' ai repeats same first he
     })
 
     known : (first' last : Option (List ℕ)) → IfSome first' (λ bs. BeginsWith (line ∷ body.lines) bs last) →
-        IfSome first' (λ bs. last ≡ Some []) → IfSome first' (λ bytes. SpellsFile bytes n ap' ai repeats)
+        IfSome first' (λ bs. last ≡ Some []) → IfSome first' (λ bytes. SpellsFile bytes s n ap' ai repeats)
     known None last w z = tt
     known (Some bytes) last w z = made bytes (subst (BeginsWith (line ∷ body.lines) bytes) z w)
 
 -- the lines of a Harwell-Boeing file that are read
 pub boeing-whole : {R Z : Type 0} (remaining : R → Option (List ℕ)) (a b c : LineReader R Z) (input : R) (line : List ℕ)
-    (ls : List (List ℕ)) (n : ℕ) (ap' ai : List ℕ) (repeats : ℕ) → rest_of remaining a ≡ remaining input →
+    (ls : List (List ℕ)) (s : Source) (n : ℕ) (ap' ai : List ℕ) (repeats : ℕ) → rest_of remaining a ≡ remaining input →
     TakesLines remaining a b (line ∷ []) → HasHeaderFault fault.Banner line → TakesLines remaining b c ls →
-    SpellsBoeing ls n ap' ai repeats → IfSome (remaining input) (λ bytes. SpellsFile bytes n ap' ai repeats)
-boeing-whole remaining a b c input line ls n ap' ai repeats same first none behind spells =
+    SpellsBoeing ls s n ap' ai repeats → IfSome (remaining input) (λ bytes. SpellsFile bytes s n ap' ai repeats)
+boeing-whole remaining a b c input line ls s n ap' ai repeats same first none behind spells =
     let whole = takes-append remaining a b c (line ∷ []) ls first behind in
     rw (← same) (known (rest_of remaining a) (rest_of remaining c) whole.took)
   where
     known : (first' last : Option (List ℕ)) → IfSome first' (λ bs. BeginsWith (line ∷ ls) bs last) →
-        IfSome first' (λ bytes. SpellsFile bytes n ap' ai repeats)
+        IfSome first' (λ bytes. SpellsFile bytes s n ap' ai repeats)
     known None last w = tt
     known (Some bytes) last w = boeing line ls last none w spells

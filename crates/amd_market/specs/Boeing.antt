@@ -10,6 +10,11 @@ use Rattle.amd_market.specs.Columns.{HoldsOnce}
 use Rattle.amd_market.specs.declared.headers.Symmetry.{Symmetry}
 use Rattle.amd_market.specs.declared.headers.Symmetry.TheVariants as kind
 use Rattle.amd_market.specs.declared.cards.Kind.{Kind}
+use Rattle.amd_market.specs.declared.sources.Values.{Values}
+use Rattle.amd_market.specs.declared.sources.Values.TheVariants as values
+use Rattle.amd_market.specs.declared.sources.Letters.{Letters}
+use Rattle.amd_market.specs.declared.sources.Source.{Source}
+use Rattle.amd_market.specs.declared.sources.Source.TheVariants as source
 use Rattle.amd_market.specs.declared.formats.Fields.{Fields}
 use Rattle.amd_market.specs.declared.formats.Layout.{Layout}
 
@@ -167,22 +172,24 @@ pub record SpellsCounts (ws : List (List ℕ)) (sides : ℕ) : Type 0 where
   pub has_fourth : IsCount fourth
   pub has_sides : SpellsSides behind sides
 
--- 'r', 'c', 'p', 'i' and 'q'
-abbrev pub is_value_letter : ℕ → Bool
-is_value_letter l = l == 114 || l == 99 || l == 112 || l == 105 || l == 113
+-- 'r', 'c', 'i', 'p' and 'q'
+abbrev pub letter_values : ℕ → Option Values
+letter_values l = cond (l == 114) (Some values.Real) (cond (l == 99) (Some values.Complex)
+    (cond (l == 105) (Some values.Integer) (cond (l == 112) (Some values.Pattern)
+    (cond (l == 113) (Some values.Elsewhere) None))))
 
 -- 'u' and 'r', 's', 'z', and 'h'
 abbrev pub letter_symmetry : ℕ → Option Symmetry
 letter_symmetry l = cond (l == 117 || l == 114) (Some kind.General) (cond (l == 115) (Some kind.Symmetric)
     (cond (l == 122) (Some kind.SkewSymmetric) (cond (l == 104) (Some kind.Hermitian) None)))
 
--- the word is the type of an assembled matrix with this symmetry, in letters of any case
-pub record SpellsType (word : List ℕ) (s : Symmetry) : Type 0 where
+-- the word is the type of an assembled matrix with these values and this symmetry, in letters of any case
+pub record SpellsType (word : List ℕ) (t : Letters) : Type 0 where
   pub value : ℕ
   pub shape : ℕ
   pub letters : map to_ascii_lowercase word ≡ value ∷ (shape ∷ (97 ∷ []))
-  pub has_value : is_value_letter value ≡ true
-  pub has_shape : letter_symmetry shape ≡ Some s
+  pub has_value : letter_values value ≡ Some t.values
+  pub has_shape : letter_symmetry shape ≡ Some t.symmetry
 
 -- the words begin with the numbers of rows, of columns and of entries
 pub record SpellsSizes (ws : List (List ℕ)) (rows columns entries : ℕ) : Type 0 where
@@ -196,11 +203,11 @@ pub record SpellsSizes (ws : List (List ℕ)) (rows columns entries : ℕ) : Typ
   pub has_entries : SpellsNumber third (pos entries)
 
 -- the third line is a type, and the numbers of rows, of columns and of entries
-pub record SpellsKind (line : List ℕ) (s : Symmetry) (rows columns entries : ℕ) : Type 0 where
+pub record SpellsKind (line : List ℕ) (t : Letters) (rows columns entries : ℕ) : Type 0 where
   pub word : List ℕ
   pub behind : List (List ℕ)
   pub parts : words line ≡ word ∷ behind
-  pub has_type : SpellsType word s
+  pub has_type : SpellsType word t
   pub has_sizes : SpellsSizes behind rows columns entries
 
 -- the words begin with the formats of pointers and of rows
@@ -241,7 +248,7 @@ pub record SpellsHead (lines : List (List ℕ)) (k : Kind) (l : Layout) : Type 0
   pub parts : lines ≡ (counts ∷ []) ++ ((third ∷ []) ++ ((fourth ∷ []) ++ more))
   pub sides : ℕ
   pub has_counts : SpellsCounts (words counts) sides
-  pub has_kind : SpellsKind third k.symmetry k.n k.n k.entries
+  pub has_kind : SpellsKind third k.letters k.n k.n k.entries
   pub has_layout : SpellsLayout fourth l
   pub has_more : length more ≡ cond (sides == 0) 0 1
 
@@ -255,16 +262,18 @@ pub record SpellsColumns (lines : List (List ℕ)) (k : Kind) (l : Layout) (pair
   pub has_pointers : SpellsTable l.pointers (k.entries + 1) (k.n + 1) pointer_lines pointers
   pub has_rows : SpellsTable l.rows k.n k.entries row_lines rows
   pub are_pointers : ArePointers k.n k.entries pointers
-  pub pairs_are : pairs ≡ flat_map (pairs_of k.symmetry) (listed_entries pointers rows k.n)
+  pub pairs_are : pairs ≡ flat_map (pairs_of k.letters.symmetry) (listed_entries pointers rows k.n)
 
--- the lines behind the title are those of a file, and the matrix is that of the pairs that the entries stand for
-pub record SpellsBoeing (lines : List (List ℕ)) (n : ℕ) (ap ai : List ℕ) (repeats : ℕ) : Type 0 where
+-- the lines behind the title are those of a file, with the type that is told, and the matrix is that of the pairs that
+-- the entries stand for
+pub record SpellsBoeing (lines : List (List ℕ)) (s : Source) (n : ℕ) (ap ai : List ℕ) (repeats : ℕ) : Type 0 where
   pub head : List (List ℕ)
   pub columns : List (List ℕ)
   pub parts : lines ≡ head ++ columns
   pub kind : Kind
   pub layout : Layout
   pub has_head : SpellsHead head kind layout
+  pub told : s ≡ source.Boeing kind.letters
   pub pairs : List (ℕ × ℕ)
   pub has_columns : SpellsColumns columns kind layout pairs
   pub size : n ≡ kind.n

@@ -10,9 +10,9 @@ use Rattle.amd_market.specs.Boeing.{SpellsType, SpellsKind, SpellsLayout, Spells
 use Rattle.amd_market.specs.declared.headers.Format.{Format}
 use Rattle.amd_market.specs.declared.headers.Field.{Field}
 use Rattle.amd_market.specs.declared.headers.Header.{Header}
-use Rattle.amd_market.specs.declared.headers.Symmetry.{Symmetry}
 use Rattle.amd_market.specs.declared.formats.Fields.{Fields}
 use Rattle.amd_market.specs.declared.formats.Layout.{Layout}
+use Rattle.amd_market.specs.declared.sources.Letters.{Letters}
 use Rattle.amd_market.specs.declared.fields.Listed.{Listed}
 use Rattle.amd_market.specs.declared.fields.Listed.TheVariants as listed
 use Rattle.amd_market.specs.declared.found.Found.{Found}
@@ -147,18 +147,18 @@ IsElemental word = (value : ℕ) × ((shape : ℕ) × (low word ≡ value ∷ (s
 
 -- the fault of a word where a type must stand
 abbrev pub HasTypeFault : ReadFault → List ℕ → Type 0
-HasTypeFault fault.Kind word = (s : Symmetry) → SpellsType word s → ⊥
+HasTypeFault fault.Kind word = (t : Letters) → SpellsType word t → ⊥
 HasTypeFault fault.Elemental word = IsElemental word
 HasTypeFault f word = ⊥
 
 -- the fault of the third line of a Harwell-Boeing file: it is no type with the numbers of rows, columns and entries
 -- behind it; or the matrix is not assembled; or there are not as many rows as columns
 abbrev pub HasCardFault : ReadFault → List ℕ → Type 0
-HasCardFault fault.Kind line = (s : Symmetry) → (r c e : ℕ) → SpellsKind line s r c e → ⊥
+HasCardFault fault.Kind line = (t : Letters) → (r c e : ℕ) → SpellsKind line t r c e → ⊥
 HasCardFault fault.Elemental line = (word : List ℕ) × ((behind : List (List ℕ)) × ((words line ≡ word ∷ behind) ×
     IsElemental word))
-HasCardFault (fault.NotSquare rows columns) line = (rows ≢ columns) × ((s : Symmetry) × ((e : ℕ) ×
-    SpellsKind line s rows columns e))
+HasCardFault (fault.NotSquare rows columns) line = (rows ≢ columns) × ((t : Letters) × ((e : ℕ) ×
+    SpellsKind line t rows columns e))
 HasCardFault f line = ⊥
 
 -- the fault of its fourth line: it does not begin with two formats of whole numbers

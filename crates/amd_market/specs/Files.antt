@@ -11,6 +11,8 @@ use Rattle.amd_market.specs.Columns.{HoldsOnce}
 use Rattle.amd_market.specs.declared.headers.Format.{Format}
 use Rattle.amd_market.specs.declared.headers.Format.TheVariants.{Coordinate, Array}
 use Rattle.amd_market.specs.declared.headers.Header.{Header}
+use Rattle.amd_market.specs.declared.sources.Source.{Source}
+use Rattle.amd_market.specs.declared.sources.Source.TheVariants as source
 use Rattle.amd_lines.specs.declared.lines.LineReader.{LineReader}
 use Rattle.amd_market.specs.declared.faults.ReadFault.TheVariants as fault
 use Rattle.amd_market.specs.declared.faults.ReadError.{ReadError}
@@ -59,11 +61,10 @@ pub record TakesBody {R Z : Type 0} (remaining : R → Option (List ℕ)) (old n
 
 -- the text is a header, the line of the size and the lines of the entries, with notes between them; the matrix is that
 -- of the pairs that the entries stand for
-pub record SpellsMatrix (bytes : List ℕ) (n : ℕ) (ap ai : List ℕ) (repeats : ℕ) : Type 0 where
+pub record SpellsMatrix (bytes : List ℕ) (header : Header) (n : ℕ) (ap ai : List ℕ) (repeats : ℕ) : Type 0 where
   pub first : List ℕ
   pub others : List (List ℕ)
   pub lines : BeginsWith (first ∷ others) bytes (Some [])
-  pub header : Header
   pub has_header : SpellsHeader first header
   pub size_line : List ℕ
   pub entry_lines : List (List ℕ)
@@ -72,12 +73,13 @@ pub record SpellsMatrix (bytes : List ℕ) (n : ℕ) (ap ai : List ℕ) (repeats
   pub has_body : SpellsBody header.format header n size_line entry_lines entries
   pub matrix : HoldsOnce n (flat_map (pairs_of header.symmetry) entries) ap ai repeats
 
--- the text is one of the Matrix Market, or a Harwell-Boeing file with a title
-pub data SpellsFile (bytes : List ℕ) (n : ℕ) (ap ai : List ℕ) (repeats : ℕ) : Type 0 where
-  market : SpellsMatrix bytes n ap ai repeats → SpellsFile bytes n ap ai repeats
+-- the text is one of the Matrix Market, or a Harwell-Boeing file with a title, and says so of its matrix
+pub data SpellsFile (bytes : List ℕ) (s : Source) (n : ℕ) (ap ai : List ℕ) (repeats : ℕ) : Type 0 where
+  market : (header : Header) → s ≡ source.Market header → SpellsMatrix bytes header n ap ai repeats →
+      SpellsFile bytes s n ap ai repeats
   boeing : (title : List ℕ) → (lines : List (List ℕ)) → (rest : Option (List ℕ)) →
       HasHeaderFault fault.Banner title → BeginsWith (title ∷ lines) bytes rest →
-      SpellsBoeing lines n ap ai repeats → SpellsFile bytes n ap ai repeats
+      SpellsBoeing lines s n ap ai repeats → SpellsFile bytes s n ap ai repeats
 
 -- some lines were read, the error names the last of them, and the reading stopped there, as it says
 pub record FailsFor {R Z : Type 0} (Stops : Stop → Type 0) (remaining : R → Option (List ℕ)) (old : LineReader R Z)

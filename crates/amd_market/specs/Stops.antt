@@ -138,9 +138,9 @@ pub data HeadStops (s : Stop) : Type 0 where
   in_kind : (counts : List ℕ) → (sides : ℕ) → SpellsCounts (words counts) sides →
       CardStops HasCardFault (counts ∷ []) s → HeadStops s
   in_layout : (counts third : List ℕ) → (sides : ℕ) → (k : Kind) → SpellsCounts (words counts) sides →
-      SpellsKind third k.symmetry k.n k.n k.entries → CardStops HasLayoutFault (counts ∷ (third ∷ [])) s → HeadStops s
+      SpellsKind third k.letters k.n k.n k.entries → CardStops HasLayoutFault (counts ∷ (third ∷ [])) s → HeadStops s
   in_extra : (counts third fourth : List ℕ) → (sides : ℕ) → (k : Kind) → (l : Layout) →
-      SpellsCounts (words counts) sides → SpellsKind third k.symmetry k.n k.n k.entries → SpellsLayout fourth l →
+      SpellsCounts (words counts) sides → SpellsKind third k.letters k.n k.n k.entries → SpellsLayout fourth l →
       0 < sides → CardStops NoLine (counts ∷ (third ∷ (fourth ∷ []))) s → HeadStops s
 
 -- among so many numbers: the lines before are full of numbers, and the next one has not those that it should have

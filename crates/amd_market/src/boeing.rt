@@ -24,6 +24,7 @@ use crate::formats::{Fields, Layout};
 use crate::headers::Symmetry;
 use crate::lines::{at_line, take_line};
 use crate::matrices::{Matrix, Pairs, add_pairs, matrix_of, pairs_for};
+use crate::sources::Source;
 use amd_lines::lines::LineReader;
 use std::alloc::{AllocError, Allocator};
 use std::io::Read;
@@ -57,7 +58,7 @@ fn take_sides<R: Read + Drop, A: Allocator>(
 /// Reads the third line.
 fn take_kind<R: Read + Drop, A: Allocator>(lines: &mut LineReader<R, A>) -> Result<Kind, ReadError>
     ensures takes { IfOk result (λ k. (line : List ℕ) × TakesLines R.remaining lines.old lines.new (line ∷ []) ×
-        SpellsKind line k.symmetry k.n k.n k.entries) }
+        SpellsKind line k.letters k.n k.n k.entries) }
     ensures fails { IfErr result (FailsFor (CardStops HasCardFault []) R.remaining lines.old) }
 {
     take_some(lines)?;
@@ -170,12 +171,13 @@ fn listed_pairs<A: Allocator>(
 ) -> Result<Vec<(usize, usize), A>, AllocError>
     requires { ArePointers kind.n (length rows.now) pointers.now }
     ensures { IfOk result (λ v. v.items ≡
-        flat_map (pairs_of kind.symmetry) (listed_entries pointers.now rows.now kind.n)) }
+        flat_map (pairs_of kind.letters.symmetry) (listed_entries pointers.now rows.now kind.n)) }
 {
-    let mut pairs = pairs_for(alloc, kind.symmetry, rows.len());
+    let symmetry = kind.letters.symmetry;
+    let mut pairs = pairs_for(alloc, symmetry, rows.len());
     'columns: for column in 0..kind.n {
         let own = own_rows(pointers, rows, column);
-        add_column(&mut pairs, kind.symmetry, column, own)?;
+        add_column(&mut pairs, symmetry, column, own)?;
     }
     Ok(pairs)
 }
@@ -278,14 +280,19 @@ pub(crate) fn take_boeing<R: Read + Drop, A: Allocator + Copy>(
 ) -> Result<Option<Matrix<A>>, ReadError>
     ensures takes { IfOk result (λ o. MatchOption o (LacksCounts (rest_of R.remaining lines.old)) (λ m.
         (ls : List (List ℕ)) × TakesLines R.remaining lines.old lines.new ls ×
-        SpellsBoeing ls m.n m.a_p.items m.a_i.items m.repeats)) }
+        SpellsBoeing ls m.source m.n m.a_p.items m.a_i.items m.repeats)) }
     ensures fails { IfErr result (FailsFor BoeingStops R.remaining lines.old) }
 {
     let Some((kind, layout)) = take_head(alloc, lines)? else {
         return Ok(None);
     };
     let pairs = take_columns(alloc, lines, kind, layout)?;
-    match matrix_of(alloc, kind.n, Pairs::Listed(pairs)) {
+    match matrix_of(
+        alloc,
+        Source::Boeing(kind.letters),
+        kind.n,
+        Pairs::Listed(pairs),
+    ) {
         Ok(matrix) => Ok(Some(matrix)),
         Err(_) => Err(at_line(lines, ReadFault::OutOfMemory)),
     }

@@ -7,8 +7,8 @@ ghost use Rattle.amd_market.specs.Faults.{HasTypeFault, HasCardFault};
 ghost use Rattle.amd_lines.specs.Words.{words, SpellsNumber};
 ghost use Rattle.amd_market.specs.Boeing.{SpellsSides, SpellsCounts, SpellsType, SpellsSizes, SpellsKind};
 ghost use Rattle.amd_market.specs.Boeing.{SpellsFormats, SpellsLayout, joined, kept_byte, depth_behind};
-ghost use Rattle.amd_market.specs.Boeing.{is_value_letter, letter_symmetry, BeginsWithNoCount};
-ghost use Rattle.amd_market.specs.declared.headers.Symmetry.{Symmetry};
+ghost use Rattle.amd_market.specs.Boeing.{letter_values, letter_symmetry, BeginsWithNoCount};
+ghost use Rattle.amd_market.specs.declared.sources.Letters.{Letters};
 ghost use Rattle.amd_market.specs.declared.formats.Layout.{Layout};
 
 use crate::entries::count_of;
@@ -16,14 +16,15 @@ use crate::faults::ReadFault;
 use crate::fields::fields_of;
 use crate::formats::Layout;
 use crate::headers::Symmetry;
+use crate::sources::{Letters, Values};
 use amd_lines::words::first_word;
 use std::alloc::{AllocError, Allocator};
 
 /// What the third line of a file says.
 #[derive(Clone, Copy)]
 pub(crate) struct Kind {
-    /// What an entry says of its mirror image.
-    pub(crate) symmetry: Symmetry,
+    /// What the type says.
+    pub(crate) letters: Letters,
     /// The number of rows and columns.
     pub(crate) n: usize,
     /// The number of entries.
@@ -64,11 +65,18 @@ pub(crate) fn sides_of(line: &[u8]) -> Option<usize>
     sides_in(rest)
 }
 
-/// Whether a lower-case letter says what values are: real, complex, none, whole numbers, or in another file.
-fn is_value_letter(letter: u8) -> bool
-    ensures { result ≡ is_value_letter letter }
+/// What a lower-case letter says that values are.
+fn letter_values(letter: u8) -> Option<Values>
+    ensures { result ≡ letter_values letter }
 {
-    letter == b'r' || letter == b'c' || letter == b'p' || letter == b'i' || letter == b'q'
+    match letter {
+        b'r' => Some(Values::Real),
+        b'c' => Some(Values::Complex),
+        b'i' => Some(Values::Integer),
+        b'p' => Some(Values::Pattern),
+        b'q' => Some(Values::Elsewhere),
+        _ => None,
+    }
 }
 
 /// The symmetry that a lower-case letter says; `r` is that of a matrix that need not be square.
@@ -84,23 +92,23 @@ fn letter_symmetry(letter: u8) -> Option<Symmetry>
     }
 }
 
-/// The symmetry of a type of an assembled matrix, which is three letters in any case: those of values, of symmetry, and
+/// What a type of an assembled matrix says, which is three letters in any case: those of values, of symmetry, and
 /// `A`. An `E` in its place says that the matrix is not assembled.
-fn type_of(word: &[u8]) -> Result<Symmetry, ReadFault>
-    ensures type_is { MatchResult result (SpellsType word.now) (λ _. (s : Symmetry) → SpellsType word.now s → ⊥) }
+fn type_of(word: &[u8]) -> Result<Letters, ReadFault>
+    ensures type_is { MatchResult result (SpellsType word.now) (λ _. (t : Letters) → SpellsType word.now t → ⊥) }
     ensures fault { IfErr result (λ f. HasTypeFault f word.now) }
 {
     let [value, shape, storage] = word else {
         return Err(ReadFault::Kind);
     };
-    if !is_value_letter(value.to_ascii_lowercase()) {
+    let Some(values) = letter_values(value.to_ascii_lowercase()) else {
         return Err(ReadFault::Kind);
-    }
+    };
     let Some(symmetry) = letter_symmetry(shape.to_ascii_lowercase()) else {
         return Err(ReadFault::Kind);
     };
     match storage.to_ascii_lowercase() {
-        b'a' => Ok(symmetry),
+        b'a' => Ok(Letters { values, symmetry }),
         b'e' => Err(ReadFault::Elemental),
         _ => Err(ReadFault::Kind),
     }
@@ -119,13 +127,13 @@ fn spelled_sizes(text: &[u8]) -> Option<(usize, usize, usize)>
 
 /// What the third line of a file says, or what is wrong with it.
 pub(crate) fn kind_of(line: &[u8]) -> Result<Kind, ReadFault>
-    ensures kind { IfOk result (λ k. SpellsKind line.now k.symmetry k.n k.n k.entries) }
+    ensures kind { IfOk result (λ k. SpellsKind line.now k.letters k.n k.n k.entries) }
     ensures fault { IfErr result (λ f. HasCardFault f line.now) }
 {
     let Some((word, rest)) = first_word(line) else {
         return Err(ReadFault::Kind);
     };
-    let symmetry = type_of(word)?;
+    let letters = type_of(word)?;
     let Some((rows, columns, entries)) = spelled_sizes(rest) else {
         return Err(ReadFault::Kind);
     };
@@ -133,7 +141,7 @@ pub(crate) fn kind_of(line: &[u8]) -> Result<Kind, ReadFault>
         return Err(ReadFault::NotSquare { rows, columns });
     }
     Ok(Kind {
-        symmetry,
+        letters,
         n: rows,
         entries,
     })

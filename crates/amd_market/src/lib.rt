@@ -60,3 +60,4 @@ mod keys;
 pub mod lines;
 pub mod matrices;
 pub mod reader;
+pub mod sources;

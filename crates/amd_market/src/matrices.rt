@@ -9,6 +9,7 @@ ghost use Rattle.amd_market.specs.Pairs.{pairs_in, AreFor};
 use crate::columns::{columns_of, keyed_columns};
 use crate::headers::Symmetry;
 use crate::keys::pair_key;
+use crate::sources::Source;
 use std::alloc::{AllocError, Allocator};
 
 /// The pattern of a square matrix in column form.
@@ -20,6 +21,8 @@ pub struct Matrix<A: Allocator> {
     pub a_p: Vec<usize, A>,
     /// The rows of the columns, one column after the other.
     pub a_i: Vec<usize, A>,
+    /// What the file says of it.
+    pub source: Source,
     /// How many pairs were dropped, since they were there already; each entry off the diagonal stands for two of them
     /// where there is a symmetry.
     pub repeats: usize,
@@ -121,15 +124,17 @@ fn columns_for<A: Allocator + Copy>(
     }
 }
 
-/// The matrix with `n` rows and columns that has these pairs.
+/// The matrix with `n` rows and columns that has these pairs, and of which the file says this.
 pub(crate) fn matrix_of<A: Allocator + Copy>(
     alloc: A,
+    source: Source,
     n: usize,
     pairs: Pairs<A>,
 ) -> Result<Matrix<A>, AllocError>
     requires kind { AreFor n pairs }
     requires inside { All (λ p. (p.0 < n) × (p.1 < n)) (pairs_in pairs) }
     ensures size { IfOk result (λ m. m.n ≡ n) }
+    ensures source { IfOk result (λ m. m.source ≡ source) }
     ensures holds { IfOk result (λ m. HoldsOnce n (pairs_in pairs) m.a_p.items m.a_i.items m.repeats) }
 {
     let found = pairs.count();
@@ -139,6 +144,7 @@ pub(crate) fn matrix_of<A: Allocator + Copy>(
         n,
         a_p,
         a_i,
+        source,
         repeats,
     })
 }

@@ -14,6 +14,7 @@ ghost use Rattle.amd_market.specs.Faults.{HasHeaderFault};
 ghost use Rattle.amd_market.specs.Stops.{FirstStops, SizeStops, EntryStops, EntriesStop, MoreStops};
 ghost use Rattle.amd_market.specs.Stops.{ListedStops, ArrayStops, BodyStops};
 ghost use Rattle.amd_market.specs.declared.faults.ReadFault.TheVariants as fault;
+ghost use Rattle.amd_market.specs.declared.sources.Source.TheVariants as source;
 
 use crate::boeing::take_boeing;
 use crate::columns::MOST_SORTED;
@@ -24,6 +25,7 @@ use crate::headers::{Field, Format, Header, header_of, unknown_fault};
 use crate::lines::{LONGEST_LINE, at_end, at_line, take_line, take_telling};
 pub use crate::matrices::Matrix;
 use crate::matrices::{Pairs, add_keys, add_pairs, keys_for, matrix_of, pairs_for};
+use crate::sources::Source;
 use amd_lines::lines::LineReader;
 use std::alloc::Allocator;
 use std::io::Read;
@@ -272,13 +274,13 @@ fn take_market<R: Read + Drop, A: Allocator + Copy>(
     lines: &mut LineReader<R, A>,
     header: Header,
 ) -> Result<Matrix<A>, ReadError>
-    ensures takes { IfOk result (λ m. (pairs : List (ℕ × ℕ)) ×
+    ensures takes { IfOk result (λ m. (pairs : List (ℕ × ℕ)) × (m.source ≡ source.Market header) ×
         TakesBody R.remaining lines.old lines.new header m.n pairs ×
         HoldsOnce m.n pairs m.a_p.items m.a_i.items m.repeats) }
     ensures fails { IfErr result (FailsFor (BodyStops header.format header) R.remaining lines.old) }
 {
     let (n, pairs) = take_body(alloc, lines, header)?;
-    match matrix_of(alloc, n, pairs) {
+    match matrix_of(alloc, Source::Market(header), n, pairs) {
         Ok(matrix) => Ok(matrix),
         Err(_) => Err(at_line(lines, ReadFault::OutOfMemory)),
     }
@@ -300,7 +302,7 @@ pub fn read_matrix<R: Read + Drop, A: Allocator + Copy>(
     input: R,
 ) -> Result<Matrix<A>, ReadError>
     ensures spells { IfOk result (λ m. IfSome (R.remaining input)
-        (λ bytes. SpellsFile bytes m.n m.a_p.items m.a_i.items m.repeats)) }
+        (λ bytes. SpellsFile bytes m.source m.n m.a_p.items m.a_i.items m.repeats)) }
     ensures line { IfErr result (λ e. IfSome (R.remaining input) (λ bytes. NamesFault bytes e)) }
 {
     let mut lines = LineReader::new(alloc, input, LONGEST_LINE);

@@ -4,6 +4,8 @@ use Rattle.amd_types.specs.declared.amd.Info.{Info}
 use Rattle.amd_texts.specs.Texts.{labelled}
 use Rattle.amd_report.specs.declared.facts.Facts.{Facts}
 use Rattle.amd_report.specs.Degrees.{mean_degree, symmetry_tenths}
+use Rattle.amd_report.specs.Sources.{field_name, format_name, symmetry_name}
+use Rattle.amd_market.specs.declared.sources.Source.{Source}
 
 -- the word for a yes or a no
 abbrev pub answer_word : Bool → List ℕ
@@ -17,6 +19,13 @@ hundredths x = decimal (x / 100) ++ codes "." ++ decimal (x / 10 % 10) ++ decima
 -- a number of tenths as a decimal fraction
 abbrev pub tenths : ℕ → List ℕ
 tenths x = decimal (x / 10) ++ codes "." ++ decimal (x % 10)
+
+-- the lines on what the file says
+abbrev pub source_lines : Source → List ℕ
+source_lines s =
+    labelled (codes "format of the file") (format_name s)
+    ++ labelled (codes "field of the file") (field_name s)
+    ++ labelled (codes "symmetry of the file") (symmetry_name s)
 
 -- the lines on the pattern, from whose file so many duplicates were dropped
 abbrev pub pattern_lines : Info → ℕ → List ℕ
@@ -57,4 +66,4 @@ degree_lines f =
 
 -- the text of what a matrix is
 abbrev pub facts_text : Facts → List ℕ
-facts_text f = pattern_lines f.info f.duplicates ++ shape_lines f ++ degree_lines f
+facts_text f = source_lines f.source ++ pattern_lines f.info f.duplicates ++ shape_lines f ++ degree_lines f

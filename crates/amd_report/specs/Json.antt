@@ -9,7 +9,9 @@ use Rattle.amd_report.specs.declared.compare.Figure.TheVariants.{FlopsLdl, Bytes
 use Rattle.amd_report.specs.Comparisons.{figure_of}
 use Rattle.amd_report.specs.Degrees.{mean_degree, symmetry_tenths}
 use Rattle.amd_report.specs.Descriptions.{hundredths, tenths}
+use Rattle.amd_report.specs.Sources.{field_name, format_name, symmetry_name}
 use Rattle.amd_report.specs.Texts.{status_phrase}
+use Rattle.amd_market.specs.declared.sources.Source.{Source}
 
 -- a name and its value, behind what stands before it
 unfoldable pub member : List ℕ → List ℕ → List ℕ → List ℕ
@@ -100,6 +102,13 @@ pattern_members i d =
     ++ member (codes ",") (codes "entries_on_the_diagonal") (decimal i.nz_diag)
     ++ member (codes ",") (codes "edges") (decimal (i.nz_a_plus_at / 2))
 
+-- the members on what the file says
+abbrev pub source_members : Source → List ℕ
+source_members s =
+    member (codes ",") (codes "format") (quoted (format_name s))
+    ++ member (codes ",") (codes "field") (quoted (field_name s))
+    ++ member (codes ",") (codes "symmetry") (quoted (symmetry_name s))
+
 -- the members on the shape of the pattern
 abbrev pub shape_members : Facts → List ℕ
 shape_members f =
@@ -122,4 +131,5 @@ degree_members f =
 -- what a matrix is, and what its factor needs under each order, where that is known
 abbrev pub facts_json : Facts → Option Comparison → List ℕ
 facts_json f compared =
-    pattern_members f.info f.duplicates ++ shape_members f ++ degree_members f ++ known_members compared ++ codes "}\n"
+    pattern_members f.info f.duplicates ++ source_members f.source ++ shape_members f ++ degree_members f
+    ++ known_members compared ++ codes "}\n"

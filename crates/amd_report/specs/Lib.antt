@@ -1,6 +1,7 @@
 -- What the command promises to tell.
 pub mod Texts
 pub mod Degrees
+pub mod Sources
 pub mod Shapes
 pub mod Passes
 pub mod Descriptions

@@ -3,10 +3,12 @@
 ghost use Rattle.std.specs.Prelude.{◌≡◌, OnOk};
 ghost use Rattle.std.specs.Io.KnownBytes.{Appends};
 ghost use Rattle.amd_report.specs.Descriptions.{answer_word, degree_lines, facts_text, mean_line, pattern_lines};
-ghost use Rattle.amd_report.specs.Descriptions.{shape_lines, symmetry_line};
+ghost use Rattle.amd_report.specs.Descriptions.{shape_lines, source_lines, symmetry_line};
 
 use crate::facts::{Facts, mean_degree};
+use crate::sources::{field_name, format_name, symmetry_name};
 use crate::symmetry::symmetry_tenths;
+use amd_market::sources::Source;
 use amd_texts::write_labelled;
 use amd_types::amd::Info;
 use std::io;
@@ -17,6 +19,19 @@ fn answer_word(holds: bool) -> &'static str
     ensures { result.now ≡ answer_word holds }
 {
     if holds { "yes" } else { "no" }
+}
+
+/// Writes the lines on what the file says.
+fn write_source<W: Write>(source: Source, out: &mut W) -> io::Result<()>
+    ensures { OnOk result (Appends (W.contents out.old) (W.contents out.new) (source_lines source)) }
+{
+    let format = format_name(source);
+    let field = field_name(source);
+    let symmetry = symmetry_name(source);
+    write_labelled("format of the file", &format, out)?;
+    write_labelled("field of the file", &field, out)?;
+    write_labelled("symmetry of the file", &symmetry, out)?;
+    Ok(())
 }
 
 /// Writes the lines on the pattern, from whose file so many duplicates were dropped.
@@ -91,6 +106,7 @@ fn write_degrees<W: Write>(facts: &Facts, out: &mut W) -> io::Result<()>
 pub fn write_facts<W: Write>(facts: &Facts, out: &mut W) -> io::Result<()>
     ensures { OnOk result (Appends (W.contents out.old) (W.contents out.new) (facts_text facts.now)) }
 {
+    write_source(facts.source, out)?;
     write_pattern(&facts.info, facts.duplicates, out)?;
     write_shape(facts, out)?;
     write_degrees(facts, out)?;

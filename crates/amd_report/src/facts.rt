@@ -14,6 +14,7 @@ use amd_input::aat::aat;
 use amd_input::preprocess::preprocess;
 use amd_input::valid::valid;
 use amd_market::reader::Matrix;
+use amd_market::sources::Source;
 use amd_types::amd::{Control, Info, Status};
 use amd_types::dense::dense_threshold;
 use std::alloc::Allocator;
@@ -48,6 +49,8 @@ pub struct Facts {
     pub profile: u128,
     /// How many components the graph of `A + A'` has.
     pub components: usize,
+    /// What the file says.
+    pub source: Source,
     /// How many duplicates were dropped from the file.
     pub duplicates: usize,
 }
@@ -71,12 +74,13 @@ fn count_above(numbers: &[usize], limit: usize) -> usize
     numbers.iter().filter(|number| **number > limit).count()
 }
 
-/// What a matrix is whose columns are sorted, and from whose file so many duplicates were dropped.
+/// What a matrix is whose columns are sorted, and whose file says this and had so many duplicates, which were dropped.
 fn facts_of_sorted<A: Allocator + Copy>(
     alloc: A,
     n: usize,
     a_p: &[usize],
     a_i: &[usize],
+    source: Source,
     duplicates: usize,
     control: &Control,
 ) -> Result<Facts, Status>
@@ -85,6 +89,7 @@ fn facts_of_sorted<A: Allocator + Copy>(
     ensures facts { IfOk result (IsFacts n control.now.dense (map pos a_p.now) (map pos a_i.now)) }
     ensures status { IfOk result (λ f. f.info.status ≡ Status.OK) }
     ensures told { IfOk result (λ f. f.duplicates ≡ duplicates) }
+    ensures source { IfOk result (λ f. f.source ≡ source) }
 {
     let mut info = Info::new(n);
     let (sum, degrees) = aat(alloc, n, a_p, a_i, &mut info)?;
@@ -105,6 +110,7 @@ fn facts_of_sorted<A: Allocator + Copy>(
         bandwidths: widths_of(n, a_p, a_i),
         profile: profile(alloc, n, a_p, a_i)?,
         components: components(alloc, n, a_p, a_i)?,
+        source,
         duplicates,
     })
 }
@@ -125,9 +131,11 @@ fn facts_of_jumbled<A: Allocator + Copy>(
     ensures status { IfOk result (λ f. IsStatusOf (pos matrix.now.n) (pos matrix.now.n)
         (map pos matrix.now.a_p.items) (map pos matrix.now.a_i.items) f.info.status) }
     ensures told { IfOk result (λ f. f.duplicates ≡ matrix.now.repeats) }
+    ensures source { IfOk result (λ f. f.source ≡ matrix.now.source) }
 {
     let (c_p, c_i) = preprocess(alloc, matrix.n, &matrix.a_p, &matrix.a_i)?;
-    let mut facts = facts_of_sorted(alloc, matrix.n, &c_p, &c_i, matrix.repeats, control)?;
+    let (source, repeats) = (matrix.source, matrix.repeats);
+    let mut facts = facts_of_sorted(alloc, matrix.n, &c_p, &c_i, source, repeats, control)?;
     facts.info.status = Status::OkButJumbled;
     let Bandwidths { lower, upper } = facts.bandwidths;
     facts.bandwidths = Bandwidths {
@@ -152,6 +160,7 @@ pub fn facts_of<A: Allocator + Copy>(
     ensures status { IfOk result (λ f. IsStatusOf (pos matrix.now.n) (pos matrix.now.n)
         (map pos matrix.now.a_p.items) (map pos matrix.now.a_i.items) f.info.status) }
     ensures told { IfOk result (λ f. f.duplicates ≡ matrix.now.repeats) }
+    ensures source { IfOk result (λ f. f.source ≡ matrix.now.source) }
 {
     match valid(matrix.n, matrix.n, &matrix.a_p, &matrix.a_i) {
         Status::OK => facts_of_sorted(
@@ -159,6 +168,7 @@ pub fn facts_of<A: Allocator + Copy>(
             matrix.n,
             &matrix.a_p,
             &matrix.a_i,
+            matrix.source,
             matrix.repeats,
             control,
         ),

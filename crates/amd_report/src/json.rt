@@ -6,13 +6,15 @@ ghost use Rattle.std.specs.Prelude.{codes, OnOk, IfSome};
 ghost use Rattle.std.specs.Io.KnownBytes.{Appends};
 ghost use Rattle.amd_report.specs.Json.{bound_members, comparison_members, degree_members, facts_json, known_members};
 ghost use Rattle.amd_report.specs.Json.{matrix_members, member, more_rows, need_members, order_json, other_members};
-ghost use Rattle.amd_report.specs.Json.{pattern_members, quoted, row_list, shape_members};
+ghost use Rattle.amd_report.specs.Json.{pattern_members, quoted, row_list, shape_members, source_members};
 ghost use Rattle.amd_report.specs.Descriptions.{hundredths, tenths};
 
 use crate::compare::{Comparison, Figure, Needs, figure_of};
 use crate::facts::{Facts, mean_degree};
 use crate::figures::status_phrase;
+use crate::sources::{field_name, format_name, symmetry_name};
 use crate::symmetry::symmetry_tenths;
+use amd_market::sources::Source;
 use amd_types::amd::Info;
 use std::fmt::Display;
 use std::io;
@@ -199,6 +201,19 @@ fn write_pattern_members<W: Write>(info: &Info, duplicates: usize, out: &mut W) 
     Ok(())
 }
 
+/// Writes the members on what the file says.
+fn write_source_members<W: Write>(source: Source, out: &mut W) -> io::Result<()>
+    ensures { OnOk result (Appends (W.contents out.old) (W.contents out.new) (source_members source)) }
+{
+    let format = format_name(source);
+    let field = field_name(source);
+    let symmetry = symmetry_name(source);
+    write_text_member("format", format, out)?;
+    write_text_member("field", field, out)?;
+    write_text_member("symmetry", symmetry, out)?;
+    Ok(())
+}
+
 /// Writes the pattern symmetry, a share in tenths of a per cent.
 fn write_symmetry_member<W: Write>(share: u128, out: &mut W) -> io::Result<()>
     ensures { OnOk result (Appends (W.contents out.old) (W.contents out.new)
@@ -261,6 +276,7 @@ pub fn write_facts_json<W: Write>(
     ensures { OnOk result (Appends (W.contents out.old) (W.contents out.new) (facts_json facts.now compared)) }
 {
     write_pattern_members(&facts.info, facts.duplicates, out)?;
+    write_source_members(facts.source, out)?;
     write_shape_members(facts, out)?;
     write_degree_members(facts, out)?;
     write_known_needs(compared, out)?;

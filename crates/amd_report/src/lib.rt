@@ -29,6 +29,7 @@ pub mod pattern;
 mod profile;
 pub mod rows;
 pub mod shapes;
+mod sources;
 pub mod symmetry;
 pub mod tree;
 pub mod tree_picture;

@@ -186,7 +186,7 @@ fn read_kept<R: Files + Input + Clock + Eprint + AllocGlobal>(
     options: &Options<'_>,
 ) -> Result<(Matrix<Global>, Option<Vec<u8>>), Cause>
     ensures text { IfOk result (λ r. IfSome r.1 (λ text.
-        SpellsFile text.items r.0.n r.0.a_p.items r.0.a_i.items r.0.repeats)) }
+        SpellsFile text.items r.0.source r.0.n r.0.a_p.items r.0.a_i.items r.0.repeats)) }
     ensures kept { IfOk result (λ r. is_some r.1 ≡ is_some options.now.permuted) }
 {
     if options.permuted.is_none() {
@@ -400,8 +400,8 @@ pub fn read_task<'a, R: Files + Input + Clock + Eprint + AllocGlobal>(
 ) -> Result<Task, Complaint<'a>>
     ensures control { IfOk result (λ task. IsControlOf options.now task.control) }
     ensures hold { IfOk result (λ task. is_some task.hold ≡ is_some options.now.hold) }
-    ensures text { IfOk result (λ task. IfSome task.text (λ text. SpellsFile text.items task.matrix.n
-        task.matrix.a_p.items task.matrix.a_i.items task.matrix.repeats)) }
+    ensures text { IfOk result (λ task. IfSome task.text (λ text. SpellsFile text.items task.matrix.source
+        task.matrix.n task.matrix.a_p.items task.matrix.a_i.items task.matrix.repeats)) }
     ensures kept { IfOk result (λ task. is_some task.text ≡ is_some options.now.permuted) }
 {
     let control = control_of(options)?;

@@ -6,13 +6,22 @@ use amd::Control;
 use amd_command::analysis::analyze_matrix;
 use amd_command::needs::told;
 use amd_command::ordering::order_matrix;
+use amd_market::headers::{Field, Format, Header, Symmetry};
 use amd_market::reader::Matrix;
+use amd_market::sources::Source;
 use amd_report::factor_text::write_comparison;
 use amd_report::facts::facts_of;
 use amd_report::figures::write_figures;
 use amd_testing::check;
 use std::alloc::{AllocError, Global};
 use std::test::Fail;
+
+/// What the file of a matrix would say that has a pattern alone.
+pub const PATTERN: Source = Source::Market(Header {
+    format: Format::Coordinate,
+    field: Field::Pattern,
+    symmetry: Symmetry::General,
+});
 
 /// The first row has an edge with each of the next seventeen, and the two last ones with each other.
 fn twenty_rows(alloc: Global) -> Result<Matrix<Global>, AllocError> {
@@ -29,6 +38,7 @@ fn twenty_rows(alloc: Global) -> Result<Matrix<Global>, AllocError> {
         n: 20,
         a_p,
         a_i,
+        source: PATTERN,
         repeats: 0,
     })
 }

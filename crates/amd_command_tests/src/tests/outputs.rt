@@ -31,7 +31,11 @@ use std::test::Fail;
 pub const PATH: &str = "%%MatrixMarket matrix coordinate pattern symmetric\n3 3 3\n1 1\n3 1\n3 2\n";
 
 /// What `info` tells of it.
-pub const PATH_FACTS: &str = "    rows                                                3
+pub const PATH_FACTS: &str =
+    "    format of the file                                  Matrix Market coordinate
+    field of the file                                   pattern
+    symmetry of the file                                symmetric
+    rows                                                3
     entries                                             5
     duplicates dropped                                  0
     symmetric pattern                                   yes

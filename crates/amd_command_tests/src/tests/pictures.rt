@@ -2,6 +2,7 @@
 // supernodes. The matrices and the figures of their factors are worked examples and the one of the demos. The layout of
 // the larger tree is that of an independent program.
 
+use crate::tests::choices::PATTERN;
 use amd_command::ordering::order_matrix;
 use amd_command::picture::{MOST_ROWS, Source, write_picture};
 use amd_demos::can_24::{POINTERS, ROWS};
@@ -29,6 +30,7 @@ fn matrix_of(alloc: Global, a_p: &[i32], a_i: &[i32]) -> Result<Matrix<Global>, 
         n: a_p.len().saturating_sub(1),
         a_p: sizes_of(alloc, a_p)?,
         a_i: sizes_of(alloc, a_i)?,
+        source: PATTERN,
         repeats: 0,
     })
 }

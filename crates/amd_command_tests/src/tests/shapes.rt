@@ -53,7 +53,11 @@ const DRAWN: &str = "%%MatrixMarket matrix coordinate pattern general
 ";
 
 /// What is told of it.
-const DRAWN_FACTS: &str = "    rows                                                24
+const DRAWN_FACTS: &str =
+    "    format of the file                                  Matrix Market coordinate
+    field of the file                                   pattern
+    symmetry of the file                                general
+    rows                                                24
     entries                                             38
     duplicates dropped                                  0
     symmetric pattern                                   no
@@ -75,7 +79,8 @@ const DRAWN_FACTS: &str = "    rows                                             
 /// The same as JSON.
 const DRAWN_MEMBERS: &str =
     "{\"rows\":24,\"entries\":38,\"duplicates_dropped\":0,\"symmetric_pattern\":false,\
-\"entries_on_the_diagonal\":7,\"edges\":24,\"mirrored_entries\":14,\"pattern_symmetry_percent\":45.1,\
+\"entries_on_the_diagonal\":7,\"edges\":24,\"format\":\"Matrix Market coordinate\",\"field\":\"pattern\",\
+\"symmetry\":\"general\",\"mirrored_entries\":14,\"pattern_symmetry_percent\":45.1,\
 \"lower_bandwidth\":18,\"upper_bandwidth\":12,\"profile\":132,\"components\":6,\"greatest_degree\":4,\
 \"mean_degree\":2.00,\"rows_of_degree_0\":2,\"dense_threshold\":24,\"rows_above_the_threshold\":0}
 ";
@@ -111,5 +116,52 @@ fn shape_of_a_jumbled_pattern(rt: HostRuntime) -> Result<(), Fail> {
     let mut text = Vec::new(alloc);
     check!(&rt; write_facts(&facts, &mut text).is_ok());
     check!(&rt; text.as_slice() == DRAWN_FACTS.as_bytes());
+    Ok(())
+}
+
+/// Files of one row, and what is told first of each.
+static SOURCES: [(&str, &str); 4] = [
+    (
+        "%%MatrixMarket matrix coordinate unsigned-integer skew-symmetric\n1 1 0\n",
+        "    format of the file                                  Matrix Market coordinate
+    field of the file                                   unsigned-integer
+    symmetry of the file                                skew-symmetric
+",
+    ),
+    (
+        "%%MatrixMarket matrix ARRAY complex hermitian\n1 1\n1 0\n",
+        "    format of the file                                  Matrix Market array
+    field of the file                                   complex
+    symmetry of the file                                hermitian
+",
+    ),
+    (
+        "title\n2 1 1 0\nRUA 1 1 1\n(2I4) (I4)\n   1   2\n   1\n",
+        "    format of the file                                  Harwell-Boeing or Rutherford-Boeing
+    field of the file                                   real
+    symmetry of the file                                general
+",
+    ),
+    (
+        "title\n2 1 1 0\nqza 1 1 1\n(2I4) (I4)\n   1   2\n   1\n",
+        "    format of the file                                  Harwell-Boeing or Rutherford-Boeing
+    field of the file                                   in another file
+    symmetry of the file                                skew-symmetric
+",
+    ),
+];
+
+#[test]
+fn what_files_say(rt: HostRuntime) -> Result<(), Fail> {
+    let alloc = rt.alloc();
+    for (file, wanted) in &SOURCES {
+        let matrix = read_matrix(alloc, file.as_bytes())?;
+        let Ok(facts) = facts_of(alloc, &matrix, &Control::default()) else {
+            panic!(&rt; "no facts");
+        };
+        let mut text = Vec::new(alloc);
+        check!(&rt; write_facts(&facts, &mut text).is_ok());
+        check!(&rt; text.starts_with(wanted.as_bytes()), file);
+    }
     Ok(())
 }

@@ -36,6 +36,7 @@ returns-in-Ok-clause-takes g c =
         kind = c.in-Some.kind;
         layout = c.in-Some.layout;
         has_head = first.2;
+        told = c.in-Ok.ensures.source;
         pairs = c.in_ok-pairs.pairs.items;
         has_columns = second.2;
         size = c.in-Ok.ensures.size;

@@ -49,7 +49,7 @@ returns-in-Ok-clause-inside g c =
     let second = c.in_ok-rows.ensures.takes in
     let within = table-within c.args.layout.rows _ _ second.0 c.in_ok-rows.rows.items second.2 in
     let are = rw (c.deref.ensures.value, c.deref-2.ensures.value) at c.in-Ok.ensures in
-    rw are (boeing-inside c.args.kind.n c.args.kind.symmetry c.in_ok-pointers.pointers.items c.in_ok-rows.rows.items within)
+    rw are (boeing-inside c.args.kind.n c.args.kind.letters.symmetry c.in_ok-pointers.pointers.items c.in_ok-rows.rows.items within)
 
 pub returns-clause-fails : goal.returns-clause-fails
 returns-clause-fails g c =

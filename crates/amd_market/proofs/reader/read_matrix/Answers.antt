@@ -19,8 +19,8 @@ returns-in-Some-clause-spells g c =
     let line = line_of c.take_header.new.lines in
     let head = rw c.in-Some.is at first.1 in
     let source = c.new-lines.ensures.source in
-    IfOk-weaker c.take_market.result _ _ (λ m body. market-whole _ _ _ _ _ line _ m.n body.0 _ _ _ source first.0 head.0
-    body.1 body.2) c.take_market.ensures.takes
+    IfOk-weaker c.take_market.result _ _ (λ m body. market-whole _ _ _ _ _ line _ m.source m.n body.0 _ _ _ source first.0 head.0
+    body.1 body.2 body.3) c.take_market.ensures.takes
 
 pub returns-in-Some-clause-line : goal.returns-in-Some-clause-line
 returns-in-Some-clause-line g c =
@@ -47,7 +47,7 @@ returns-in-Some-2-clause-spells g c =
     let line = line_of c.take_header.new.lines in
     let none = rw c.in-None.is at first.1 in
     let second = rw c.in-Some-2.is at c.in_ok-matrix-in-None.ensures.takes in
-    boeing-whole _ c.new-lines.result _ _ _ line second.0 _ _ _ _ c.new-lines.ensures.source first.0 none second.1 second.2
+    boeing-whole _ c.new-lines.result _ _ _ line second.0 _ _ _ _ _ c.new-lines.ensures.source first.0 none second.1 second.2
 
 pub returns-clause-line : goal.returns-clause-line
 returns-clause-line g c =
