@@ -14,11 +14,16 @@
  *     stands in it at first does not matter.
  *
  * A call takes its memory from the front of the block, each list behind the one before it, and none of it twice. It asks for memory
- * nowhere else. If the block is too small, it returns RIMOPAKU_OUT_OF_MEMORY, and nothing but the block has changed. An ordering returns
- * RIMOPAKU_OUT_OF_MEMORY exactly where the call is valid otherwise, n is not 0, and the block has fewer than
- * rimopaku_workspace_bytes_i32(n, a_p[n]) bytes: that is proved. A call keeps no address of the block, and what it leaves there means
- * nothing. So the same block may be lent to call after call. The contracts do not say this, since they do not give the block back: it is
- * tested. Calls with other blocks may run at the same time. */
+ * nowhere else. If the block is too small, it returns RIMOPAKU_OUT_OF_MEMORY, and nothing has changed. It does so exactly where the arrays
+ * have their places, the input is a column form, n is not 0, and the block has fewer bytes than the call takes: for an ordering
+ * rimopaku_workspace_bytes_i32(n, a_p[n]), for counts rimopaku_counts_bytes_i32(n, a_p[n]), and for columns
+ * rimopaku_columns_bytes_i32(n, a_p[n]). That is proved. Where n is 0 no byte is taken.
+ *
+ * A call keeps no address of the block, and what it leaves there means nothing. So the same block may be lent to call after call. The
+ * contracts do not say this, since they do not give the block back: it is tested. Calls with other blocks may run at the same time.
+ *
+ * Two answers are not those of rimopaku.h. RIMOPAKU_OUT_OF_MEMORY comes before RIMOPAKU_NOT_PERMUTATION, and RIMOPAKU_ROOM_TOO_SMALL comes
+ * also where the factor has more entries than the type of its pointers can count. */
 
 #ifndef RIMOPAKU_BARE_H
 #define RIMOPAKU_BARE_H
@@ -80,19 +85,20 @@ int32_t rimopaku_columns_within_i64(struct rimopaku_block block, int64_t n, cons
                                     size_t a_i_len, const int64_t *p, size_t p_len, int64_t *ptr, size_t ptr_len, int64_t *rows,
                                     size_t rows_len, int64_t *parent, size_t parent_len);
 
-/* How many bytes an ordering takes of a block, for every matrix with at most so many rows and entries, a_p[n], whatever its columns: sorted
- * or not, with or without duplicates. With as many bytes it orders, and with fewer than its own matrix takes it does not: that is proved.
- * SIZE_MAX where they are no size_t, and no block is so large. The two are one function. */
-size_t rimopaku_workspace_bytes_i32(size_t rows, size_t entries);
+/* How many bytes a call takes of a block, for every matrix with at most so many rows and entries, a_p[n], whatever its columns: sorted or
+ * not, with or without duplicates. With as many bytes the call is not refused for want of memory, and with fewer than its own matrix takes
+ * it is: that is proved. SIZE_MAX where they are no size_t, and no block is so large. Those with _i64 are the same functions. */
+size_t rimopaku_workspace_bytes_i32(size_t rows, size_t entries); /* an ordering */
 size_t rimopaku_workspace_bytes_i64(size_t rows, size_t entries);
+size_t rimopaku_counts_bytes_i32(size_t rows, size_t entries);
+size_t rimopaku_counts_bytes_i64(size_t rows, size_t entries);
+size_t rimopaku_columns_bytes_i32(size_t rows, size_t entries);
+size_t rimopaku_columns_bytes_i64(size_t rows, size_t entries);
 
-/* How many bytes are enough for constants: the size of a static array. The macros read their arguments more than once. Rows and entries are
- * not negative, and their sums are within a size_t. RIMOPAKU_ORDER_BYTES_I32 is rimopaku_workspace_bytes_i32, which is tested: 48 bytes for
- * a row and 12 for an entry, with rows and entries rounded up to multiples of 4, and 16; twice that where twice the entries and the rows
- * are more than 2147483645 in sum.
- *
- * The sums of the two others are tested, not proved: roughly 112 bytes for a row and 16 for an entry in counts, and 72 and 8 in columns.
- * There are matrices that need every unit of 16 bytes that is counted here. */
+/* The same for constants, which is tested: the size of a static array. The macros read their arguments more than once. Rows and entries are
+ * not negative, and their sums are within a size_t. An ordering takes 48 bytes for a row and 12 for an entry, with rows and entries rounded
+ * up to multiples of 4, and 16; twice that where twice the entries and the rows are more than 2147483645 in sum. Counts take 112 for a row,
+ * 16 for an entry, and 64. Columns take 72 and 8, and 16 or 24. */
 #define RIMOPAKU_ORDER_BYTES_I32(rows, entries) RIMOPAKU_ORDER_BYTES_(RIMOPAKU_SIZE_(rows), RIMOPAKU_SIZE_(entries))
 #define RIMOPAKU_COUNTS_BYTES_I32(rows, entries) RIMOPAKU_COUNTS_BYTES_(RIMOPAKU_SIZE_(rows), RIMOPAKU_SIZE_(entries))
 #define RIMOPAKU_COLUMNS_BYTES_I32(rows, entries) RIMOPAKU_COLUMNS_BYTES_(RIMOPAKU_SIZE_(rows), RIMOPAKU_SIZE_(entries))
@@ -102,25 +108,21 @@ size_t rimopaku_workspace_bytes_i64(size_t rows, size_t entries);
 
 /* What follows, with names that end in a line, serves these macros alone: the sums of the lists that a call makes. */
 #define RIMOPAKU_SIZE_(number) ((size_t)(number))
-/* A list takes whole units of 16 bytes, and nothing if it is empty. */
-#define RIMOPAKU_LIST_(count, width) (((count) * (width) + 15) / 16 * 16)
 
 /* An ordering: three numbers for each entry and twelve for each row, in lists with places for a multiple of 4. */
 #define RIMOPAKU_ORDER_BYTES_(n, e) (RIMOPAKU_WIDTH_(n, e) * (3 * RIMOPAKU_FOURS_(e) + 12 * RIMOPAKU_FOURS_(n) + 4))
 #define RIMOPAKU_WIDTH_(n, e) (2 * (e) + (n) <= 2147483645 ? RIMOPAKU_SIZE_(4) : RIMOPAKU_SIZE_(8))
 #define RIMOPAKU_FOURS_(count) (((count) + 3) / 4 * 4)
 
-/* Counts: places of the rows, sizes; parents, of 16 bytes each; pointers and neighbours twice, to earlier and to later places; and the work
- * of the count, eight numbers for each row and five. */
-#define RIMOPAKU_COUNTS_BYTES_(n, e) \
-    ((n) == 0 ? 0 \
-              : 2 * RIMOPAKU_LIST_(n, 8) + RIMOPAKU_LIST_(n, 16) + 2 * (RIMOPAKU_LIST_((n) + 1, 8) + RIMOPAKU_LIST_(e, 8)) \
-                    + RIMOPAKU_LIST_(8 * (n) + 5, 8))
+/* Counts and columns: a list of numbers of 8 bytes in whole units of 16, and one of links of 16 bytes. */
+#define RIMOPAKU_LISTS_(numbers, links) ((8 * (numbers) + 15) / 16 * 16 + 16 * (links))
 
-/* Columns: places of the rows; pointers and neighbours; pointers of the factor; parents and links, of 16 bytes each; and two lists more. */
-#define RIMOPAKU_COLUMNS_BYTES_(n, e) \
-    ((n) == 0 ? 16 \
-              : 3 * RIMOPAKU_LIST_(n, 8) + 2 * RIMOPAKU_LIST_((n) + 1, 8) + RIMOPAKU_LIST_(e, 8) + 2 * RIMOPAKU_LIST_(n, 16))
+/* Counts: sizes and places of the rows; pointers and neighbours twice, to earlier and to later places; the work of the count, eight numbers
+ * for each row and five; and parents. */
+#define RIMOPAKU_COUNTS_BYTES_(n, e) RIMOPAKU_LISTS_(2 * (e) + 12 * (n) + 7, n)
+
+/* Columns: pointers of the factor, places of the rows, pointers and neighbours, two numbers of each row; and two links of each row. */
+#define RIMOPAKU_COLUMNS_BYTES_(n, e) RIMOPAKU_LISTS_((e) + 5 * (n) + 2, 2 * (n))
 
 static inline size_t rimopaku_order_bytes_i32(int32_t rows, int32_t entries)
 {
@@ -130,26 +132,6 @@ static inline size_t rimopaku_order_bytes_i32(int32_t rows, int32_t entries)
 static inline size_t rimopaku_order_bytes_i64(int64_t rows, int64_t entries)
 {
     return RIMOPAKU_ORDER_BYTES_I64(rows, entries);
-}
-
-static inline size_t rimopaku_counts_bytes_i32(int32_t rows, int32_t entries)
-{
-    return RIMOPAKU_COUNTS_BYTES_I32(rows, entries);
-}
-
-static inline size_t rimopaku_counts_bytes_i64(int64_t rows, int64_t entries)
-{
-    return RIMOPAKU_COUNTS_BYTES_I64(rows, entries);
-}
-
-static inline size_t rimopaku_columns_bytes_i32(int32_t rows, int32_t entries)
-{
-    return RIMOPAKU_COLUMNS_BYTES_I32(rows, entries);
-}
-
-static inline size_t rimopaku_columns_bytes_i64(int64_t rows, int64_t entries)
-{
-    return RIMOPAKU_COLUMNS_BYTES_I64(rows, entries);
 }
 
 #ifdef __cplusplus

@@ -30,10 +30,10 @@ enum class Status : int32_t {
 #endif
     Ok = RIMOPAKU_OK,                            /* each column is sorted and has no duplicates */
     OkButJumbled = RIMOPAKU_OK_BUT_JUMBLED,      /* a column is unsorted or has a duplicate; this is no error */
-    OutOfMemory = RIMOPAKU_OUT_OF_MEMORY,        /* the workspace has too few bytes, or the integers cannot count the entries */
+    OutOfMemory = RIMOPAKU_OUT_OF_MEMORY,        /* the workspace has too few bytes */
     Invalid = RIMOPAKU_INVALID,                  /* the input is no column form, or an array has the wrong length */
     NotPermutation = RIMOPAKU_NOT_PERMUTATION,   /* the order does not list each row once */
-    RoomTooSmall = RIMOPAKU_ROOM_TOO_SMALL       /* the factor has more entries than `rows` has places */
+    RoomTooSmall = RIMOPAKU_ROOM_TOO_SMALL       /* the factor has more entries than `rows` has places, or than the integers count */
 };
 
 /* Whether there is no answer. */
@@ -110,8 +110,8 @@ typedef Slice<int64_t> Places64;
 typedef Slice<const bool> Marks;
 
 /* How many bytes are enough for each matrix with at most so many rows and entries, in either width: for an ordering, for the counts, for
- * the columns, and for each of them. The first number is proved, as rimopaku_bare.h says, and the others are tested. A Workspace takes 15
- * more where its bytes may begin at any address. */
+ * the columns, and for each of them. The library's own numbers are proved, as rimopaku_bare.h says, and that these are the same is tested.
+ * A Workspace takes 15 more where its bytes may begin at any address. */
 constexpr size_t order_bytes(size_t rows, size_t entries) noexcept
 {
     return RIMOPAKU_ORDER_BYTES_I32(rows, entries);

@@ -1,7 +1,7 @@
 /* How many bytes a call in lent memory needs, for drawn matrices of many kinds: with as many as rimopaku_bare.h says each call succeeds,
- * with fewer than the least number it tells so and writes nothing, and nothing outside the block is written. An ordering needs exactly as
- * many. The permutation is SuiteSparse's, if compiled with -DSUITESPARSE, and the counts and columns are those of an elimination on a
- * square of bits. The calls for int64_t give the same. The macros are rimopaku_workspace_bytes_i32.
+ * with one unit less, a half and none it tells so and writes nothing, and nothing outside the block is written. The permutation is
+ * SuiteSparse's, if compiled with -DSUITESPARSE, and the counts and columns are those of an elimination on a square of bits. The calls for
+ * int64_t give the same. The macros are the functions of the library that tell the bytes.
  * Usage: sizes COUNT [SEED]. */
 #include <stdio.h>
 #include <stdlib.h>
@@ -207,18 +207,31 @@ static void try_wide_order(const struct matrix *a, size_t enough, const struct r
     need(n == 0 || order_wide(a, enough - 16, w) == RIMOPAKU_OUT_OF_MEMORY, "order of 64 bits in less", a->n, a->p[n]);
 }
 
+static int counts_wide(const struct matrix *a, size_t bytes, struct wide *w)
+{
+    size_t n = (size_t)a->n;
+    return rimopaku_counts_within_i64(lend(bytes), a->n, w->a_p, n + 1, w->a_i, (size_t)a->p[n], w->order, n, w->sizes, n, w->parent, n,
+                                      &w->needs);
+}
+
+static int columns_wide(const struct matrix *a, size_t bytes, struct wide *w)
+{
+    size_t n = (size_t)a->n;
+    return rimopaku_columns_within_i64(lend(bytes), a->n, w->a_p, n + 1, w->a_i, (size_t)a->p[n], w->order, n, w->ptr, n + 1, w->rows,
+                                       MOST_ROWS * MOST_ROWS, w->parent, n);
+}
+
 static void try_wide_factor(const struct matrix *a, const struct results *r, struct wide *w)
 {
     size_t n = (size_t)a->n, entries = (size_t)a->p[n];
+    size_t enough = rimopaku_counts_bytes_i64(n, entries), for_columns = rimopaku_columns_bytes_i64(n, entries);
     widen(n, last_first(a->n), w->order);
-    need(rimopaku_counts_within_i64(lend(rimopaku_counts_bytes_i64(a->n, a->p[n])), a->n, w->a_p, n + 1, w->a_i, entries, w->order, n,
-                                    w->sizes, n, w->parent, n, &w->needs) == 0,
-         "counts of 64 bits", a->n, a->p[n]);
+    need(counts_wide(a, enough, w) == 0, "counts of 64 bits", a->n, a->p[n]);
     need(are_equal(n, r->sizes, w->sizes) && are_equal(n, r->parent, w->parent), "other counts of 64 bits", a->n, a->p[n]);
-    need(rimopaku_columns_within_i64(lend(rimopaku_columns_bytes_i64(a->n, a->p[n])), a->n, w->a_p, n + 1, w->a_i, entries, w->order, n,
-                                     w->ptr, n + 1, w->rows, MOST_ROWS * MOST_ROWS, w->parent, n) == 0,
-         "columns of 64 bits", a->n, a->p[n]);
+    need(n == 0 || counts_wide(a, enough - 16, w) == RIMOPAKU_OUT_OF_MEMORY, "counts of 64 bits in less", a->n, a->p[n]);
+    need(columns_wide(a, for_columns, w) == 0, "columns of 64 bits", a->n, a->p[n]);
     need(are_equal(n + 1, r->ptr, w->ptr) && are_equal((size_t)r->ptr[n], r->rows, w->rows), "other columns of 64 bits", a->n, a->p[n]);
+    need(n == 0 || columns_wide(a, for_columns - 16, w) == RIMOPAKU_OUT_OF_MEMORY, "columns of 64 bits in less", a->n, a->p[n]);
 }
 
 /* ---- What the results are to be. */
@@ -320,27 +333,17 @@ static void refuse(const char *name, a_call *call, const struct matrix *a, size_
     }
 }
 
-static size_t most_left, needed_all;
+static size_t needed_all;
 
-static void try_call(const char *name, a_call *call, const struct matrix *a, size_t enough, int needs_all, struct results *r)
+/* A call takes every byte of `enough`, or none where there are no rows. */
+static void try_call(const char *name, a_call *call, const struct matrix *a, size_t enough, struct results *r)
 {
     size_t bytes = least(call, a, enough);
     need(call(a, enough, r) >= 0, name, a->n, a->p[a->n]);
     need(guards_are_kept(enough), "a byte outside the block was written", a->n, a->p[a->n]);
-    need(bytes <= enough, "the least number is greater than enough", a->n, a->p[a->n]);
-    need(!needs_all || bytes == enough, "not every byte is needed", a->n, a->p[a->n]);
+    need(bytes == (a->n == 0 ? 0 : enough), "another number of bytes is needed", a->n, a->p[a->n]);
     refuse(name, call, a, bytes);
-    most_left = enough - bytes > most_left ? enough - bytes : most_left;
     needed_all += bytes == enough;
-}
-
-static int has_diagonal(const struct matrix *a)
-{
-    for (int32_t column = 0; column < a->n; column++)
-        for (int32_t at = a->p[column]; at < a->p[column + 1]; at++)
-            if (a->i[at] == column)
-                return 1;
-    return 0;
 }
 
 static void try_matrix(const struct matrix *a)
@@ -352,21 +355,33 @@ static void try_matrix(const struct matrix *a)
 
     widen((size_t)n + 1, a->p, w.a_p);
     widen((size_t)entries, a->i, w.a_i);
-    try_call("order", order, a, enough, n > 0, &r);
+    try_call("order", order, a, enough, &r);
     need(is_the_order(a, &r), "another order", n, entries);
     try_wide_order(a, enough, &r, &w);
-    try_call("order_holding", order_holding, a, enough, n > 0, &r);
+    try_call("order_holding", order_holding, a, enough, &r);
     need(is_inverse(a, &r), "no order", n, entries);
     need(n < 4 || (r.p_inv[0] < r.p_inv[3] && r.told.n_dense >= 2), "rows are not held", n, entries);
-    try_call("counts", counts, a, rimopaku_counts_bytes_i32(n, entries), !has_diagonal(a), &r);
-    try_call("columns", columns, a, rimopaku_columns_bytes_i32(n, entries), !has_diagonal(a), &r);
+    try_call("counts", counts, a, rimopaku_counts_bytes_i32((size_t)n, (size_t)entries), &r);
+    try_call("columns", columns, a, rimopaku_columns_bytes_i32((size_t)n, (size_t)entries), &r);
     need(is_the_factor(a, &r), "another factor", n, entries);
     try_wide_factor(a, &r, &w);
     /* A block for more rows and entries is enough too. */
     need(rimopaku_order_bytes_i32(n + (int32_t)draw(9), entries + (int32_t)draw(9)) >= enough, "fewer for more", n, entries);
 }
 
-/* The macros are the function, for numbers of all sizes. */
+/* The macros are the functions, for numbers of all sizes. */
+static void try_factor_macros(size_t rows, size_t entries)
+{
+    int32_t n = (int32_t)rows, count = (int32_t)entries;
+    size_t bytes = rimopaku_counts_bytes_i32(rows, entries), others = rimopaku_columns_bytes_i32(rows, entries);
+    need(bytes == RIMOPAKU_COUNTS_BYTES_I32(rows, entries) && bytes % 16 == 0, "other bytes of counts", n, count);
+    need(bytes == rimopaku_counts_bytes_i64(rows, entries), "other bytes of counts of 64 bits", n, count);
+    need(bytes == 16 * entries + 112 * rows + 64, "another sum of counts", n, count);
+    need(others == RIMOPAKU_COLUMNS_BYTES_I32(rows, entries) && others % 16 == 0, "other bytes of columns", n, count);
+    need(others == rimopaku_columns_bytes_i64(rows, entries), "other bytes of columns of 64 bits", n, count);
+    need(others - (8 * entries + 72 * rows + 16) < 16, "another sum of columns", n, count);
+}
+
 static void try_macros(void)
 {
     size_t rows = (size_t)draw(1u << 30) >> draw(30), entries = ((size_t)draw(1u << 30) << 4) >> draw(34);
@@ -374,6 +389,7 @@ static void try_macros(void)
     need(bytes == RIMOPAKU_ORDER_BYTES_I32(rows, entries) && bytes % 16 == 0, "other bytes", (int32_t)rows, (int32_t)entries);
     need(bytes == rimopaku_workspace_bytes_i64(rows, entries), "other bytes of 64 bits", (int32_t)rows, (int32_t)entries);
     need(rimopaku_order_bytes_i64((int64_t)rows, (int64_t)entries) == bytes, "other bytes for more", (int32_t)rows, (int32_t)entries);
+    try_factor_macros(rows, entries);
 }
 
 /* ---- Larger ones, by their sizes alone: a band of entries in each column, from the last row up. */
@@ -427,10 +443,12 @@ int main(int argc, char **argv)
     for (long k = 0; k < 100000; k++)
         try_macros();
     need(rimopaku_workspace_bytes_i32(SIZE_MAX, SIZE_MAX) == SIZE_MAX, "bytes that are no size_t", 0, 0);
+    need(rimopaku_counts_bytes_i32(SIZE_MAX / 112, 0) == SIZE_MAX, "bytes of counts that are no size_t", 0, 0);
+    need(rimopaku_columns_bytes_i32(0, SIZE_MAX / 8) == SIZE_MAX, "bytes of columns that are no size_t", 0, 0);
     try_large(200000, 3);
     try_large(6500, 2000);
     try_large(3000, 2400); /* mirrored pairs */
-    printf("%ld matrices, %zu of %ld calls needed every byte, at most %zu were left\n", count, needed_all, 4 * count, most_left);
+    printf("%ld matrices, %zu of %ld calls needed every byte, and the others had no rows\n", count, needed_all, 4 * count);
     free(arena);
     return 0;
 }

@@ -97,7 +97,7 @@ static int held(void)
     return 0;
 }
 
-/* No rows, which need no byte but for the pointer of the columns. */
+/* No rows, which need no byte. */
 static int nothing(void)
 {
     const int32_t none[] = {0};
@@ -107,9 +107,8 @@ static int nothing(void)
 
     CHECK(rimopaku_order_within_i32(lend(0), 0, none, 1, none, 0, &defaults, some, 0, some, 0, &told) == 0 && told.n == 0);
     CHECK(rimopaku_counts_within_i32(lend(0), 0, none, 1, none, 0, none, 0, some, 0, some, 0, &needs) == 0 && needs.d_max == 0);
-    CHECK(rimopaku_columns_within_i32(lend(0), 0, none, 1, none, 0, none, 0, some, 1, rows, 0, parent, 0) == RIMOPAKU_OUT_OF_MEMORY);
     CHECK(some[0] == -7);
-    CHECK(rimopaku_columns_within_i32(lend(16), 0, none, 1, none, 0, none, 0, some, 1, rows, 0, parent, 0) == 0 && some[0] == 0);
+    CHECK(rimopaku_columns_within_i32(lend(0), 0, none, 1, none, 0, none, 0, some, 1, rows, 0, parent, 0) == 0 && some[0] == 0);
     return 0;
 }
 
@@ -128,6 +127,13 @@ static int faults(void)
     /* four bytes for each of three words of an entry and twelve of a row, as of 16 entries and 8 rows, and four */
     CHECK(rimopaku_workspace_bytes_i32(5, 14) == 592);
     CHECK(rimopaku_order_within_i32(lend(591), 5, five_p, 6, five_i, 14, &defaults, p, 5, q, 5, &told) == RIMOPAKU_OUT_OF_MEMORY);
+    /* eight for each of two numbers of an entry, twelve of a row, and seven, and sixteen for a link of each row */
+    CHECK(rimopaku_counts_bytes_i32(5, 14) == 848);
+    CHECK(rimopaku_counts_within_i32(lend(847), 5, five_p, 6, five_i, 14, five_order, 5, p, 5, q, 5, &needs) == RIMOPAKU_OUT_OF_MEMORY);
+    /* eight for each number of an entry, five of a row, and two, in whole units, and sixteen for two links of each row */
+    CHECK(rimopaku_columns_bytes_i32(5, 14) == 496);
+    CHECK(rimopaku_columns_within_i32(lend(495), 5, five_p, 6, five_i, 14, five_order, 5, p, 6, rows, 5, q, 5) ==
+          RIMOPAKU_OUT_OF_MEMORY);
     CHECK(rimopaku_counts_within_i32(all, 5, five_p, 6, five_i, 14, wrong, 5, p, 5, q, 5, &needs) == RIMOPAKU_NOT_PERMUTATION);
     CHECK(rimopaku_columns_within_i32(all, 5, five_p, 6, five_i, 14, five_order, 5, p, 6, rows, 4, q, 5) == RIMOPAKU_ROOM_TOO_SMALL);
     CHECK(equal(p, unwritten, 5) && equal(q, unwritten, 5) && p[5] == -7);

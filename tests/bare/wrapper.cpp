@@ -129,6 +129,8 @@ template <typename Integer> int elsewhere()
     Rimopaku::Workspace none(memory, 0), all(memory);
     Rimopaku::Workspace enough(all.block().start, taken), few(all.block().start, taken - 1);
     CHECK(taken == rimopaku_workspace_bytes_i64(5, 14));
+    CHECK(Rimopaku::counts_bytes(5, 14) == rimopaku_counts_bytes_i32(5, 14));
+    CHECK(Rimopaku::columns_bytes(5, 14) == rimopaku_columns_bytes_i64(5, 14));
     CHECK(none.order(5, five::a_p, five::a_i, p, p_inv, told) == Status::OutOfMemory);
     CHECK(few.order(5, five::a_p, five::a_i, p, p_inv, told) == Status::OutOfMemory);
     CHECK(orders<Integer>(enough) == 0);

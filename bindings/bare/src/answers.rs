@@ -94,13 +94,13 @@ pub struct Needs {
 #[derive(Debug, Clone, Copy, PartialEq, Eq)]
 #[non_exhaustive]
 pub enum Fault {
-    /// The workspace has too few bytes, or the type of numbers cannot count the entries of the factor.
+    /// The workspace has too few bytes.
     OutOfMemory,
     /// The input is no column form, or a slice has the wrong length.
     Invalid,
     /// The order does not list each row exactly once.
     NotPermutation,
-    /// The factor has more entries than `rows` has places.
+    /// The factor has more entries than `rows` has places, or than the type of numbers can count.
     RoomTooSmall,
 }
 

@@ -17,23 +17,16 @@ pub const fn order_bytes(rows: usize, entries: usize) -> usize {
     bounded(width * (3 * fours(entries) + 12 * fours(rows) + 4))
 }
 
-/// How many bytes are enough for the counts of a factor. This sum is tested, not proved.
+/// How many bytes the counts of a factor take: 16 for each entry, 112 for each row, and 64. This is proved too.
 pub const fn counts_bytes(rows: usize, entries: usize) -> usize {
-    if rows == 0 {
-        return 0;
-    }
     let (rows, entries) = (rows as u128, entries as u128);
-    let neighbours = list(rows + 1, 8) + list(entries, 8);
-    bounded(2 * list(rows, 8) + list(rows, 16) + 2 * neighbours + list(8 * rows + 5, 8))
+    lists(2 * entries + 12 * rows + 7, rows)
 }
 
-/// How many bytes are enough for the columns of a factor. This sum is tested, not proved.
+/// How many bytes the columns of a factor take: 8 for each entry, 72 for each row, and 16 or 24. This is proved too.
 pub const fn columns_bytes(rows: usize, entries: usize) -> usize {
-    if rows == 0 {
-        return UNIT;
-    }
     let (rows, entries) = (rows as u128, entries as u128);
-    bounded(3 * list(rows, 8) + 2 * list(rows + 1, 8) + list(entries, 8) + 2 * list(rows, 16))
+    lists(entries + 5 * rows + 2, 2 * rows)
 }
 
 /// How many bytes are enough for each call.
@@ -46,9 +39,10 @@ const fn fours(number: u128) -> u128 {
     (number + 3) / 4 * 4
 }
 
-/// The bytes of a list: whole units.
-const fn list(count: u128, width: u128) -> u128 {
-    (count * width + UNIT as u128 - 1) / UNIT as u128 * UNIT as u128
+/// The bytes of a list of numbers, in whole units, and of one of links of a unit each.
+const fn lists(numbers: u128, links: u128) -> usize {
+    let unit = UNIT as u128;
+    bounded((8 * numbers + unit - 1) / unit * unit + unit * links)
 }
 
 /// The number, or the greatest `usize` where it is more.
@@ -104,25 +98,38 @@ impl<const BYTES: usize> Default for StaticMemory<BYTES> {
 
 #[cfg(test)]
 mod tests {
-    use super::order_bytes;
+    use super::{columns_bytes, counts_bytes, order_bytes};
 
     extern "C" {
         fn rimopaku_workspace_bytes_i32(rows: usize, entries: usize) -> usize;
         fn rimopaku_workspace_bytes_i64(rows: usize, entries: usize) -> usize;
+        fn rimopaku_counts_bytes_i32(rows: usize, entries: usize) -> usize;
+        fn rimopaku_counts_bytes_i64(rows: usize, entries: usize) -> usize;
+        fn rimopaku_columns_bytes_i32(rows: usize, entries: usize) -> usize;
+        fn rimopaku_columns_bytes_i64(rows: usize, entries: usize) -> usize;
     }
+
+    type Told = unsafe extern "C" fn(usize, usize) -> usize;
 
     /// The proved numbers, at the bounds of the widths and of `usize` too.
     #[test]
-    fn an_ordering_takes_what_the_library_tells() {
+    fn a_call_takes_what_the_library_tells() {
         let some = [0, 1, 2, 3, 4, 5, 14, 108, 99_999, 1_073_741_820, 1_073_741_822, 2_147_483_645, 2_147_483_646];
         let large = [1 << 40, 1 << 59, usize::MAX / 72, usize::MAX / 24, usize::MAX - 1, usize::MAX];
+        let calls: [(fn(usize, usize) -> usize, Told); 6] = [
+            (order_bytes, rimopaku_workspace_bytes_i32),
+            (order_bytes, rimopaku_workspace_bytes_i64),
+            (counts_bytes, rimopaku_counts_bytes_i32),
+            (counts_bytes, rimopaku_counts_bytes_i64),
+            (columns_bytes, rimopaku_columns_bytes_i32),
+            (columns_bytes, rimopaku_columns_bytes_i64),
+        ];
         for &rows in some.iter().chain(&large) {
             for &entries in some.iter().chain(&large) {
-                // SAFETY: these calls take two numbers.
-                let told = unsafe {
-                    [rimopaku_workspace_bytes_i32(rows, entries), rimopaku_workspace_bytes_i64(rows, entries)]
-                };
-                assert_eq!([order_bytes(rows, entries); 2], told, "{rows} rows, {entries} entries");
+                for (own, told) in calls {
+                    // SAFETY: these calls take two numbers.
+                    assert_eq!(own(rows, entries), unsafe { told(rows, entries) }, "{rows} rows, {entries} entries");
+                }
             }
         }
     }

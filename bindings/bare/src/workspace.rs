@@ -101,9 +101,10 @@ impl<'m> Workspace<'m> {
     /// # Errors
     ///
     /// [`Fault::Invalid`] exactly if `sizes` or `parent` has not `n` places, or `n` is not 0 and the input is no column
-    /// form; [`Fault::NotPermutation`] where `p` does not list each row once; [`Fault::OutOfMemory`] where the
-    /// workspace has too few bytes, which may come in place of the one before it. Then `sizes` and `parent` are as they
-    /// were.
+    /// form; else [`Fault::OutOfMemory`] exactly if `n` is not 0 and the workspace has fewer bytes than
+    /// [`counts_bytes`](crate::counts_bytes) tells for `n` rows and `a_p[n]` entries, those before the first multiple
+    /// of 16 not counted; else [`Fault::NotPermutation`] exactly if `p` does not list each row once. Then `sizes` and
+    /// `parent` are as they were.
     pub fn counts<T: Word>(
         &mut self,
         n: T,
@@ -129,10 +130,12 @@ impl<'m> Workspace<'m> {
     /// # Errors
     ///
     /// [`Fault::Invalid`] exactly if `ptr` or `parent` has not that many places, or `n` is not 0 and the input is no
-    /// column form; [`Fault::NotPermutation`] where `p` does not list each row once; [`Fault::RoomTooSmall`] where the
-    /// factor has more entries than `rows` has places; and [`Fault::OutOfMemory`] where the workspace has too few
-    /// bytes, or `T` cannot count the entries, which may come in place of the two before it. Then `ptr` and `parent`
-    /// are as they were. After the last two faults `rows` may have some of the entries.
+    /// column form; else [`Fault::OutOfMemory`] exactly if `n` is not 0 and the workspace has fewer bytes than
+    /// [`columns_bytes`](crate::columns_bytes) tells for `n` rows and `a_p[n]` entries, those before the first multiple
+    /// of 16 not counted; else [`Fault::NotPermutation`] exactly if `p` does not list each row once; else
+    /// [`Fault::RoomTooSmall`] exactly if the factor has more entries than `rows` has places, or than `T` can count.
+    /// Then `ptr` and `parent` are as they were, and `rows` too, but that after the last fault it may have some of the
+    /// entries.
     #[allow(clippy::too_many_arguments)]
     pub fn columns<T: Word>(
         &mut self,

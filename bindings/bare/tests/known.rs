@@ -1,6 +1,8 @@
 //! Worked matrices in both widths, each call with its faults, and memory that begins and ends anywhere.
 
-use rimopaku_amd_bare::{order_bytes, workspace_bytes, Fault, Needs, Parameters, StaticMemory, Word, Workspace};
+use rimopaku_amd_bare::{
+    columns_bytes, counts_bytes, order_bytes, workspace_bytes, Fault, Needs, Parameters, StaticMemory, Word, Workspace,
+};
 use std::fmt::Debug;
 use std::mem::MaybeUninit;
 
@@ -91,6 +93,34 @@ fn bytes_of_an_ordering() {
     }
     let told = Workspace::over(&mut memory.0).order(5, &a_p, &a_i, &parameters, &mut p, &mut p_inv);
     assert!(told.is_ok() && p == [0, 3, 2, 4, 1]);
+}
+
+/// So do the counts and the columns, each in its own number of bytes. What is no matrix is told before that, and a
+/// wrong order after it.
+#[test]
+fn bytes_of_a_factor() {
+    #[repr(align(16))]
+    struct Aligned([u8; counts_bytes(5, 14)]);
+    let mut memory = Aligned([0; counts_bytes(5, 14)]);
+    let (counts_end, columns_end) = (counts_bytes(5, 14), columns_bytes(5, 14));
+    assert_eq!((counts_end, columns_end), (848, 496));
+    let (a_p, a_i, p) = (numbers::<i32, 6>(A_P), numbers::<i32, 14>(A_I), numbers::<i32, 5>(P));
+    let (mut sizes, mut parent, mut ptr, mut rows) = ([-7; 5], [-7; 5], [-7; 6], [-7; 5]);
+    for less in [1, 16, columns_end] {
+        let mut few = Workspace::over(&mut memory.0[..counts_end - less]);
+        assert_eq!(few.counts(5, &a_p, &a_i, &p, &mut sizes, &mut parent), Err(Fault::OutOfMemory));
+        assert_eq!(few.counts(5, &a_p, &a_i, &p[1..], &mut sizes, &mut parent), Err(Fault::OutOfMemory));
+        assert_eq!(few.counts(5, &a_p, &a_i[1..], &p, &mut sizes, &mut parent), Err(Fault::Invalid));
+        let mut few = Workspace::over(&mut memory.0[..columns_end - less]);
+        assert_eq!(few.columns(5, &a_p, &a_i, &p, &mut ptr, &mut rows, &mut parent), Err(Fault::OutOfMemory));
+        assert_eq!(few.columns(5, &a_p, &a_i[1..], &p, &mut ptr, &mut rows, &mut parent), Err(Fault::Invalid));
+        assert_eq!((sizes, parent, ptr, rows), ([-7; 5], [-7; 5], [-7; 6], [-7; 5]));
+    }
+    let mut enough = Workspace::over(&mut memory.0);
+    assert!(enough.counts(5, &a_p, &a_i, &p, &mut sizes, &mut parent).is_ok() && sizes == [1, 1, 2, 1, 0]);
+    let mut enough = Workspace::over(&mut memory.0[..columns_end]);
+    assert_eq!(enough.columns(5, &a_p, &a_i, &p, &mut ptr, &mut rows, &mut parent), Ok(()));
+    assert_eq!(rows, [4, 2, 3, 4, 4]);
 }
 
 #[test]

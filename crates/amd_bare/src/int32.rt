@@ -4,14 +4,16 @@
 ghost use Rattle.std.specs.Prelude.{◌≡◌, None, Some, min};
 ghost use Rattle.amd.specs.Blocks.{workspace_bytes};
 ghost use Rattle.amd_calls.specs.Calls.{OrdersWithin, memory};
-ghost use Rattle.amd_calls.specs.Columns.{ColumnsInto, arrays};
-ghost use Rattle.amd_calls.specs.Counting.{CountsInto, tallies};
+ghost use Rattle.amd_calls.specs.Columns.{arrays};
+ghost use Rattle.amd_calls.specs.Counting.{tallies};
+ghost use Rattle.amd_calls.specs.Within.{ColumnsWithin, CountsWithin, columns_bytes, counts_bytes};
 
-use amd_calls::counting::counts_into;
-use amd_calls::factors::{columns_into, number_of_end};
+use amd_calls::bytes;
+use amd_calls::factor_within::{columns_within, counts_within};
+use amd_calls::factors::number_of_end;
 use amd_calls::records::{Needs, Parameters, Statistics};
 use amd_calls::within::{bytes_or_most, order_within};
-use amd_lent::{Lent, Piece};
+use amd_lent::Piece;
 
 /// How many bytes of a block an ordering takes, for every matrix with so many rows and entries; `SIZE_MAX` where that is
 /// no `size_t`, and no block is so large.
@@ -20,6 +22,24 @@ pub extern "C" fn rimopaku_workspace_bytes_i32(rows: usize, entries: usize) -> u
     ensures { result ≡ min (workspace_bytes rows entries) 18446744073709551615 }
 {
     bytes_or_most(rows, entries)
+}
+
+/// How many bytes of a block the counts of a factor take, for every matrix with so many rows and entries: 16 for each
+/// entry, 112 for each row, and 64; `SIZE_MAX` where that is no `size_t`, and no block is so large.
+#[unsafe(no_mangle)]
+pub extern "C" fn rimopaku_counts_bytes_i32(rows: usize, entries: usize) -> usize
+    ensures { result ≡ min (counts_bytes rows entries) 18446744073709551615 }
+{
+    bytes::counts_bytes(rows, entries)
+}
+
+/// How many bytes of a block the columns of a factor take, for every matrix with so many rows and entries: 8 for each
+/// entry, 40 for each row, and 16, in whole units of 16, and 32 for each row; `SIZE_MAX` where that is no `size_t`.
+#[unsafe(no_mangle)]
+pub extern "C" fn rimopaku_columns_bytes_i32(rows: usize, entries: usize) -> usize
+    ensures { result ≡ min (columns_bytes rows entries) 18446744073709551615 }
+{
+    bytes::columns_bytes(rows, entries)
 }
 
 /// Orders a matrix in memory that is lent, as `order` of the crate `amd`, and returns the number of the status.
@@ -93,11 +113,12 @@ pub extern "C" fn rimopaku_order_holding_within_i32(
 ///
 /// # Errors
 ///
-/// A negative number; the arrays stay as they were, but that after -4 and -1 `rows` may have some of the entries. It is
-/// -2, `NotColumnForm`, exactly where `ptr` or `parent` has not that many places, or `n` is not 0 and the input is no
-/// column form. It is -3, `NotPermutation`, where `p` does not list each number below `n`, once; -4, `RoomTooSmall`,
-/// where the factor has more entries than `rows` has places; and -1, `OutOfMemory`, where the memory was too small, or
-/// a number is too large for the type. The last may come in place of the two before it.
+/// A negative number; the arrays stay as they were, but that after -4 `rows` may have some of the entries. It is the
+/// first of these: -2, `NotColumnForm`, exactly where `ptr` or `parent` has not that many places, or `n` is not 0 and
+/// the input is no column form; -1, `OutOfMemory`, exactly where `n` is not 0 and the block has fewer bytes than
+/// `rimopaku_columns_bytes_i32(n, a_p[n])`; -3, `NotPermutation`, exactly where `p` does not list each number below
+/// `n`, once; and -4, `RoomTooSmall`, exactly where the factor has more entries than `rows` has places, or than the
+/// type can count.
 ///
 /// Source: Rose, Tarjan and Lueker 1976; Liu 1990; Davis 2005.
 #[unsafe(no_mangle)]
@@ -111,12 +132,12 @@ pub extern "C" fn rimopaku_columns_within_i32(
     rows: &mut [i32],
     parent: &mut [i32],
 ) -> i32
-    ensures { ColumnsInto n a_p.now a_i.now p.now
+    ensures { ColumnsWithin 2147483647 n a_p.now a_i.now p.now lent.size
         (arrays ptr.old rows.old parent.old)
         (arrays ptr.new rows.new parent.new) result }
 {
-    let heap = Lent::new(lent);
-    let outcome = columns_into(&heap, n, a_p, a_i, p, ptr, rows, parent);
+    let most = i32::MAX as usize;
+    let outcome = columns_within(lent, most, n, a_p, a_i, p, ptr, rows, parent);
     number_of_end(&outcome)
 }
 
@@ -129,10 +150,10 @@ pub extern "C" fn rimopaku_columns_within_i32(
 ///
 /// # Errors
 ///
-/// A negative number; `sizes`, `parent` and `needs` stay as they were. It is -2, `NotColumnForm`, exactly where `sizes`
-/// or `parent` has not `n` places, or `n` is not 0 and the input is no column form. It is -3, `NotPermutation`, where
-/// `p` does not list each number below `n`, once; and -1, `OutOfMemory`, where the memory was too small, which may come
-/// in place of the one before it.
+/// A negative number; `sizes`, `parent` and `needs` stay as they were. It is the first of these: -2, `NotColumnForm`,
+/// exactly where `sizes` or `parent` has not `n` places, or `n` is not 0 and the input is no column form; -1,
+/// `OutOfMemory`, exactly where `n` is not 0 and the block has fewer bytes than `rimopaku_counts_bytes_i32(n, a_p[n])`;
+/// and -3, `NotPermutation`, exactly where `p` does not list each number below `n`, once.
 ///
 /// Source: Rose, Tarjan and Lueker 1976; Liu 1986; Gilbert, Ng and Peyton 1994.
 #[unsafe(no_mangle)]
@@ -146,10 +167,9 @@ pub extern "C" fn rimopaku_counts_within_i32(
     parent: &mut [i32],
     needs: &mut Needs,
 ) -> i32
-    ensures { CountsInto n a_p.now a_i.now p.now (tallies sizes.old parent.old needs.old)
+    ensures { CountsWithin n a_p.now a_i.now p.now lent.size (tallies sizes.old parent.old needs.old)
         (tallies sizes.new parent.new needs.new) result }
 {
-    let heap = Lent::new(lent);
-    let outcome = counts_into(&heap, n, a_p, a_i, p, sizes, parent, needs);
+    let outcome = counts_within(lent, n, a_p, a_i, p, sizes, parent, needs);
     number_of_end(&outcome)
 }

@@ -15,7 +15,7 @@ number_comes_back (Err NotColumnForm) = refl
 number_comes_back (Err NotPermutation) = refl
 number_comes_back (Err RoomTooSmall) = refl
 
-arrays_of_values : (ptr rows parent : List ℤ) → arrays (values ptr) (values rows) (values parent) ≡ arrays ptr rows parent
+pub arrays_of_values : (ptr rows parent : List ℤ) → arrays (values ptr) (values rows) (values parent) ≡ arrays ptr rows parent
 arrays_of_values ptr rows parent =
     ap (λ x. arrays x (values rows) (values parent)) (map-id ptr) ∙ ap (λ x. arrays ptr x (values parent)) (map-id rows)
     ∙ ap (λ x. arrays ptr rows x) (map-id parent)

@@ -9,7 +9,7 @@ use Rattle.amd_calls.specs.declared.records.Needs.{Needs}
 use Rattle.amd_calls.proofs.ColumnsLeft.{number_comes_back}
 use Rattle.amd_calls.proofs.Leaving.{values}
 
-tallies_of_values : (sizes parent : List ℤ) (needs : Needs) → tallies (values sizes) (values parent) needs ≡ tallies sizes parent needs
+pub tallies_of_values : (sizes parent : List ℤ) (needs : Needs) → tallies (values sizes) (values parent) needs ≡ tallies sizes parent needs
 tallies_of_values sizes parent needs =
     ap (λ x. tallies x (values parent) needs) (map-id sizes) ∙ ap (λ x. tallies sizes x needs) (map-id parent)
 

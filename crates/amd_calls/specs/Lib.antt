@@ -6,3 +6,5 @@ pub mod Calls
 pub mod Columns
 -- What the calls for the counts of those columns leave there.
 pub mod Counting
+-- What the calls for a factor take of a block that is lent, and what they leave.
+pub mod Within

@@ -22,7 +22,7 @@ fn cut_to_count(figure: u128) -> usize
 }
 
 /// What a factor needs, each figure cut at the greatest count.
-fn needs_of(need: &Need) -> Needs
+pub fn needs_of(need: &Need) -> Needs
     ensures { result ≡ needs_of need.now }
 {
     Needs {

@@ -28,7 +28,7 @@ pub fn number_of_end(outcome: &Result<(), Fault>) -> i32
 }
 
 /// Whether an array has `n + 1` places, and another one `n`.
-fn have_column_places<I: Index>(n: I, ptr: &[I], parent: &[I]) -> bool
+pub fn have_column_places<I: Index>(n: I, ptr: &[I], parent: &[I]) -> bool
     ensures { IsTrue result ↔ HasColumnPlaces (I.value n) (map I.value ptr.now) (map I.value parent.now) }
 {
     match to_count(n) {
