@@ -200,6 +200,10 @@ fn many_rows_by_a_pipe(rt: HostRuntime) -> Result<(), Fail> {
     Ok(())
 }
 
+/// A matrix of three rows and four entries.
+static SMALL: &str =
+    "%%MatrixMarket matrix coordinate pattern general\n3 3 4\n2 1\n1 2\n3 2\n3 3\n";
+
 /// A limit of the memory and a run, and whether the run stays within it: three rows and four entries.
 static WITHIN: [(&str, &str, bool); 8] = [
     ("info", "104", true),
@@ -212,29 +216,37 @@ static WITHIN: [(&str, &str, bool); 8] = [
     ("order", "0", false),
 ];
 
-/// A run that would take more than `--memory` allows is refused with status 1, by a pipe and by a file, and tells how
-/// much it would take.
+/// Whether a run stays within a limit as it should, or is refused with status 1 and tells how much it would take.
+fn meets_limit<'a>(
+    rt: &HostRuntime,
+    name: &'a str,
+    path: &'a str,
+    limit: &'a str,
+    is_within: bool,
+) -> Result<bool, Fail> {
+    let words = [name, path, "--memory", limit];
+    let end = run_at_desk(rt, &words, SMALL, 0, Broken::Neither)?;
+    let is_told = end
+        .told
+        .contains("would take about 1 MiB, more than --memory allows\n");
+    let is_right = end.status == u8::from(!is_within) && is_told != is_within;
+    Ok(is_right && end.shown.is_empty() != is_within)
+}
+
+/// A run that would take more than `--memory` allows is refused, by a pipe and by a file.
 #[test]
 fn a_limit_of_memory(rt: HostRuntime) -> Result<(), Fail> {
     let folder = make_folder(&rt)?;
     let folder = folder.as_str();
     let file = within(&rt, folder, "small.mtx")?;
     let file = file.as_str();
-    let text = "%%MatrixMarket matrix coordinate pattern general\n3 3 4\n2 1\n1 2\n3 2\n3 3\n";
-    fs::write(&rt, file, text)?;
-    for (name, limit, is_within) in &WITHIN {
-        for path in [file, "-"] {
-            let words = [*name, path, "--memory", *limit];
-            let end = run_at_desk(&rt, &words, text, 0, Broken::Neither)?;
-            let is_told = end
-                .told
-                .contains("would take about 1 MiB, more than --memory allows\n");
-            check!(&rt; end.status == u8::from(!*is_within) && is_told != *is_within, limit);
-            check!(&rt; end.shown.is_empty() != *is_within, limit);
-        }
+    fs::write(&rt, file, SMALL)?;
+    for &(name, limit, is_within) in &WITHIN {
+        check!(&rt; meets_limit(&rt, name, file, limit, is_within)?, limit);
+        check!(&rt; meets_limit(&rt, name, "-", limit, is_within)?, limit);
     }
     let words = ["order", "-", "--memory", "much"];
-    let end = run_at_desk(&rt, &words, text, 0, Broken::Neither)?;
+    let end = run_at_desk(&rt, &words, SMALL, 0, Broken::Neither)?;
     check!(&rt; end.status == 2 && end.told.starts_with("rimopaku: --memory: must be a number of bytes"));
     fs::remove_dir_all(&rt, folder)?;
     Ok(())
