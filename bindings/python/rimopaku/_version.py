@@ -1,3 +1,3 @@
 """The version of the package: that of the file VERSION of the repository."""
 
-__version__ = "1.0.0"
+__version__ = "1.1.0"

@@ -12,9 +12,8 @@ use amd_types::amd::Control;
 use clap::{Arg, ArgAction, ArgMatches, Command, Error};
 use std::alloc::{AllocError, Global};
 
-/// The version of the project, whether it has changes since, and the version of the kit that it is proved with.
-const VERSION: &str =
-    "1.0.0 (with changes of the coming version; rattle-kit-13f logic dac8208d650f15bf)";
+/// The version of the project, and that of the kit that it is proved with.
+const VERSION: &str = "1.1.0 (rattle-kit-13f logic dac8208d650f15bf)";
 
 /// The words of a subcommand. Those that it does not know are as where they are not given.
 #[derive(Clone, Copy)]
