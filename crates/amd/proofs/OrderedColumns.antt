@@ -1,7 +1,7 @@
 -- What the status of an input says: by which columns it is ordered, and with what it is refused. An ordering by these columns is one of
 -- the input.
 use Rattle.std.proofs.Common.{ℕ, ℤ, List, Bool, pos, ◌≡◌, ◌≢◌, refl, sym, ap, subst, inl, inr}
-use Rattle.std.specs.Prelude.{unsigned_abs, Option, None, Some, Result, Ok, Err, IfOk, IfErr, IsErrAnd, ◌⊎◌, true, false}
+use Rattle.std.specs.Prelude.{unsigned_abs, Option, None, Some, Result, Ok, Err, IfOk, ◌⊎◌, true, false}
 use Rattle.std.specs.Option.{is_some}
 use Rattle.amd_model.specs.Input.Columns.{IsColumnForm, IsInput, IsSorted}
 use Rattle.num_traits.specs.Laws.{Checks}
@@ -69,15 +69,6 @@ held_form : (hold : Option (List Bool)) (z : ℤ) (a_p a_i : List ℤ) → IsInp
 held_form None z a_p a_i holding = holding
 held_form (Some m) z a_p a_i holding = holding.0
 
--- what a call that failed makes of its fault
-pub err_gives : {T : Type 0} (Q : Status → Type 0) (r : Result T Status) (x : Status) → IsErrAnd r (λ e. e ≡ x) → Q x → IfErr r Q
-err_gives Q (Ok a) x h q = absurd h
-err_gives Q (Err e) x h q = subst Q (sym h) q
-
-pub err_alone : {T : Type 0} (P : T → Type 0) (r : Result T Status) (x : Status) → IsErrAnd r (λ e. e ≡ x) → IfOk r P
-err_alone P (Ok a) x h = absurd h
-err_alone P (Err e) x h = tt
-
 -- a valid input is refused for want of memory alone
 pub refused : (hold : Option (List Bool)) (z : ℤ) (a_p a_i : List ℤ) (status e : Status) → HasStatus hold z a_p a_i status →
     status ≢ Invalid → e ≡ OutOfMemory → IsRefusalHolding hold z a_p a_i e
@@ -115,12 +106,6 @@ jumbled_valid OK jumbled is = λ e. cc
 jumbled_valid Invalid jumbled is = λ e. cc
 jumbled_valid OkButJumbled jumbled is = λ e. cc
 jumbled_valid OutOfMemory jumbled is = λ e. cc
-
-pub some_valid : (status : Status) → is_some (jumbled_by status) ≡ true → status ≢ Invalid
-some_valid OK is = λ e. cc
-some_valid Invalid is = λ e. cc
-some_valid OkButJumbled is = λ e. cc
-some_valid OutOfMemory is = λ e. cc
 
 pub sorted_status : (status : Status) → jumbled_by status ≡ Some false → status ≡ OK
 sorted_status OK is = refl

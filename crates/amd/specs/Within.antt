@@ -3,6 +3,8 @@
 use Rattle.std.specs.Prelude.{◌≡◌, ◌≢◌, ◌≤◌, ◌<◌, ◌+◌, ◌*◌, ◌/◌, ◌^◌, ℕ, ℤ, pos, Bool, true, false, Option, None}
 use Rattle.std.specs.Prelude.{Some, List, length}
 use Rattle.std.specs.Prelude.{slice_index, unsigned_abs}
+use Rattle.amd_model.specs.Input.Columns.{IsColumnForm, IsSorted}
+use Rattle.amd_model.specs.Input.Held.{HasMarks}
 use Rattle.amd_model.specs.Input.Pattern.{is_pair}
 use Rattle.amd_rounds.specs.Laid.{AreWideEnough}
 use Rattle.amd_types.specs.Counts.{counts}
@@ -25,6 +27,15 @@ jumbled_by OutOfMemory = None
 abbrev pub pairs_by : Bool → ℕ → List ℤ → List ℤ → ℕ → ℕ → Bool
 pairs_by false n ap ai = is_pair n ap ai
 pairs_by true n ap ai = λ i j. is_pair n ap ai j i
+
+-- what each ordering into lists of n and m places is given: a column form with n rows, at least one, that is sorted
+-- unless it is told jumbled; a mark for each row where there are marks; and a place for each row in both lists
+pub record IsGiven (hold : Option (List Bool)) (jumbled : Bool) (ap ai : List ℤ) (n m : ℕ) : Type 0 where
+  pub places : m ≡ n
+  pub some : 0 < n
+  pub form : IsColumnForm (pos n) n ap ai
+  pub sorted : jumbled ≡ false → IsSorted n ap ai
+  pub marks : HasMarks hold n
 
 -- how many words the lists of n rows take for that many entries
 abbrev pub list_words : ℕ → ℕ → ℕ
@@ -53,3 +64,10 @@ pub record IsCall (hold : Option (List Bool)) (n : ℤ) (ap ai : List ℤ) (p q 
 abbrev pub IsWithinRefusal : Option (List Bool) → ℤ → List ℤ → List ℤ → List ℤ → List ℤ → ℕ → ℕ → Refusal → Type 0
 IsWithinRefusal hold n ap ai p q rows entries refusal.Invalid = ¬ (IsCall hold n ap ai p q)
 IsWithinRefusal hold n ap ai p q rows entries refusal.TooLarge = IsCall hold n ap ai p q × (¬ (FitsIn n ap rows entries))
+
+-- why nothing is ordered into a caller's lists: the call is not valid; or memory, only for a valid one with rows
+abbrev pub IsIntoRefusal : Option (List Bool) → ℤ → List ℤ → List ℤ → List ℤ → List ℤ → Status → Type 0
+IsIntoRefusal hold n ap ai p q Invalid = ¬ (IsCall hold n ap ai p q)
+IsIntoRefusal hold n ap ai p q OutOfMemory = (n ≢ pos 0) × IsCall hold n ap ai p q
+IsIntoRefusal hold n ap ai p q OK = ⊥
+IsIntoRefusal hold n ap ai p q OkButJumbled = ⊥

@@ -1,5 +1,5 @@
-// An ordering of one matrix in memory that a caller lends: nothing but the input and the size of the block is a reason to
-// refuse. Source: AMD user guide; Amestoy, Davis and Duff 1996 and 2004.
+// An ordering of one matrix in memory that a caller lends: nothing but the input and the size of the block is a reason
+// to refuse. Source: AMD user guide; Amestoy, Davis and Duff 1996 and 2004.
 
 ghost use Rattle.std.specs.Prelude.{◌≡◌, ◌≤◌, ◌<◌, map, MatchOption, IfOk, IfErr};
 ghost use Rattle.std.specs.Option.{option_copied};
@@ -40,14 +40,14 @@ impl Widths<Lodged> {
     }
 }
 
-/// Orders the rows of a square matrix, as [`crate::order_marked`] does, in memory that the caller lends: in a block of at
-/// least [`crate::workspace_bytes`]`(n, a_p[n])` bytes. Writes the permutation into `p` and its inverse into `p_inv`,
-/// which have `n` places each, and returns the record.
+/// Orders the rows of a square matrix, as [`crate::order_marked`] does, in memory that the caller lends: in a block of
+/// at least [`crate::workspace_bytes`]`(n, a_p[n])` bytes. Writes the permutation into `p` and its inverse into
+/// `p_inv`, which have `n` places each, and returns the record.
 ///
 /// # Errors
 ///
-/// * `Invalid` exactly where `n` is not 0 and the input is no column form, or has marks and not one for each row; or where
-///   `p` or `p_inv` has not `n` places.
+/// * `Invalid` exactly where `n` is not 0 and the input is no column form, or has marks and not one for each row; or
+///   where `p` or `p_inv` has not `n` places.
 /// * `TooLarge` exactly where the call is valid, `n` is not 0, and the block has fewer bytes than that.
 ///
 /// No other refusal. After one, `p` and `p_inv` are as before.

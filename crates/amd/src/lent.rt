@@ -1,5 +1,5 @@
-// The lists of a workspace in memory that a caller lends: they lie side by side in one block, and each takes whole units
-// of 16 bytes. Source: Amestoy, Davis and Duff 1996 and 2004 (the arrays of the quotient graph).
+// The lists of a workspace in memory that a caller lends: they lie side by side in one block, and each takes whole
+// units of 16 bytes. Source: Amestoy, Davis and Duff 1996 and 2004 (the arrays of the quotient graph).
 
 ghost use Rattle.std.specs.Prelude.{◌≡◌, ◌≤◌, ◌<◌, ◌+◌, ◌*◌, ◌/◌, ◌^◌, MatchOption};
 ghost use Rattle.std.specs.Mem.{type_size};
@@ -37,8 +37,8 @@ pub fn is_narrow(rows: usize, entries: usize) -> bool
 /// The bytes of a workspace for so many rows and entries in a block, where they are a number of 64 bits.
 ///
 /// These are three words for each entry and twelve for each row, and four, where rows and entries are rounded up to
-/// multiples of four. A word has 4 bytes where twice the entries and the rows are at most 2,147,483,645 in sum, and else
-/// 8.
+/// multiples of four. A word has 4 bytes where twice the entries and the rows are at most 2,147,483,645 in sum, and
+/// else 8.
 pub fn workspace_bytes(rows: usize, entries: usize) -> Option<usize>
     ensures { SomeIff result (workspace_bytes rows entries < 2 ^ 64) (workspace_bytes rows entries) }
 {

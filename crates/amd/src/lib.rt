@@ -8,6 +8,7 @@
 
 mod block;
 mod entrance;
+mod into;
 pub mod laws;
 mod lent;
 mod once;
@@ -22,11 +23,13 @@ ghost use Rattle.amd.specs.Answers.{IsOrdering, IsOrderingHolding, IsRefusal, Is
 
 use crate::entrance::{class_of, jumbled_of};
 use crate::once::order_once;
+use amd_engine::fresh::room_for;
 pub use amd_input::{aat, preprocess, valid};
 pub use amd_lent::{Lodged, Piece};
 pub use amd_texts::{control, info};
 pub use amd_types::amd::{Control, Info, Status};
 pub use block::order_in_block;
+pub use into::order_into;
 pub use lent::workspace_bytes;
 pub use refusal::Refusal;
 pub use workspace::Workspace;
@@ -69,7 +72,9 @@ pub fn order_marked<I: PrimInt, A: Allocator + Copy>(
     let Some(jumbled) = jumbled_of(&status) else {
         return Err(status);
     };
-    let (p, p_inv, mut info) = order_once(alloc, count, a_p, a_i, jumbled, control, hold)?;
+    let mut p = room_for(alloc, count)?;
+    let mut p_inv = room_for(alloc, count)?;
+    let mut info = order_once(alloc, a_p, a_i, jumbled, control, hold, &mut p, &mut p_inv)?;
     info.status = status;
     Ok((p, p_inv, info))
 }

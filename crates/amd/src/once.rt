@@ -1,21 +1,18 @@
-// An ordering of one matrix: its memory is taken as soon as it is known how much that is, and given back at the end.
-// Source: AMD user guide; Amestoy, Davis and Duff 1996 and 2004.
+// An ordering of one matrix into lists that are there: memory is taken as soon as it is known how much that is, and
+// given back at the end. Source: AMD user guide; Amestoy, Davis and Duff 1996 and 2004.
 
-ghost use Rattle.std.specs.Prelude.{◌≡◌, ◌<◌, ◌≤◌, ◌+◌, ◌*◌, ◌/◌, ◌^◌, false, pos, map, length, slice_index, IfOk};
+ghost use Rattle.std.specs.Prelude.{◌≡◌, ◌<◌, ◌≤◌, ◌+◌, ◌*◌, ◌/◌, ◌^◌, ℕ, false, pos, map, length, slice_index};
+ghost use Rattle.std.specs.Prelude.{IfOk, IfErr};
 ghost use Rattle.std.specs.Option.{option_copied, SomeIff};
-ghost use Rattle.amd_model.specs.Input.Columns.{IsColumnForm, IsSorted};
-ghost use Rattle.amd_model.specs.Input.Held.{HasMarks};
 ghost use Rattle.amd_model.specs.Input.Pattern.{is_pair};
 ghost use Rattle.amd_rounds.specs.Laid.{AreWideEnough};
 ghost use Rattle.amd_types.specs.Counts.{counts};
-ghost use Rattle.amd_types.specs.Records.{fresh_info};
 ghost use Rattle.amd_workspace.specs.Lists.{HasRoom};
 ghost use Rattle.amd.specs.Answers.{OrdersMatrix};
-ghost use Rattle.amd.specs.Within.{pairs_by};
+ghost use Rattle.amd.specs.Within.{IsGiven, pairs_by};
 
 use crate::within::{count_degrees, order_sorted};
 use amd_engine::amd_1::{ask_for_most, holds};
-use amd_engine::fresh::room_for;
 use amd_input::preprocess::row_form_with;
 use amd_types::amd::{Control, Info};
 use amd_types::index::Index;
@@ -34,79 +31,78 @@ pub fn most_words(rows: usize, entries: usize) -> Option<usize>
     if words < 1 << 63 { Some(words) } else { None }
 }
 
-/// Orders a matrix with sorted columns in memory with room for its rows; that of its words and of the result is taken
-/// here.
+/// Orders a matrix with sorted columns in memory with room for its rows; that of its words is taken here.
 ///
 /// # Errors
 ///
-/// A refused request for memory.
+/// A refused request for memory. `p` and `p_inv` are then as before.
 fn order_counted<I: Index, J: Index, S: Signed, P: Signed, U: Unsigned, A: Allocator + Copy>(
     alloc: A,
     memory: &mut Memory<S, P, U, A>,
-    size: usize,
     a_p: &[J],
     a_i: &[J],
     control: &Control,
     hold: Option<&[bool]>,
-) -> Result<(Vec<I, A>, Vec<I, A>, Info), AllocError>
-    requires some { 0 < size }
-    requires fits { I.fits (pos size) }
-    requires form { IsColumnForm (pos size) size (map J.value a_p.now) (map J.value a_i.now) }
-    requires sorted { IsSorted size (map J.value a_p.now) (map J.value a_i.now) }
-    requires room { HasRoom size 0 memory.old }
-    requires narrow { AreWideEnough S.MOST P.MOST U.MOST size
-        (2 * slice_index (counts (map J.value a_p.now)) size + 2 * slice_index (counts (map J.value a_p.now)) size / 5
-        + size) }
-    requires few { 2 * slice_index (counts (map J.value a_p.now)) size
-        + 2 * slice_index (counts (map J.value a_p.now)) size / 5 + size < 2 ^ 63 }
-    requires marks { HasMarks (option_copied hold) size }
-    ensures orders { IfOk result (λ a. OrdersMatrix (option_copied hold.entry) size control.now.dense
-        control.now.aggressive (is_pair size (map J.value a_p.now) (map J.value a_i.now)) (map J.value a_p.now)
-        (map J.value a_i.now) (map I.value a.0.items) (map I.value a.1.items) a.2) }
+    p: &mut [I],
+    p_inv: &mut [I],
+) -> Result<Info, AllocError>
+    requires given { IsGiven (option_copied hold) false (map J.value a_p.now) (map J.value a_i.now) (length p.old)
+        (length p_inv.old) }
+    requires fits { (k : ℕ) → k < length p.old → I.fits (pos k) }
+    requires room { HasRoom (length p.old) 0 memory.old }
+    requires narrow { AreWideEnough S.MOST P.MOST U.MOST (length p.old)
+        (2 * slice_index (counts (map J.value a_p.now)) (length p.old)
+        + 2 * slice_index (counts (map J.value a_p.now)) (length p.old) / 5 + length p.old) }
+    requires few { 2 * slice_index (counts (map J.value a_p.now)) (length p.old)
+        + 2 * slice_index (counts (map J.value a_p.now)) (length p.old) / 5 + length p.old < 2 ^ 63 }
+    ensures orders { IfOk result (OrdersMatrix (option_copied hold.entry) (length p.old) control.now.dense
+        control.now.aggressive (is_pair (length p.old) (map J.value a_p.now) (map J.value a_i.now))
+        (map J.value a_p.now) (map J.value a_i.now) (map I.value p.new) (map I.value p_inv.new)) }
+    ensures kept { IfErr result (λ e. (p.new ≡ p.old) × (p_inv.new ≡ p_inv.old)) }
 {
+    let size = p.len();
     let mut info = Info::new(size);
     let nzaat = count_degrees(memory, size, a_p, a_i, &mut info);
     let room = nzaat + nzaat / 5 + size;
     memory.words.iw = Vec::with_capacity(alloc, room)?;
-    let mut p = room_for(alloc, size)?;
-    let mut p_inv = room_for(alloc, size)?;
     order_sorted(
-        memory, a_p, a_i, nzaat, room, control, hold, &mut p, &mut p_inv, &mut info,
+        memory, a_p, a_i, nzaat, room, control, hold, p, p_inv, &mut info,
     );
-    Ok((p, p_inv, info))
+    Ok(info)
 }
 
 /// Orders a matrix in these widths, by its transpose where it is jumbled, whose numbers are of type `J`.
 ///
 /// # Errors
 ///
-/// A refused request for memory.
+/// A refused request for memory. `p` and `p_inv` are then as before.
 fn order_in<I: Index, J: Index, S: Signed, P: Signed, U: Unsigned, A: Allocator + Copy>(
     alloc: A,
-    size: usize,
     a_p: &[I],
     a_i: &[I],
     jumbled: bool,
     control: &Control,
     hold: Option<&[bool]>,
-) -> Result<(Vec<I, A>, Vec<I, A>, Info), AllocError>
-    requires some { 0 < size }
-    requires fits { I.fits (pos size) }
-    requires form { IsColumnForm (pos size) size (map I.value a_p.now) (map I.value a_i.now) }
-    requires sorted { jumbled ≡ false → IsSorted size (map I.value a_p.now) (map I.value a_i.now) }
-    requires narrow { AreWideEnough S.MOST P.MOST U.MOST size
-        (2 * slice_index (counts (map I.value a_p.now)) size + 2 * slice_index (counts (map I.value a_p.now)) size / 5
-        + size) }
-    requires few { 2 * slice_index (counts (map I.value a_p.now)) size
-        + 2 * slice_index (counts (map I.value a_p.now)) size / 5 + size < 2 ^ 63 }
-    requires marks { HasMarks (option_copied hold) size }
-    ensures orders { IfOk result (λ a. OrdersMatrix (option_copied hold.entry) size control.now.dense
-        control.now.aggressive (pairs_by jumbled size (map I.value a_p.now) (map I.value a_i.now))
-        (map I.value a_p.now) (map I.value a_i.now) (map I.value a.0.items) (map I.value a.1.items) a.2) }
+    p: &mut [I],
+    p_inv: &mut [I],
+) -> Result<Info, AllocError>
+    requires given { IsGiven (option_copied hold) jumbled (map I.value a_p.now) (map I.value a_i.now) (length p.old)
+        (length p_inv.old) }
+    requires fits { (k : ℕ) → k < length p.old → I.fits (pos k) }
+    requires narrow { AreWideEnough S.MOST P.MOST U.MOST (length p.old)
+        (2 * slice_index (counts (map I.value a_p.now)) (length p.old)
+        + 2 * slice_index (counts (map I.value a_p.now)) (length p.old) / 5 + length p.old) }
+    requires few { 2 * slice_index (counts (map I.value a_p.now)) (length p.old)
+        + 2 * slice_index (counts (map I.value a_p.now)) (length p.old) / 5 + length p.old < 2 ^ 63 }
+    ensures orders { IfOk result (OrdersMatrix (option_copied hold.entry) (length p.old) control.now.dense
+        control.now.aggressive (pairs_by jumbled (length p.old) (map I.value a_p.now) (map I.value a_i.now))
+        (map I.value a_p.now) (map I.value a_i.now) (map I.value p.new) (map I.value p_inv.new)) }
+    ensures kept { IfErr result (λ e. (p.new ≡ p.old) × (p_inv.new ≡ p_inv.old)) }
 {
+    let size = p.len();
     let mut memory: Memory<S, P, U, A> = Memory::with_room(alloc, size, 0)?;
     if !jumbled {
-        return order_counted(alloc, &mut memory, size, a_p, a_i, control, hold);
+        return order_counted(alloc, &mut memory, a_p, a_i, control, hold, p, p_inv);
     }
     if from_count::<J>(size).is_none() {
         return Err(AllocError);
@@ -119,54 +115,59 @@ fn order_in<I: Index, J: Index, S: Signed, P: Signed, U: Unsigned, A: Allocator 
         &mut memory.lists.w,
         &mut memory.words.next,
     )?;
-    order_counted(alloc, &mut memory, size, &c_p, &c_i, control, hold)
+    order_counted(alloc, &mut memory, &c_p, &c_i, control, hold, p, p_inv)
 }
 
-/// Orders a matrix with `size` rows, at least one, in the least widths that its rows and entries need; a jumbled one by
-/// its transpose.
+/// Orders a matrix with at least one row in the least widths that its rows and entries need; a jumbled one by its
+/// transpose. Writes the permutation into `p` and its inverse into `p_inv`, which have a place for each row, and
+/// answers the record, whose status is `OK`.
 ///
 /// # Errors
 ///
-/// A refused request for memory; or its words could be more than `isize::MAX`; or no width holds `size + 2`.
+/// A refused request for memory; or its words could be more than `isize::MAX`; or no width holds two more than its
+/// rows. `p` and `p_inv` are then as before.
 pub fn order_once<I: Index, A: Allocator + Copy>(
     alloc: A,
-    size: usize,
     a_p: &[I],
     a_i: &[I],
     jumbled: bool,
     control: &Control,
     hold: Option<&[bool]>,
-) -> Result<(Vec<I, A>, Vec<I, A>, Info), AllocError>
-    requires some { 0 < size }
-    requires fits { I.fits (pos size) }
-    requires form { IsColumnForm (pos size) size (map I.value a_p.now) (map I.value a_i.now) }
-    requires sorted { jumbled ≡ false → IsSorted size (map I.value a_p.now) (map I.value a_i.now) }
-    requires marks { HasMarks (option_copied hold) size }
-    ensures orders { IfOk result (λ a. OrdersMatrix (option_copied hold.entry) size control.now.dense
-        control.now.aggressive (pairs_by jumbled size (map I.value a_p.now) (map I.value a_i.now))
-        (map I.value a_p.now) (map I.value a_i.now) (map I.value a.0.items) (map I.value a.1.items) a.2) }
+    p: &mut [I],
+    p_inv: &mut [I],
+) -> Result<Info, AllocError>
+    requires given { IsGiven (option_copied hold) jumbled (map I.value a_p.now) (map I.value a_i.now) (length p.old)
+        (length p_inv.old) }
+    requires fits { (k : ℕ) → k < length p.old → I.fits (pos k) }
+    ensures orders { IfOk result (OrdersMatrix (option_copied hold.entry) (length p.old) control.now.dense
+        control.now.aggressive (pairs_by jumbled (length p.old) (map I.value a_p.now) (map I.value a_i.now))
+        (map I.value a_p.now) (map I.value a_i.now) (map I.value p.new) (map I.value p_inv.new)) }
+    ensures kept { IfErr result (λ e. (p.new ≡ p.old) × (p_inv.new ≡ p_inv.old)) }
 {
+    let size = p.len();
     let entries = count_at(a_p, size);
     let Some(most) = most_words(size, entries) else {
         return Err(AllocError);
     };
     ask_for_most(alloc, size, entries + entries / 5 + size)?;
     if holds::<i32, i32, u32>(size, most, 2) {
-        return order_in::<I, i32, i32, i32, u32, A>(alloc, size, a_p, a_i, jumbled, control, hold);
+        return order_in::<I, i32, i32, i32, u32, A>(
+            alloc, a_p, a_i, jumbled, control, hold, p, p_inv,
+        );
     }
     if holds::<i32, isize, u32>(size, most, 2) {
         return order_in::<I, i32, i32, isize, u32, A>(
-            alloc, size, a_p, a_i, jumbled, control, hold,
+            alloc, a_p, a_i, jumbled, control, hold, p, p_inv,
         );
     }
     if holds::<i32, isize, usize>(size, most, 2) {
         return order_in::<I, isize, i32, isize, usize, A>(
-            alloc, size, a_p, a_i, jumbled, control, hold,
+            alloc, a_p, a_i, jumbled, control, hold, p, p_inv,
         );
     }
     if holds::<isize, isize, usize>(size, most, 2) {
         return order_in::<I, isize, isize, isize, usize, A>(
-            alloc, size, a_p, a_i, jumbled, control, hold,
+            alloc, a_p, a_i, jumbled, control, hold, p, p_inv,
         );
     }
     Err(AllocError)

@@ -5,15 +5,13 @@ ghost use Rattle.std.specs.Prelude.{◌≡◌, ◌<◌, ◌≤◌, ◌+◌, ◌*
 ghost use Rattle.std.specs.Prelude.{IfOk};
 ghost use Rattle.std.specs.Option.{option_copied};
 ghost use Rattle.std.specs.Vec.{vec_capacity};
-ghost use Rattle.amd_model.specs.Input.Columns.{IsColumnForm, IsSorted};
-ghost use Rattle.amd_model.specs.Input.Held.{HasMarks};
 ghost use Rattle.amd_model.specs.Input.Pattern.{is_pair};
 ghost use Rattle.amd_rounds.specs.Laid.{AreWideEnough};
 ghost use Rattle.amd_types.specs.Counts.{counts};
 ghost use Rattle.amd_workspace.specs.Lists.{HasRoom};
 ghost use Rattle.amd.specs.Answers.{OrdersMatrix};
 ghost use Rattle.amd.specs.Blocks.{words_in, workspace_words};
-ghost use Rattle.amd.specs.Within.{IsSized, list_words, pairs_by};
+ghost use Rattle.amd.specs.Within.{IsGiven, IsSized, list_words, pairs_by};
 
 use crate::within::{count_degrees, order_sorted};
 use amd_input::preprocess::transpose_within;
@@ -37,17 +35,14 @@ fn order_columns<I: Index, J: Index, S: Signed, P: Signed, U: Unsigned, A: Alloc
     p_inv: &mut [I],
     info: &mut Info,
 )
-    requires places { length p_inv.old ≡ length p.old }
-    requires some { 0 < length p.old }
+    requires given { IsGiven (option_copied hold) false (map J.value a_p.now) (map J.value a_i.now) (length p.old)
+        (length p_inv.old) }
     requires fits { (k : ℕ) → k < length p.old → I.fits (pos k) }
-    requires form { IsColumnForm (pos (length p.old)) (length p.old) (map J.value a_p.now) (map J.value a_i.now) }
-    requires sorted { IsSorted (length p.old) (map J.value a_p.now) (map J.value a_i.now) }
     requires room { HasRoom (length p.old) words memory.old }
     requires words { list_words (length p.old) (slice_index (counts (map J.value a_p.now)) (length p.old)) ≤ words }
     requires few { 2 * slice_index (counts (map J.value a_p.now)) (length p.old)
         + 2 * slice_index (counts (map J.value a_p.now)) (length p.old) / 5 + length p.old < 2 ^ 63 }
     requires narrow { AreWideEnough S.MOST P.MOST U.MOST (length p.old) words }
-    requires marks { HasMarks (option_copied hold) (length p.old) }
     ensures orders { OrdersMatrix (option_copied hold.entry) (length p.old) control.now.dense control.now.aggressive
         (is_pair (length p.old) (map J.value a_p.now) (map J.value a_i.now)) (map J.value a_p.now)
         (map J.value a_i.now) (map I.value p.new) (map I.value p_inv.new) info.new }
@@ -148,15 +143,12 @@ impl<J: Index, S: Signed, P: Signed, U: Unsigned, A: Allocator + Copy> Workspace
         p_inv: &mut [I],
         info: &mut Info,
     )
-        requires places { length p_inv.old ≡ length p.old }
-        requires some { 0 < length p.old }
+        requires given { IsGiven (option_copied hold) jumbled (map I.value a_p.now) (map I.value a_i.now) (length p.old)
+            (length p_inv.old) }
         requires fits { (k : ℕ) → k < length p.old → I.fits (pos k) }
-        requires form { IsColumnForm (pos (length p.old)) (length p.old) (map I.value a_p.now) (map I.value a_i.now) }
-        requires sorted { jumbled ≡ false → IsSorted (length p.old) (map I.value a_p.now) (map I.value a_i.now) }
         requires inside { (length p.old ≤ self.old.rows) ×
             (slice_index (counts (map I.value a_p.now)) (length p.old) ≤ self.old.entries) }
         requires names { J.fits (pos self.old.rows) × J.fits (pos self.old.entries) }
-        requires marks { HasMarks (option_copied hold) (length p.old) }
         ensures orders { OrdersMatrix (option_copied hold.entry) (length p.old) control.now.dense
             control.now.aggressive (pairs_by jumbled (length p.old) (map I.value a_p.now) (map I.value a_i.now))
             (map I.value a_p.now) (map I.value a_i.now) (map I.value p.new) (map I.value p_inv.new) info.new }

@@ -2,10 +2,9 @@
 // rows are eliminated in it. Nothing here asks for memory. Source: AMD user guide; Amestoy, Davis and Duff 1996 and
 // 2004.
 
-ghost use Rattle.std.specs.Prelude.{◌≡◌, ◌<◌, ◌≤◌, ◌+◌, ◌*◌, ◌/◌, ◌^◌, ℕ, pos, map, length, slice_index};
+ghost use Rattle.std.specs.Prelude.{◌≡◌, ◌<◌, ◌≤◌, ◌+◌, ◌*◌, ◌/◌, ◌^◌, ℕ, pos, map, length, slice_index, false};
 ghost use Rattle.std.specs.Option.{option_copied};
 ghost use Rattle.amd_model.specs.Input.Columns.{IsColumnForm, IsSorted};
-ghost use Rattle.amd_model.specs.Input.Held.{HasMarks};
 ghost use Rattle.amd_model.specs.Input.Pattern.{is_pair};
 ghost use Rattle.amd_rounds.specs.Laid.{AreWideEnough};
 ghost use Rattle.amd_types.specs.Counts.{counts};
@@ -13,6 +12,7 @@ ghost use Rattle.amd_input.specs.Degrees.{AreDegrees};
 ghost use Rattle.amd_input.specs.PatternFigures.{HasPatternFigures};
 ghost use Rattle.amd_workspace.specs.Lists.{HasRoom};
 ghost use Rattle.amd.specs.Answers.{OrdersMatrix};
+ghost use Rattle.amd.specs.Within.{IsGiven};
 
 use amd_engine::amd_1::order_within;
 use amd_engine::rows::Choice;
@@ -75,11 +75,9 @@ pub fn order_sorted<I: Index, J: Index, S: Signed, P: Signed, U: Unsigned, A: Al
     p_inv: &mut [I],
     info: &mut Info,
 )
-    requires places { length p_inv.old ≡ length p.old }
-    requires some { 0 < length p.old }
+    requires given { IsGiven (option_copied hold) false (map J.value a_p.now) (map J.value a_i.now) (length p.old)
+        (length p_inv.old) }
     requires fits { (k : ℕ) → k < length p.old → I.fits (pos k) }
-    requires form { IsColumnForm (pos (length p.old)) (length p.old) (map J.value a_p.now) (map J.value a_i.now) }
-    requires sorted { IsSorted (length p.old) (map J.value a_p.now) (map J.value a_i.now) }
     requires degrees { AreDegrees (length p.old) (map J.value a_p.now) (map J.value a_i.now) nzaat
         memory.old.len.items }
     requires figures { HasPatternFigures (length p.old) (map J.value a_p.now) (map J.value a_i.now) info.old }
@@ -88,7 +86,6 @@ pub fn order_sorted<I: Index, J: Index, S: Signed, P: Signed, U: Unsigned, A: Al
     requires room { HasRoom (length p.old) room memory.old }
     requires narrow { AreWideEnough S.MOST P.MOST U.MOST (length p.old) room }
     requires pointers { slice_index (counts (map J.value a_p.now)) (length p.old) ≤ U.MOST }
-    requires marks { HasMarks (option_copied hold) (length p.old) }
     ensures orders { OrdersMatrix (option_copied hold.entry) (length p.old) control.now.dense control.now.aggressive
         (is_pair (length p.old) (map J.value a_p.now) (map J.value a_i.now)) (map J.value a_p.now)
         (map J.value a_i.now) (map I.value p.new) (map I.value p_inv.new) info.new }

@@ -5,13 +5,12 @@
 ghost use Rattle.std.specs.Prelude.{◌≡◌, ◌≢◌, ◌≤◌, ◌<◌, ◌+◌, ◌*◌, ◌/◌, ◌^◌, ℕ, Some, None, false, pos, map, length};
 ghost use Rattle.std.specs.Prelude.{slice_index, IfOk, IfErr, IfSome, IsSome, MatchOption, ◌↔◌};
 ghost use Rattle.std.specs.Option.{option_copied};
-ghost use Rattle.amd_model.specs.Input.Columns.{IsColumnForm, IsSorted};
 ghost use Rattle.amd_model.specs.Input.Held.{HasMarks};
 ghost use Rattle.amd_types.specs.Counts.{counts};
 ghost use Rattle.amd_types.specs.Statuses.{IsStatusOf};
 ghost use Rattle.amd.specs.Answers.{IsOrdering, IsOrderingHolding, OrdersMatrix};
 ghost use Rattle.amd.specs.Blocks.{workspace_bytes, workspace_words};
-ghost use Rattle.amd.specs.Within.{FitsIn, IsCall, IsWithinRefusal, pairs_by};
+ghost use Rattle.amd.specs.Within.{FitsIn, IsCall, IsGiven, IsWithinRefusal, pairs_by};
 ghost use Rattle.amd.specs.Workspaces.{IsMadeFor, entries_of, rows_of, words_of};
 
 use crate::entrance::{class_of, jumbled_of};
@@ -78,8 +77,8 @@ fn widths_for<A: Allocator + Copy>(
     Err(AllocError)
 }
 
-/// How many rows a matrix has, and its status; none, exactly where the call is not valid: the input is no column form, or
-/// there is not one mark for each row where there are marks, or a list has not one place for each row.
+/// How many rows a matrix has, and its status; none, exactly where the call is not valid: the input is no column form,
+/// or there is not one mark for each row where there are marks, or a list has not one place for each row.
 pub fn valid_rows<I: Index>(
     n: I,
     a_p: &[I],
@@ -160,14 +159,11 @@ impl<A: Allocator + Copy> Widths<A> {
         p_inv: &mut [I],
         info: &mut Info,
     )
-        requires places { length p_inv.old ≡ length p.old }
-        requires some { 0 < length p.old }
+        requires given { IsGiven (option_copied hold) jumbled (map I.value a_p.now) (map I.value a_i.now) (length p.old)
+            (length p_inv.old) }
         requires fits { (k : ℕ) → k < length p.old → I.fits (pos k) }
-        requires form { IsColumnForm (pos (length p.old)) (length p.old) (map I.value a_p.now) (map I.value a_i.now) }
-        requires sorted { jumbled ≡ false → IsSorted (length p.old) (map I.value a_p.now) (map I.value a_i.now) }
         requires inside { (length p.old ≤ rows_of self.old) ×
             (slice_index (counts (map I.value a_p.now)) (length p.old) ≤ entries_of self.old) }
-        requires marks { HasMarks (option_copied hold) (length p.old) }
         ensures orders { OrdersMatrix (option_copied hold.entry) (length p.old) control.now.dense
             control.now.aggressive (pairs_by jumbled (length p.old) (map I.value a_p.now) (map I.value a_i.now))
             (map I.value a_p.now) (map I.value a_i.now) (map I.value p.new) (map I.value p_inv.new) info.new }
@@ -204,8 +200,8 @@ impl<A: Allocator + Copy> Workspace<A> {
     ///
     /// These are three words for each entry and twelve for each row, and one, of 32 bits each where that is wide
     /// enough: two for each entry and one for each row for the lists of neighbours, ten lists of a word for each row,
-    /// and the transpose of a jumbled matrix. The lists have room for so many, and no more. A call that follows asks for
-    /// none.
+    /// and the transpose of a jumbled matrix. The lists have room for so many, and no more. A call that follows asks
+    /// for none.
     ///
     /// # Errors
     ///
@@ -272,8 +268,8 @@ impl<A: Allocator + Copy> Workspace<A> {
     /// # Errors
     ///
     /// * `Invalid` exactly where `n` is not 0 and the input is no column form, or `p` or `p_inv` has not `n` places.
-    /// * `TooLarge` exactly where the call is valid, and the matrix has more rows or entries than the workspace was made
-    ///   for.
+    /// * `TooLarge` exactly where the call is valid, and the matrix has more rows or entries than the workspace was
+    ///   made for.
     ///
     /// No other refusal. After one, `p`, `p_inv` and the workspace are as before.
     ///

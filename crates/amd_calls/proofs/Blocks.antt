@@ -1,5 +1,5 @@
 -- What an ordering in a lent block leaves, and the same in the integers of C, whose values are themselves.
-use Rattle.std.proofs.Common.{ℕ, ℤ, List, zero, suc, pos, negsuc, ◌≡◌, ◌≢◌, map, length, Bool, refl, sym, ◌∙◌, ap, subst, to_z, of_z, w32}
+use Rattle.std.proofs.Common.{ℕ, ℤ, List, pos, ◌≡◌, ◌≢◌, Bool, refl, ◌∙◌, subst, to_z, of_z, w32}
 use Rattle.std.specs.Prelude.{Option}
 use Rattle.std.proofs.lemmas.List.{map-id}
 use Rattle.amd_types.specs.declared.amd.Info.{Info}
@@ -7,17 +7,11 @@ use Rattle.amd_types.specs.declared.amd.Status.{Status}
 use Rattle.amd_types.specs.declared.amd.Status.TheVariants.{OK, Invalid, OkButJumbled, OutOfMemory}
 use Rattle.amd.specs.Answers.{IsInputHolding, IsOrderingHolding}
 use Rattle.amd.specs.Blocks.{FitsInBlock}
-use Rattle.amd.specs.Within.{IsCall}
+use Rattle.amd.specs.Within.{IsCall, IsIntoRefusal}
 use Rattle.amd_calls.specs.declared.records.Parameters.{Parameters}
 use Rattle.amd_calls.specs.declared.records.Statistics.{Statistics}
-use Rattle.amd_calls.specs.Calls.{HasPlaces, Memory, OrdersWithin, Refuses, TellsBlock, memory}
+use Rattle.amd_calls.specs.Calls.{HasPlaces, Leaves, Memory, OrdersWithin, Refuses, TellsBlock, memory}
 use Rattle.amd_calls.proofs.Leaving.{answer_is, leaves_values, not_without_memory, values}
-
--- a number is 0 or not
-by_zero : {X : Type 0} (n : ℤ) → (n ≡ pos 0 → X) → (n ≢ pos 0 → X) → X
-by_zero (pos zero) none some = none refl
-by_zero (pos (suc k)) none some = some (λ e. cc)
-by_zero (negsuc k) none some = some (λ e. cc)
 
 -- places for n rows make a call, where its input is one
 called : (hold : Option (List Bool)) (n : ℤ) (ap' ai p q : List ℤ) → HasPlaces n p q → (n ≢ pos 0 → IsInputHolding hold n ap' ai) →
@@ -38,6 +32,15 @@ pub refuses_short : (hold : Option (List Bool)) (n : ℤ) (ap' ai : List ℤ) (s
 refuses_short hold n ap' ai size m call short =
     let some : n ≢ pos 0 = λ e. short (λ not. absurd (not e)) in
     ((call.places.0, cc), (some, call.input some))
+
+-- a refusal that an ordering into lists tells is one of the call, after which all is as before
+pub refuses_into : (hold : Option (List Bool)) (n : ℤ) (choice : Parameters) (ap' ai : List ℤ) (old new : Memory) (status : Status) →
+    IsIntoRefusal hold n ap' ai old.p old.q status → new ≡ old → Leaves hold n choice ap' ai old new status
+refuses_into hold n choice ap' ai old new OK refusal kept = absurd refusal
+refuses_into hold n choice ap' ai old new Invalid refusal kept = (refuses_invalid hold n ap' ai old refusal, kept)
+refuses_into hold n choice ap' ai old new OkButJumbled refusal kept = absurd refusal
+refuses_into hold n choice ap' ai old new OutOfMemory refusal kept =
+    let some = refusal.0 in let call = refusal.1 in (((call.places.0, cc), (some, call.input some)), kept)
 
 -- for an ordering the block was enough
 tells_by : (hold : Option (List Bool)) (n t : ℤ) (aggressive : Bool) (ap' ai p q : List ℤ) (size : ℕ) (info : Info) (status : Status) →

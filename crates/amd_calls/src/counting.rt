@@ -1,5 +1,5 @@
-// Writes the counts of a factor's columns into a caller's arrays, for any integer type and any allocator. The arrays and
-// the record are written last, so they stay as they were where there is a fault.
+// Writes the counts of a factor's columns into a caller's arrays, for any integer type and any allocator. The arrays
+// and the record are written last, so they stay as they were where there is a fault.
 
 ghost use Rattle.std.specs.Prelude.{◌≡◌, map};
 ghost use Rattle.amd_model.specs.Figures.{cut};

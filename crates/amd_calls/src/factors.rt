@@ -1,5 +1,5 @@
-// Writes the columns of a factor into a caller's arrays, for any integer type and any allocator. The entries are written
-// in place, and the short arrays last, so those stay as they were where there is a fault.
+// Writes the columns of a factor into a caller's arrays, for any integer type and any allocator. The entries are
+// written in place, and the short arrays last, so those stay as they were where there is a fault.
 
 ghost use Rattle.std.specs.Prelude.{ℕ, ◌≡◌, ◌<◌, ◌≤◌, ◌↔◌, ◌++◌, IsTrue, None, drop, length, map, pos, slice_index};
 ghost use Rattle.std.specs.Prelude.{slice_index_or, true};

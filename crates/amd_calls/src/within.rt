@@ -1,5 +1,5 @@
-// Writes an ordering into a caller's arrays, for any integer type, in a block of memory that the caller lends. Nothing but
-// the input and the size of the block is a reason to refuse.
+// Writes an ordering into a caller's arrays, for any integer type, in a block of memory that the caller lends. Nothing
+// but the input and the size of the block is a reason to refuse.
 
 ghost use Rattle.std.specs.Prelude.{◌≡◌, map, min};
 ghost use Rattle.std.specs.Option.{option_copied};
@@ -17,14 +17,14 @@ pub fn bytes_or_most(rows: usize, entries: usize) -> usize
     workspace_bytes(rows, entries).unwrap_or(usize::MAX)
 }
 
-/// Orders a matrix into the caller's arrays as [`crate::writing::order_into`] does, in memory that the caller lends, and returns the
-/// number of the status.
+/// Orders a matrix into the caller's arrays as [`crate::writing::order_into`] does, in memory that the caller lends,
+/// and returns the number of the status.
 ///
 /// # Errors
 ///
-/// A status that is an error; all stays as it was. `Invalid` exactly where `p` or `p_inv` has not `n` places, or `order`,
-/// with marks `order_holding`, returns it. `OutOfMemory` exactly where the call is valid otherwise, `n` is not 0, and the
-/// block has fewer bytes than `workspace_bytes` of the crate `amd` tells for `n` rows and `a_p[n]` entries.
+/// A status that is an error; all stays as it was. `Invalid` exactly where `p` or `p_inv` has not `n` places, or
+/// `order`, with marks `order_holding`, returns it. `OutOfMemory` exactly where the call is valid otherwise, `n` is not
+/// 0, and the block has fewer bytes than `workspace_bytes` of the crate `amd` tells for `n` rows and `a_p[n]` entries.
 ///
 /// Source: AMD user guide; Amestoy, Davis and Duff 1996 and 2004.
 pub fn order_within<I: PrimInt>(

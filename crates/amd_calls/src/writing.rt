@@ -1,12 +1,12 @@
-// Writes an ordering into a caller's arrays, for any integer type and any allocator. The arrays and the record are
-// written last, so they stay as they were where there is no ordering.
+// Writes an ordering into a caller's arrays, for any integer type and any allocator. The arrays and the record stay as
+// they were where there is no ordering.
 
 ghost use Rattle.std.specs.Prelude.{◌↔◌, IsTrue, map};
 ghost use Rattle.std.specs.Option.{option_copied};
 ghost use Rattle.amd_calls.specs.Calls.{HasPlaces, OrdersInto, memory};
 
 use crate::records::{Parameters, Statistics, number_of, statistics_of};
-use amd::{Control, Status, order_marked};
+use amd::Control;
 use amd_types::index::Index;
 use amd_types::internal::to_count;
 use num_traits::PrimInt;
@@ -54,17 +54,12 @@ pub fn order_into<I: PrimInt, A: Allocator + Copy>(
         (memory (map I.value p.old) (map I.value p_inv.old) statistics.old)
         (memory (map I.value p.new) (map I.value p_inv.new) statistics.new) result }
 {
-    if !have_places(n, p, p_inv) {
-        return number_of(&Status::Invalid);
-    }
     let control = Control {
         dense: parameters.dense,
         aggressive: parameters.aggressive,
     };
-    match order_marked(alloc, n, a_p, a_i, &control, hold) {
-        Ok((rows, places, info)) => {
-            p.copy_from_slice(&rows);
-            p_inv.copy_from_slice(&places);
+    match amd::order_into(alloc, n, a_p, a_i, &control, hold, p, p_inv) {
+        Ok(info) => {
             *statistics = statistics_of(&info);
             number_of(&info.status)
         }

@@ -69,10 +69,11 @@ fn ask_for_two<A: Allocator + Copy>(alloc: A, words: usize) -> Result<(), AllocE
     Ok(())
 }
 
-/// Asks for most of the memory that an ordering of `n` rows in `iwlen` words of 32 bits takes beside its input, but for
-/// no more than 32 MB, and gives it back at once. An allocator may keep as much free memory as twice the largest block
-/// that it was given back, and return the rest to the system, as that of glibc does. Below that limit no list of an
-/// ordering is as large; so without this request each ordering would take all its pages from the system anew.
+/// Asks for most of the memory that an ordering of `n` rows in `iwlen` words of 32 bits takes beside its input and its
+/// result, but for no more than 32 MB, and gives it back at once. An allocator may keep as much free memory as twice
+/// the largest block that it was given back, and return the rest to the system, as that of glibc does. Below that limit
+/// no list of an ordering is as large; so without this request each ordering would take all its pages from the system
+/// anew.
 ///
 /// A workspace above that limit is taken from free memory only where that is in one piece. So where an ordering with
 /// such a workspace takes no more than is kept, its memory is asked for once more, in two blocks below the limit, which
@@ -86,16 +87,16 @@ pub fn ask_for_most<A: Allocator + Copy>(
     n: usize,
     iwlen: usize,
 ) -> Result<(), AllocError> {
-    let most = n.saturating_mul(12).saturating_add(iwlen);
+    let most = n.saturating_mul(10).saturating_add(iwlen);
     let _: Vec<Word<i32>, A> = Vec::with_capacity(alloc, most.min(GREATEST_MEASURE))?;
-    if iwlen > GREATEST_MEASURE && most <= GREATEST_KEPT {
+    if iwlen > GREATEST_MEASURE && most.saturating_add(n.saturating_mul(2)) <= GREATEST_KEPT {
         ask_for_two(alloc, most / 2)?;
     }
     Ok(())
 }
 
-/// Runs in lists that are laid, with words in a vector, and lists the rows: `head` then has the permutation, and `w` its
-/// inverse. The lists are lent one by one: of a vector that is lent in a field nothing would be known afterwards.
+/// Runs in lists that are laid, with words in a vector, and lists the rows: `head` then has the permutation, and `w`
+/// its inverse. The lists are lent one by one: of a vector that is lent in a field nothing would be known afterwards.
 fn order_lent<S: Signed, P: Signed, U: Unsigned, A: Allocator>(
     iw: &mut Vec<Word<S>, A>,
     laid: &mut Laid<'_, '_, '_, '_, P, U>,

@@ -1,10 +1,14 @@
-use Rattle.std.proofs.Common.{ℤ, List, map, refl, sym, ◌∙◌}
+use Rattle.std.proofs.Common.{ℤ, List, ◌≡◌, ap, drop, length, map, refl, sym, arith, ◌∙◌}
 use Rattle.std.specs.Option.{option_copied}
+use Rattle.std.proofs.lemmas.Int.{ints}
+use Rattle.std.proofs.lemmas.List.{take_at}
+use Rattle.amd_types.proofs.Fitting.{fits_below}
 use Rattle.amd.specs.Within.{pairs_by}
-use Rattle.amd.proofs.OrderedColumns.{HasStatus, has_status, ordering}
+use Rattle.amd.proofs.OrderedColumns.{HasStatus, has_status, jumbled_valid, ordering}
 use Rattle.amd.proofs.Orderings.{orders_still}
+use Rattle.amd.proofs.ValidCalls.{is_given}
 use Rattle.amd.proofs.order_marked.Given.{Over}
-use Rattle.amd.proofs.order_marked.Goals.{After-class_of-status}
+use Rattle.amd.proofs.order_marked.Goals.{After-class_of-status, After-deref_mut, After-deref_mut-2}
 use Rattle.amd.proofs.order_marked.Goals as goal
 
 -- what is known of the input by its status
@@ -15,13 +19,43 @@ known g c =
     (map g.I.Number.value c.args.a_i.now) c.class_of-status.result c.in-Some.ensures.1 c.if-count-eq0.false c.class_of-status.ensures.marks
     c.class_of-status.ensures.status
 
+-- there is a place for each row in the lent lists of the result
+long : (g : Over) (c : After-deref_mut g) → length c.deref_mut.result.now ≡ c.in-Some.count
+long g c = ap length c.deref_mut.ensures.value ∙ c.in_ok-p.ensures
+
+long_inverse : (g : Over) (c : After-deref_mut-2 g) → length c.deref_mut-2.result.now ≡ c.in-Some.count
+long_inverse g c = ap length c.deref_mut-2.ensures.value ∙ c.in_ok-p_inv.ensures
+
+pub order_once-requires-clause-given : goal.order_once-requires-clause-given
+order_once-requires-clause-given g c =
+    let at = goal.at.order_once-requires-clause-given g c in let valid = c.class_of-status.ensures in
+    let by = sym c.jumbled_of.ensures ∙ c.in-Some-jumbled_of.is in let jumbled = c.in-Some-jumbled_of.jumbled in
+    let not_invalid = jumbled_valid c.class_of-status.result jumbled by in
+    is_given (option_copied c.args.hold) c.in-Some.count (g.I.Number.value c.args.n) (map g.I.Number.value c.args.a_p.now)
+    (map g.I.Number.value c.args.a_i.now) c.class_of-status.result c.in-Some.ensures.1 c.if-count-eq0.false (λ some. valid.marks not_invalid)
+    (λ some. valid.status (valid.marks not_invalid)) (λ some. not_invalid) jumbled by (length c.deref_mut.result.now)
+    (length c.deref_mut-2.result.now) (long g at.After-deref_mut) (long_inverse g at.After-deref_mut-2)
+
+pub order_once-requires-clause-fits : goal.order_once-requires-clause-fits
+order_once-requires-clause-fits g c = λ k l.
+    let exact = g.met.I.Integral.exact_law in let size = c.in-Some.ensures.1 in
+    let same = long g (goal.at.order_once-requires-clause-fits g c).After-deref_mut in
+    fits_below g.I.Number.fits (g.met.I.Zero.zero_fits_law exact) (λ x y w low high. g.I.Number.between_law x y w exact low high) k
+    (g.I.Number.value c.args.n) c.requires.fits (omega (arith, ints, l, same, size))
+
 pub returns-clause-ordering : goal.returns-clause-ordering
 returns-clause-ordering g c =
+    let at = goal.at.returns-clause-ordering g c in let new = c.order_once.new in
     let hold = option_copied c.args.hold in let z : ℤ = g.I.Number.value c.args.n in
     let a_p : List ℤ = map g.I.Number.value c.args.a_p.now in let a_i : List ℤ = map g.I.Number.value c.args.a_i.now in
-    let p : List ℤ = map g.I.Number.value c.in_ok-p.p.items in let q : List ℤ = map g.I.Number.value c.in_ok-p.p_inv.items in
+    let p : List ℤ = map g.I.Number.value new.p in let q : List ℤ = map g.I.Number.value new.p_inv in
     let n = c.in-Some.count in let t = c.args.control.now.dense in let aggressive = c.args.control.now.aggressive in
-    let jumbled = c.in-Some-jumbled_of.jumbled in let status = c.class_of-status.result in
-    ordering hold n z t aggressive jumbled a_p a_i p q (record c.in_ok-p.info { status = status }) status c.in-Some.ensures.1
-    (known g (goal.at.returns-clause-ordering g c).After-class_of-status) (sym c.jumbled_of.ensures ∙ c.in-Some-jumbled_of.is) refl
-    (orders_still hold n t aggressive (pairs_by jumbled n a_p a_i) a_p a_i p q c.in_ok-p.info status c.in_ok-p.ensures.orders)
+    let jumbled = c.in-Some-jumbled_of.jumbled in let status = c.class_of-status.result in let info = c.in_ok-info.info in
+    let same = long g at.After-deref_mut in
+    let p_is = take_at new.p (drop (length new.p) c.in_ok-p.p.items) c.in_ok-p.p.len
+    (c.order_once.auto.p ∙ ap length c.deref_mut.ensures.value ∙ sym c.in_ok-p.p.ok.0) in
+    let q_is = take_at new.p_inv (drop (length new.p_inv) c.in_ok-p_inv.p_inv.items) c.in_ok-p_inv.p_inv.len
+    (c.order_once.auto.p_inv ∙ ap length c.deref_mut-2.ensures.value ∙ sym c.in_ok-p_inv.p_inv.ok.0) in
+    rw (p_is, q_is) (ordering hold n z t aggressive jumbled a_p a_i p q (record info { status = status }) status c.in-Some.ensures.1
+    (known g at.After-class_of-status) (sym c.jumbled_of.ensures ∙ c.in-Some-jumbled_of.is) refl
+    (orders_still hold n t aggressive (pairs_by jumbled n a_p a_i) a_p a_i p q info status (rw same at c.in_ok-info.ensures.orders)))

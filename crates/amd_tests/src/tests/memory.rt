@@ -7,7 +7,7 @@ use crate::tests::worked::{DENSE_ROW, OrderingCase, check_answer, with_dense};
 use amd::aat::aat;
 use amd::preprocess::preprocess;
 use amd::valid::valid;
-use amd::{Control, Info, Status, order, order_holding};
+use amd::{Control, Info, Status, order, order_holding, order_into};
 use amd_testing::check;
 use amd_testing::choices::CHOICES;
 use amd_testing::inputs::path;
@@ -69,6 +69,36 @@ fn orders_holding_none(
     is_answer(rt, case, answer)
 }
 
+/// What stands in lists of a caller that nothing was written to.
+const UNTOUCHED: i64 = -7;
+
+/// The same into lists of the caller, which are as before where there is no answer.
+fn orders_into(
+    rt: &impl Abort,
+    heap: &Refusing<Global>,
+    control: &Control,
+    case: &OrderingCase,
+) -> bool {
+    let (mut p, mut p_inv) = ([UNTOUCHED; 20], [UNTOUCHED; 20]);
+    let (Some(rows), Some(places)) = (p.get_mut(..case.p.len()), p_inv.get_mut(..case.p.len()))
+    else {
+        return false;
+    };
+    match order_into(
+        heap, case.n, case.a_p, case.a_i, control, None, rows, places,
+    ) {
+        Ok(info) => {
+            check_answer(rt, case, rows, places, &info);
+            true
+        }
+        Err(status) => {
+            check!(rt; status == Status::OutOfMemory);
+            check!(rt; p == [UNTOUCHED; 20] && p_inv == [UNTOUCHED; 20]);
+            false
+        }
+    }
+}
+
 /// Asserts that so many requests were refused, and that no run did wrong.
 pub fn check_requests(rt: &impl Abort, what: &str, refusals: Result<u64, Slip>, wanted: u64) {
     match refusals {
@@ -83,13 +113,16 @@ fn requests_of(case: &OrderingCase) -> u64 {
     if case.jumbled { 15 } else { 13 }
 }
 
-/// Orders with each request refused in turn, and again with marks that hold no row.
+/// Orders with each request refused in turn, again with marks that hold no row, and into lists of the caller, which
+/// takes two requests less.
 fn check_order(rt: &impl Abort, alloc: Global, control: &Control, case: &OrderingCase) {
     let wanted = requests_of(case);
     let refusals = each_refused(alloc, |heap| orders(rt, heap, control, case));
     check_requests(rt, case.what, refusals, wanted);
     let holding = each_refused(alloc, |heap| orders_holding_none(rt, heap, control, case));
     check_requests(rt, case.what, holding, wanted);
+    let into = each_refused(alloc, |heap| orders_into(rt, heap, control, case));
+    check_requests(rt, case.what, into, wanted.saturating_sub(2));
 }
 
 /// The inputs are shared references, so no run can change them.
@@ -148,6 +181,26 @@ fn sizes_of_the_requests_of_order(rt: HostRuntime) {
             check_size(&rt, rt.alloc(), matrix, *size, *count);
         }
     }
+}
+
+/// Lists of a caller that have not one place for each row are refused before any request.
+#[test]
+fn lists_of_the_wrong_length(rt: HostRuntime) {
+    let heap = Refusing::new(rt.alloc(), 0);
+    let (mut p, mut p_inv) = ([UNTOUCHED; 2], [UNTOUCHED; 3]);
+    let control = Control::default();
+    let refused = order_into(
+        &heap,
+        2,
+        &[0, 1, 2],
+        &[1, 0],
+        &control,
+        None,
+        &mut p,
+        &mut p_inv,
+    );
+    check!(&rt; refused.err() == Some(Status::Invalid) && heap.requests() == 0);
+    check!(&rt; p == [UNTOUCHED; 2] && p_inv == [UNTOUCHED; 3]);
 }
 
 /// The number of requests of `order` for a path, whose rounds are nearly as many as its rows.

@@ -1,11 +1,10 @@
-use Rattle.std.proofs.Common.{ℤ, List, length, map, pos, sym, subst, arith, ◌∙◌}
+use Rattle.std.proofs.Common.{ℤ, List, length, map, sym, arith, ◌∙◌}
 use Rattle.std.specs.Option.{option_copied}
 use Rattle.std.proofs.lemmas.Int.{ints}
-use Rattle.amd_model.specs.Input.Columns.{IsColumnForm, IsSorted}
 use Rattle.amd_edges.proofs.Forms.{pointer_read}
 use Rattle.amd_types.proofs.Fitting.{fits_below}
-use Rattle.amd.proofs.OrderedColumns.{ordering, status_sorted}
-use Rattle.amd.proofs.ValidCalls.{has_form, has_its_status}
+use Rattle.amd.proofs.OrderedColumns.{ordering}
+use Rattle.amd.proofs.ValidCalls.{has_form, has_its_status, is_given}
 use Rattle.amd.proofs.block.order_in_block.Goals as goal
 
 pub count_at-requires-clause-fits : goal.count_at-requires-clause-fits
@@ -22,21 +21,12 @@ order-requires-clause-fits g c = λ k l.
     fits_below g.I.Number.fits (g.met.I.Zero.zero_fits_law exact) (λ x y w low high. g.I.Number.between_law x y w exact low high) k
     (g.I.Number.value c.args.n) c.requires.fits (omega (arith, ints, l, same, places))
 
-pub order-requires-clause-form : goal.order-requires-clause-form
-order-requires-clause-form g c =
-    let z : ℤ = g.I.Number.value c.args.n in let e = c.in-Some.ensures in
-    let a_p : List ℤ = map g.I.Number.value c.args.a_p.now in let a_i : List ℤ = map g.I.Number.value c.args.a_i.now in
-    subst (λ m. IsColumnForm (pos m) m a_p a_i) (sym e.places.0)
-    (has_form (option_copied c.args.hold) c.in-Some.size z a_p a_i c.in-Some.status e.size c.if-size-eq0.false e.marks e.status e.valid)
-
-pub order-requires-clause-sorted : goal.order-requires-clause-sorted
-order-requires-clause-sorted g c = λ low.
-    let z : ℤ = g.I.Number.value c.args.n in let e = c.in-Some.ensures in let hold = option_copied c.args.hold in
-    let a_p : List ℤ = map g.I.Number.value c.args.a_p.now in let a_i : List ℤ = map g.I.Number.value c.args.a_i.now in
-    subst (λ m. IsSorted m a_p a_i) (sym e.places.0)
-    (status_sorted hold c.in-Some.size z a_p a_i c.in-Some.status e.size
-    (has_its_status hold c.in-Some.size z a_p a_i c.in-Some.status e.size c.if-size-eq0.false e.marks e.status)
-    (rw low at (sym c.jumbled_of.ensures ∙ c.in-Some-jumbled_of.is)))
+pub order-requires-clause-given : goal.order-requires-clause-given
+order-requires-clause-given g c =
+    let e = c.in-Some.ensures in
+    is_given (option_copied c.args.hold) c.in-Some.size (g.I.Number.value c.args.n) (map g.I.Number.value c.args.a_p.now)
+    (map g.I.Number.value c.args.a_i.now) c.in-Some.status e.size c.if-size-eq0.false e.marks e.status e.valid c.in-Some-jumbled_of.jumbled
+    (sym c.jumbled_of.ensures ∙ c.in-Some-jumbled_of.is) (length c.args.p.now) (length c.args.p_inv.now) e.places.0 e.places.1
 
 pub returns-clause-ordering : goal.returns-clause-ordering
 returns-clause-ordering g c =

@@ -31,9 +31,15 @@ transpose_within-requires-clause-names g c = (
   upto_fits g.J.Index.fits g.met.J.Index.zero_fits g.met.J.Index.between _ _ c.requires.names.1 c.requires.inside.1,
 )
 
-pub order_columns-requires-2-clause-sorted : goal.order_columns-requires-2-clause-sorted
-order_columns-requires-2-clause-sorted g c =
-    (clean g (goal.at.order_columns-requires-2-clause-sorted g c).After-deref-2).sorted
+pub order_columns-requires-2-clause-given : goal.order_columns-requires-2-clause-given
+order_columns-requires-2-clause-given g c =
+    let given = c.requires.given in let is = clean g (goal.at.order_columns-requires-2-clause-given g c).After-deref-2 in record {
+      places = given.places;
+      some = given.some;
+      form = is.form;
+      sorted = λ _. is.sorted;
+      marks = given.marks;
+    }
 
 pub invariant_of-self-2 : goal.invariant_of-self-2
 invariant_of-self-2 g c =
