@@ -1,5 +1,6 @@
 -- Memory that has room for some words has room for fewer, and for as many as a list that is put in their place.
-use Rattle.std.proofs.Common.{ℕ, ◌≤◌, arith}
+use Rattle.std.proofs.Common.{ℕ, ◌≤◌, arith, le_trans}
+use Rattle.amd_merging.proofs.BucketKeys.{buckets_rise}
 use Rattle.amd_workspace.specs.Lists.{HasRoom, HasRows}
 use Rattle.amd_workspace.specs.declared.lists.Memory.{Memory}
 use Rattle.amd_workspace.specs.declared.lists.Lists.{Lists}
@@ -12,7 +13,7 @@ fewer_rows n m l has few =
       w = omega (arith, c, few);
       head = omega (arith, d, few);
       sides = omega (arith, e, few);
-      hash = omega (arith, f, few);
+      hash = le_trans (buckets_rise m n few) f;
     }
 
 -- room for fewer rows and fewer words

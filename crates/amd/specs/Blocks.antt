@@ -5,6 +5,7 @@ use Rattle.std.specs.Mem.{type_size}
 use Rattle.std.specs.Vec.{vec_capacity}
 use denote.RattleType.{RattleType}
 use Rattle.amd_types.specs.Counts.{counts}
+use Rattle.amd_merging.specs.Merging.{bucket_count}
 use Rattle.amd_workspace.specs.declared.lists.Memory.{Memory}
 use Rattle.amd.specs.Within.{IsCall}
 use Rattle.amd.specs.declared.refusal.Refusal.{Refusal}
@@ -12,7 +13,7 @@ use Rattle.amd.specs.declared.refusal.Refusal.TheVariants as refusal
 
 -- the words of a workspace for so many rows and entries
 abbrev pub workspace_words : ℕ → ℕ → ℕ
-workspace_words rows entries = 3 * entries + 12 * rows + 1
+workspace_words rows entries = 3 * entries + 11 * rows + bucket_count rows + 1
 
 -- so many words the lists have room for, where the transpose has so many pointers and row indices; a pair of sides
 -- counts two

@@ -47,7 +47,7 @@ pub fn workspace_bytes(rows: usize, entries: usize) -> Option<usize>
     usize::try_from(width * words).ok()
 }
 
-/// The lists with a place for each row, in the first seven parts of a block.
+/// The lists with a place for each row, and that of the buckets, in the first seven parts of a block.
 fn lists_in<S: Signed, P: Signed, U: Unsigned>(
     block: Piece,
     rows: usize,

@@ -7,6 +7,7 @@ ghost use Rattle.std.specs.Option.{option_copied};
 ghost use Rattle.std.specs.Vec.{vec_capacity};
 ghost use Rattle.amd_model.specs.Input.Pattern.{is_pair};
 ghost use Rattle.amd_rounds.specs.Laid.{AreWideEnough};
+ghost use Rattle.amd_merging.specs.Merging.{bucket_count};
 ghost use Rattle.amd_types.specs.Counts.{counts};
 ghost use Rattle.amd_workspace.specs.Lists.{HasRoom};
 ghost use Rattle.amd.specs.Answers.{OrdersMatrix};
@@ -15,6 +16,7 @@ ghost use Rattle.amd.specs.Within.{IsGiven, IsSized, list_words, pairs_by};
 
 use crate::within::{count_degrees, order_sorted};
 use amd_input::preprocess::transpose_within;
+use amd_merging::buckets::bucket_count;
 use amd_types::amd::{Control, Info};
 use amd_types::index::Index;
 use amd_words::{Signed, Unsigned};
@@ -66,7 +68,7 @@ fn memory_for<S: Signed, P: Signed, U: Unsigned, A: Allocator + Copy>(
     words: usize,
 ) -> Result<Memory<S, P, U, A>, AllocError>
     ensures room { IfOk result (HasRoom rows words) }
-    ensures words { IfOk result (λ m. words_in m 0 0 ≡ words + 10 * rows) }
+    ensures words { IfOk result (λ m. words_in m 0 0 ≡ words + 9 * rows + bucket_count rows) }
 {
     Ok(Memory {
         pe: Vec::with_capacity(alloc, rows)?,
@@ -81,7 +83,7 @@ fn memory_for<S: Signed, P: Signed, U: Unsigned, A: Allocator + Copy>(
             w: Vec::with_capacity(alloc, rows)?,
             head: Vec::with_capacity(alloc, rows)?,
             sides: Vec::with_capacity(alloc, rows)?,
-            hash: Vec::with_capacity(alloc, rows)?,
+            hash: Vec::with_capacity(alloc, bucket_count(rows))?,
         },
     })
 }

@@ -13,6 +13,7 @@ use Rattle.amd_model.proofs.States.RunsExist.{first_state, starts}
 use Rattle.amd_types.specs.declared.figures.Figures.{Figures}
 use Rattle.amd_words.specs.Words.{num}
 use Rattle.amd_lists.specs.Chains.{DegreeLists}
+use Rattle.amd_merging.specs.Merging.{bucket_count}
 use Rattle.amd_rounds.specs.Workspaces.{Workspace}
 use Rattle.amd_rounds.specs.Laid.{IsSized, IsLaid}
 use Rattle.amd_rounds.proofs.Rounds.{StandsForSome}
@@ -48,9 +49,9 @@ keeps_rows a b c l m = (
 
 -- what the lists of a workspace say before its first round, beside its rows
 pub record IsFresh (n : ℕ) (held : ℕ → Bool) (degrees : List ℕ) (v : Workspace) : Type 0 where
-  pub sized : (length v.head ≡ n) × (length v.next ≡ n) × (length v.last ≡ n) × (length v.hash ≡ n)
+  pub sized : (length v.head ≡ n) × (length v.next ≡ n) × (length v.last ≡ n) × (length v.hash ≡ bucket_count n)
   pub linked : DegreeLists n v.head v.next v.last v.degree (λ b. reverse (classes_of held degrees n b))
-  pub empty : (b : ℕ) → b < n → n ≤ num v.hash b
+  pub empty : (b : ℕ) → b < bucket_count n → n ≤ num v.hash b
   pub live : v.live ≡ count_below n (begins_class held degrees)
   pub dense : v.n_dense ≡ count_below n held
   pub sums : v.figures ≡ first_sums v.n_dense
@@ -184,7 +185,7 @@ module _ {S P U : Type 0} (hold : Option (List Bool)) (threshold : ℕ) (aggress
     are_over g lists lays = let z = is_sized g lists lays in record {
       words = (z.pe, z.e_len, z.nv, z.degree);
       counters = z.w;
-      links = (z.head, z.hash);
+      links = (z.head, z.len);
       ends = λ link f_size blocks ends link_long f_size_long blocks_long. is_over hold threshold aggressive iw pe len (told_of numbers)
           rows runs_in_place link f_size blocks ends link_long f_size_long blocks_long g lists lays;
     }

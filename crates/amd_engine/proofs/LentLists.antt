@@ -7,6 +7,7 @@ use Rattle.amd_types.specs.Permutations.{AreInverse}
 use Rattle.amd_types.specs.declared.amd.Control.{Control}
 use Rattle.amd_types.specs.declared.amd.Info.{Info}
 use Rattle.amd_words.specs.Sides.{nexts, lasts}
+use Rattle.amd_merging.specs.Merging.{bucket_count}
 use Rattle.amd_workspace.specs.Ending.{EndsRows}
 use Rattle.amd_workspace.specs.declared.lists.Lists.{Lists}
 use Rattle.amd_engine.specs.declared.rows.RowLists.{RowLists}
@@ -26,9 +27,9 @@ lent_empty {n = n} rows fresh size a b d f h i j = rw size (record {
     ap (λ xs. length (nexts xs)) i ∙ fresh.links.0,
     ap (λ xs. length (lasts xs)) i ∙ fresh.links.1,
   );
-  buckets = ap length j ∙ ap length fresh.heads.1 ∙ length-replicate n n;
-  heads = λ b small. let is = get_or-replicate n b n 0 small in
-      rw (h, j, fresh.heads.0, fresh.heads.1) (omega (arith, is), omega (arith, is));
+  heads = λ b small. let is = get_or-replicate n b n 0 small in rw (h, fresh.heads.0) (omega (arith, is));
+  buckets = ap length j ∙ ap length fresh.heads.1 ∙ length-replicate (bucket_count n) n;
+  empty = λ b small. let is = get_or-replicate (bucket_count n) b n 0 small in rw (j, fresh.heads.1) (omega (arith, is));
 })
 
 -- what a run left of a graph that is laid, listed, is an answer

@@ -16,6 +16,7 @@ use Rattle.amd_words.specs.Sides.{nexts, lasts}
 use Rattle.amd_words.specs.Words.{num, word}
 use Rattle.amd_lists.specs.Layout.{list_in}
 use Rattle.amd_lists.specs.Lengths.{HasLinks}
+use Rattle.amd_merging.specs.Merging.{bucket_count}
 use Rattle.amd_rounds.specs.Workspaces.{Workspace}
 use Rattle.amd_rounds.specs.Keeps.{Stands}
 use Rattle.amd_listing.specs.Ended.{HasEnded, LinksAre, ListsEnded, Shortens}
@@ -123,8 +124,9 @@ pub record AreEmpty {S P U : Type 0} (n : ℕ) (rows : RowLists S P U) : Type 0 
   pub words : (length rows.e_len.now ≡ n) × (length rows.nv.now ≡ n)
   pub figures : (length rows.degree.now ≡ n) × (length rows.w.now ≡ n)
   pub links : HasLinks n rows.head.now (nexts rows.sides.now) (lasts rows.sides.now)
-  pub buckets : length rows.hash.now ≡ n
-  pub heads : (b : ℕ) → b < n → (n ≤ num rows.head.now b) × (n ≤ num rows.hash.now b)
+  pub heads : (b : ℕ) → b < n → n ≤ num rows.head.now b
+  pub buckets : length rows.hash.now ≡ bucket_count n
+  pub empty : (b : ℕ) → b < bucket_count n → n ≤ num rows.hash.now b
 
 -- the lists of the neighbours of a graph are laid in the first words, as many words as rows are free behind them, and an
 -- elimination can start
@@ -138,14 +140,14 @@ pub record CanRun {S P U : Type 0} (iw : List ℤ) (free : ℕ) (rows : RowLists
 pub record AreFresh {S P U A : Type 0} (n : ℕ) (degree : List ℕ) (l : Lists S P U A) : Type 0 where
   pub words : (length l.e_len.items ≡ n) × (length l.nv.items ≡ n)
   pub figures : (length degree ≡ n) × (length l.w.items ≡ n)
-  pub heads : (l.head.items ≡ replicate n n) × (l.hash.items ≡ replicate n n)
+  pub heads : (l.head.items ≡ replicate n n) × (l.hash.items ≡ replicate (bucket_count n) n)
   pub links : (length (nexts l.sides.items) ≡ n) × (length (lasts l.sides.items) ≡ n)
 
 -- what rounds left of n rows can be listed: made into links and numbers of rows, it tells the end of a run
 pub record AreOver {S P U : Type 0} (n : ℕ) (rows : RowLists S P U) : Type 0 where
   pub words : (length rows.pe.now ≡ n) × (length rows.e_len.now ≡ n) × (length rows.nv.now ≡ n) × (length rows.degree.now ≡ n)
   pub counters : length rows.w.now ≡ n
-  pub links : (length rows.head.now ≡ n) × (length rows.hash.now ≡ n)
+  pub links : (length rows.head.now ≡ n) × (length rows.len.now ≡ n)
   pub ends : (link f_size blocks : List ℤ) → EndsRows n rows.pe.now rows.e_len.now rows.degree.now link f_size blocks →
       length link ≡ n → length f_size ≡ n → length blocks ≡ n → HasEnded link blocks f_size
 

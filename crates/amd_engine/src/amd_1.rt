@@ -87,7 +87,7 @@ pub fn ask_for_most<A: Allocator + Copy>(
     n: usize,
     iwlen: usize,
 ) -> Result<(), AllocError> {
-    let most = n.saturating_mul(10).saturating_add(iwlen);
+    let most = n.saturating_mul(9).saturating_add(iwlen);
     let _: Vec<Word<i32>, A> = Vec::with_capacity(alloc, most.min(GREATEST_MEASURE))?;
     if iwlen > GREATEST_MEASURE && most.saturating_add(n.saturating_mul(2)) <= GREATEST_KEPT {
         ask_for_two(alloc, most / 2)?;

@@ -30,7 +30,7 @@ fn write_numbers<I: Index, U: Unsigned>(figures: &[Cell<U>], numbers: &mut [I])
 }
 
 /// Makes what rounds left into links and numbers of rows, and lists the rows: `head` then has the permutation, and `w`
-/// its inverse. Shortens the links in `pe`, and uses `degree` and `hash` as scratch.
+/// its inverse. Shortens the links in `pe`, and uses `degree` and `len` as scratch.
 ///
 /// The lists of the rows hold what `run` left of `n` of them. Each width holds `n + 2`. For each element, `nv` then has
 /// the number of rows of its block, and `e_len` that of its front; for what is none, 0 and -1. `pe` has the parent of
@@ -49,7 +49,7 @@ pub fn list_rows<S: Signed, P: Signed, U: Unsigned>(rows: &mut RowLists<'_, '_, 
     let e_len = &mut *rows.e_len;
     let degree = &mut *rows.degree;
     end_rows(rows.pe, e_len, nv, degree);
-    listing(rows.pe, nv, e_len, degree, rows.hash, rows.head, rows.w);
+    listing(rows.pe, nv, e_len, degree, rows.len, rows.head, rows.w);
 }
 
 /// Writes the order and its inverse that `list_rows` left in `head` and `w`, and what the run tells.

@@ -6,6 +6,7 @@ ghost use Rattle.amd_words.specs.Words.{num};
 ghost use Rattle.amd_workspace.specs.Lists.{HasRoom, HasRows};
 ghost use Rattle.amd_engine.specs.InPlace.{AreFresh};
 
+use amd_merging::buckets::bucket_count;
 use amd_types::index::Index;
 use amd_words::{Cell, Signed, Unsigned, cell_of};
 use amd_workspace::filling::{fill_cells, fill_sides, fill_words};
@@ -56,7 +57,8 @@ pub fn memory_for<S: Signed, P: Signed, U: Unsigned, A: Allocator + Copy>(
     Ok(memory)
 }
 
-/// Fills the lists of an elimination of `n` rows, which have room for so many. What they held before is given up.
+/// Fills the lists of an elimination of `n` rows, which have room for so many, and that of the buckets for theirs. What
+/// they held before is given up.
 ///
 /// All widths hold `n`. Each number of `head` and `hash` is `n`, which names no row. Each number of `degree`, `nv`,
 /// `e_len` and `w` is `n` too, which nothing relies on: a loop of stores is faster here than the `memset` that zeros
@@ -78,5 +80,5 @@ pub fn fill_lists<S: Signed, P: Signed, U: Unsigned, A: Allocator + Copy>(
     fill_cells(&mut lists.w, n, n);
     fill_cells(&mut lists.head, n, n);
     fill_sides(&mut lists.sides, n, n);
-    fill_cells(&mut lists.hash, n, n);
+    fill_cells(&mut lists.hash, bucket_count(n), n);
 }

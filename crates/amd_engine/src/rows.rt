@@ -25,7 +25,7 @@ pub struct RowLists<'a, 'b, 'c, S: Signed, P: Signed, U: Unsigned> {
     pub head: &'a mut [Cell<U>],
     /// The two sides of each class in its list by bound.
     pub sides: &'a mut [Sides<U>],
-    /// The first class of each bucket.
+    /// The first class of each bucket, of which there are fewer than rows.
     pub hash: &'a mut [Cell<U>],
 }
 

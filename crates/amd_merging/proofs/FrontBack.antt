@@ -12,7 +12,7 @@ use Rattle.amd_model.specs.Quotient.{has}
 use Rattle.amd_model.proofs.Listings.Words.{has_none, has_head, has_tail, has_cases, has_append as in_parts, has_filter as filter_gives}
 use Rattle.amd_words.specs.Words.{num, word, place, rows, in_front, Names}
 use Rattle.amd_lists.specs.Chains.{Chain, DegreeLists}
-use Rattle.amd_merging.specs.Merging.{bucket_of}
+use Rattle.amd_merging.specs.Merging.{bucket_count, bucket_of}
 use Rattle.amd_merging.specs.Restoring.{marked_in, put_all}
 use Rattle.amd_words.proofs.RowLists.{rows_more, rows_has, rows_part}
 use Rattle.amd_words.proofs.WordMarks.{rows_start, rows_next}
@@ -101,15 +101,15 @@ no_head n head next last degree lists d x h small row out e =
 
 -- a bucket that has a head still has it from before, and that row was not met
 pub record Emptying (n : ℕ) (iw : List ℤ) (from : ℕ) (hash0 : List ℕ) (k : ℕ) (hash : List ℕ) : Type 0 where
-  pub full : (b : ℕ) → b < n → num hash b < n → (num hash b ≡ num hash0 b) × (has (rows iw from k) (num hash0 b) ≡ false)
+  pub full : (b : ℕ) → b < bucket_count n → num hash b < n → (num hash b ≡ num hash0 b) × (has (rows iw from k) (num hash0 b) ≡ false)
 
 module _ (n : ℕ) (iw nv : List ℤ) (from count : ℕ) (hash0 last : List ℕ) where
   pub emptying_none : Emptying n iw from hash0 (from - from) hash0
   unfolding has
   emptying_none = record { full = λ b l s. (refl, ap (λ xs. has xs (num hash0 b)) (rows_start iw from)) }
 
-  module _ (heads : (b : ℕ) → b < n → num hash0 b < n → (1 < count) × (has (marked_in nv (rows iw from count)) (num hash0 b) ≡ true)
-      × (bucket_of count last (num hash0 b) ≡ b))
+  module _ (heads : (b : ℕ) → b < bucket_count n → num hash0 b < n → (1 < count) ×
+      (has (marked_in nv (rows iw from count)) (num hash0 b) ≡ true) × (bucket_of count last (num hash0 b) ≡ b))
     where
       module _ (k i : ℕ) (is : i ≡ place (word iw (from + k))) (hash : List ℕ) (st : Emptying n iw from hash0 k hash) where
         still : (x : ℕ) → has (rows iw from k) x ≡ false → (x ≡ i → ⊥) → has (rows iw from (k + 1)) x ≡ false
@@ -125,7 +125,8 @@ module _ (n : ℕ) (iw nv : List ℤ) (from count : ℕ) (hash0 last : List ℕ)
           ));
         }
 
-        clears : bucket_of count last i < n → length hash ≡ n → Emptying n iw from hash0 (k + 1) (set hash (bucket_of count last i) n)
+        clears : bucket_of count last i < bucket_count n → length hash ≡ bucket_count n →
+            Emptying n iw from hash0 (k + 1) (set hash (bucket_of count last i) n)
         clears small long = record {
           full = λ b l s. elim (cases_eq b (bucket_of count last i)) [
             | inl e ↦ (let v = ap (num (set hash (bucket_of count last i) n)) e
@@ -144,7 +145,7 @@ module _ (n : ℕ) (iw nv : List ℤ) (from count : ℕ) (hash0 last : List ℕ)
               absurd (omega (arith, m, f)));
         }
 
-        pub emptying_clears : bucket_of count last i < n → length hash ≡ n →
+        pub emptying_clears : bucket_of count last i < bucket_count n → length hash ≡ bucket_count n →
             Emptying n iw from hash0 (k + 1) (cond (nat_lt 1 count) (set hash (bucket_of count last i) n) hash)
         emptying_clears small long = elim (cases_Bool (nat_lt 1 count)) [
           | inl t ↦ subst (Emptying n iw from hash0 (k + 1)) (sym (cond-true (nat_lt 1 count) (set hash (bucket_of count last i) n) hash t))
@@ -153,7 +154,7 @@ module _ (n : ℕ) (iw nv : List ℤ) (from count : ℕ) (hash0 last : List ℕ)
               (sym (cond-false (nat_lt 1 count) (set hash (bucket_of count last i) n) hash f)) (stays f)
         ]
 
-      pub emptying_all : (hash : List ℕ) → Emptying n iw from hash0 count hash → (b : ℕ) → b < n → n ≤ num hash b
+      pub emptying_all : (hash : List ℕ) → Emptying n iw from hash0 count hash → (b : ℕ) → b < bucket_count n → n ≤ num hash b
       emptying_all hash st b l = elim (cases_Bool (nat_lt (num hash b) n)) [
         | inr f ↦ ltb-false (num hash b) n f
         | inl t ↦ (let s = ltb-true (num hash b) n t in let p = st.full b l s in let e = p.0 in

@@ -1,5 +1,5 @@
 -- Lemmas on classes that are alike, and on the front put back into the lists by bound.
-pub mod Buckets
+pub mod BucketKeys
 pub mod BucketWalk
 pub mod FewMerged
 pub mod FrontBack

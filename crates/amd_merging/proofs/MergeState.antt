@@ -18,9 +18,9 @@ use Rattle.amd_round_laws.specs.Rounds.{alike_in}
 use Rattle.amd_lists.specs.Chains.{Chain}
 use Rattle.amd_merging.specs.Merging.{links, kept_of, words_of, IsRenewed, AreApart, IsMember, MergesInto, Pushes, Settles, IsReady}
 use Rattle.amd_lists.specs.Layout.{variables_in}
-use Rattle.amd_merging.specs.Merging.{MergesAll, IsHead, bucket_of}
+use Rattle.amd_merging.specs.Merging.{MergesAll, IsHead, bucket_count, bucket_of}
 use Rattle.amd_lists.specs.Renewal.{key_of}
-use Rattle.amd_merging.proofs.Buckets.{bucket_least, bucket_same}
+use Rattle.amd_merging.proofs.BucketKeys.{bucket_small, bucket_same}
 use Rattle.amd_merging.proofs.BucketWalk.{links_is}
 use Rattle.amd_lists.proofs.ChainLists.{chain_same}
 use Rattle.amd_merging.proofs.Likeness.{alike_key}
@@ -55,7 +55,7 @@ module _ (n : ℕ) (iw pe0 e_len0 : List ℤ) (len : List ℕ) (nv0 : List ℤ) 
   -- the classes behind the first k were gone through
   pub record Merging (k : ℕ) (pe e_len nv : List ℤ) (w hash next : List ℕ) (flag : ℕ) : Type 0 where
     pub buckets : ℕ → List ℕ
-    pub chains : (b : ℕ) → b < n → Chain n next (num hash b) (buckets b)
+    pub chains : (b : ℕ) → b < bucket_count n → Chain n next (num hash b) (buckets b)
     pub short : (b : ℕ) → length (buckets b) + k ≤ length rest
     pub found : IsFound k rep buckets
     pub sizes : MergedBack rest rep (size_of nv0) (drop k rest) (size_of nv)
@@ -67,10 +67,10 @@ module _ (n : ℕ) (iw pe0 e_len0 : List ℤ) (len : List ℕ) (nv0 : List ℤ) 
     pub under : (x : ℕ) → num w x < flag
     pub zeros : (x : ℕ) → (num w x == 0) ≡ (num w0 x == 0)
     pub flags : (flag0 ≤ flag) × (flag + k ≤ flag0 + length rest)
-    pub long : (length pe ≡ n) × (length e_len ≡ n) × (length nv ≡ n) × (length w ≡ n) × (length hash ≡ n) × (length next ≡ n)
+    pub long : (length pe ≡ n) × (length e_len ≡ n) × (length nv ≡ n) × (length w ≡ n) × (length hash ≡ bucket_count n) × (length next ≡ n)
 
-  pub merging_none : (hash : List ℕ) → ((b : ℕ) → b < n → n ≤ num hash b) → ((x : ℕ) → num w0 x < flag0) →
-      (length pe0 ≡ n) × (length e_len0 ≡ n) × (length nv0 ≡ n) × (length w0 ≡ n) × (length hash ≡ n) × (length next0 ≡ n) →
+  pub merging_none : (hash : List ℕ) → ((b : ℕ) → b < bucket_count n → n ≤ num hash b) → ((x : ℕ) → num w0 x < flag0) →
+      (length pe0 ≡ n) × (length e_len0 ≡ n) × (length nv0 ≡ n) × (length w0 ≡ n) × (length hash ≡ bucket_count n) × (length next0 ≡ n) →
       Merging (length rest) pe0 e_len0 nv0 w0 hash next0 flag0
   merging_none hash empty under long =
       let none : [] ≡ drop (length rest) rest = sym (drop_all (length rest) rest (omega arith)) in record {
@@ -114,9 +114,8 @@ module _ (n : ℕ) (iw pe0 e_len0 : List ℤ) (len : List ℕ) (nv0 : List ℤ) 
     abbrev key : ℕ
     key = bucket_of count last i
 
-    key_small : bucket_of count last i < n
-    key_small = let e = g.keys i in_rest in let r = (g.renewed i in_rest).row in let l = bucket_least count last i in
-        omega (arith, e, r, l)
+    key_small : bucket_of count last i < bucket_count n
+    key_small = let e = g.keys i in_rest in let r = (g.renewed i in_rest).row in bucket_small n count last i (omega (arith, e, r))
 
     bucket_is : links n next n (num hash (bucket_of count last i)) ≡ st.buckets (bucket_of count last i)
     bucket_is = let s = st.short (bucket_of count last i) in let f = g.few in
@@ -204,7 +203,8 @@ module _ (n : ℕ) (iw pe0 e_len0 : List ℤ) (len : List ℕ) (nv0 : List ℤ) 
         × (length w' ≡ length w)) (more' : (length hash' ≡ length hash) × (length next' ≡ length next))
         (flags' : (flag ≤ flag') × (flag' ≤ flag + 1)) (under' : (x : ℕ) → num w' x < flag') (zeros' : (x : ℕ) →
         (num w' x == 0) ≡ (num w x == 0)) where
-      long_all : (length pe' ≡ n) × (length e_len' ≡ n) × (length nv' ≡ n) × (length w' ≡ n) × (length hash' ≡ n) × (length next' ≡ n)
+      long_all : (length pe' ≡ n) × (length e_len' ≡ n) × (length nv' ≡ n) × (length w' ≡ n)
+          × (length hash' ≡ bucket_count n) × (length next' ≡ n)
       long_all = (
         long'.0 ∙ st.long.0,
         long'.1 ∙ st.long.1,
@@ -300,7 +300,7 @@ module _ (n : ℕ) (iw pe0 e_len0 : List ℤ) (len : List ℕ) (nv0 : List ℤ) 
                 ∙ sym (ap (λ xs. has xs x) (cond-false (b == key) (st.buckets b ++ i ∷ []) (st.buckets b) t))
           ] in
           let lh = st.long.4 in let ln = st.long.5 in let row = (g.renewed i in_rest).row in let small = key_small in
-          let links_on : (b : ℕ) → b < n → Chain n next' (num hash b) (st.buckets b) =
+          let links_on : (b : ℕ) → b < bucket_count n → Chain n next' (num hash b) (st.buckets b) =
           λ b l. subst (λ z. Chain n z (num hash b) (st.buckets b)) (sym p.nexts)
           (chain_same n next (set next i (num hash key)) (num hash b) (st.buckets b) (λ y h.
           get_or-set_other next i y (num hash key) 0 (λ e. clash {P = ⊥} (sym (ap (has back) e) ∙ (member b y h).0) fresh))
@@ -372,8 +372,8 @@ module _ (n : ℕ) (iw pe0 e_len0 : List ℤ) (len : List ℕ) (nv0 : List ℤ) 
     nexts = st.nexts;
   }
 
-  pub all_heads : (pe e_len nv : List ℤ) (w hash next : List ℕ) (flag : ℕ) → Merging 0 pe e_len nv w hash next flag → (b : ℕ) → b < n →
-      num hash b < n → IsHead count last rest rep b (num hash b)
+  pub all_heads : (pe e_len nv : List ℤ) (w hash next : List ℕ) (flag : ℕ) → Merging 0 pe e_len nv w hash next flag →
+      (b : ℕ) → b < bucket_count n → num hash b < n → IsHead count last rest rep b (num hash b)
   all_heads pe e_len nv w hash next flag st b l s = first (st.buckets b) (st.chains b l) (λ y h. sym (st.found.groups b y) ∙ h)
     where
       first : (xs : List ℕ) → Chain n next (num hash b) xs → ((y : ℕ) → has xs y ≡ true →

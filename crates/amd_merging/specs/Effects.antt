@@ -12,7 +12,7 @@ use Rattle.amd_lists.specs.Lengths.{row_count}
 use Rattle.amd_lists.specs.Renewal.{Filters}
 use Rattle.amd_merging.specs.Closing.{Closes}
 use Rattle.amd_merging.specs.FrontLists.{LongToMerge, LongToPlace, MergesList, PutsAll}
-use Rattle.amd_merging.specs.Merging.{bucket, bucket_of, kept_of, words_of, is_near, Finds, HasNone, HasSome, Settles}
+use Rattle.amd_merging.specs.Merging.{bucket, bucket_count, bucket_of, kept_of, words_of, is_near, Finds, HasNone, HasSome, Settles}
 use Rattle.amd_merging.specs.Restoring.{bound_in, Restores}
 
 -- where some member of a bucket is near a class, the words of that class are marked with the flag, which rises by 1;
@@ -67,7 +67,7 @@ pub record PlacesClass (border left count i : ℕ) (nv : List ℤ) (degree head 
     (nv' : List ℤ) (degree' head' hash' : List ℕ) (sides' : List (ℕ × ℕ)) (bound : ℕ) : Type 0 where
   pub lengths : (length nv' ≡ row_count sides) × (length degree' ≡ row_count sides) × (length head' ≡ row_count sides) ×
       (row_count sides' ≡ row_count sides) × (length (lasts sides') ≡ row_count sides) ×
-      (length hash' ≡ row_count sides)
+      (length hash' ≡ bucket_count (row_count sides))
   pub sizes : (j : ℕ) → size_of nv' j ≡ size_of nv j
   pub marks : (j : ℕ) → in_front nv' j ≡ (in_front nv j && not (i == j))
   pub bound_is : bound ≡ bound_in border left nv degree i
@@ -84,7 +84,7 @@ pub record RestoresFront (border left least from count : ℕ) (iw nv : List ℤ)
     : Type 0 where
   pub filters : Filters (row_count sides) (in_front nv) (λ j. 0) 0 iw from count from iw' end 0
   pub placed : Restores (rows iw from count) border left least nv degree nv' degree' least'
-  pub empty : (b : ℕ) → b < row_count sides → row_count sides ≤ num hash' b
+  pub empty : (b : ℕ) → b < bucket_count (row_count sides) → row_count sides ≤ num hash' b
   pub linked : PutsAll (row_count sides) border left (rows iw from count) nv head (nexts sides) (lasts sides) degree
       head'
       (nexts sides') (lasts sides') degree'

@@ -3,22 +3,22 @@ use Rattle.std.specs.Prelude.{ℕ, ℤ, true, false, List, ◌≡◌, ◌<◌, �
 use Rattle.amd_model.specs.Quotient.{has, Once}
 use Rattle.amd_words.specs.Words.{num, in_front, classes, rows, Names}
 use Rattle.amd_lists.specs.Chains.{DegreeLists}
-use Rattle.amd_merging.specs.Merging.{MergesAll, represents_in, bucket_of}
+use Rattle.amd_merging.specs.Merging.{MergesAll, represents_in, bucket_count, bucket_of}
 use Rattle.amd_merging.specs.Restoring.{IsPlaceable, marked_in, bound_in, put_all}
 
 -- count words from a place on are a list of rows below n, each named once
 abbrev pub IsList : ℕ → List ℤ → ℕ → ℕ → Type 0
 IsList n iw from count = (from + count ≤ length iw) × Names n iw from count × Once (rows iw from count)
 
--- the lists that merging uses have n items each
+-- the lists that merging uses have n items each, and one for each bucket
 abbrev pub LongToMerge : ℕ → List ℤ → List ℤ → List ℤ → List ℕ → List ℕ → List ℕ → List ℕ → List ℕ → Type 0
 LongToMerge n pe e_len nv len w hash next last = (length pe ≡ n) × (length e_len ≡ n) × (length nv ≡ n) ×
-    (length len ≡ n) × (length w ≡ n) × (length hash ≡ n) × (length next ≡ n) × (length last ≡ n)
+    (length len ≡ n) × (length w ≡ n) × (length hash ≡ bucket_count n) × (length next ≡ n) × (length last ≡ n)
 
--- the lists that placing uses have n items each
+-- the lists that placing uses have n items each, and one for each bucket
 abbrev pub LongToPlace : ℕ → List ℤ → List ℕ → List ℕ → List ℕ → List ℕ → List ℕ → Type 0
 LongToPlace n nv degree head next last hash = (length nv ≡ n) × (length degree ≡ n) × (length head ≡ n) ×
-    (length next ≡ n) × (length last ≡ n) × (length hash ≡ n)
+    (length next ≡ n) × (length last ≡ n) × (length hash ≡ bucket_count n)
 
 -- no list by bound names one of the given rows
 abbrev pub AreOutside : ℕ → (ℕ → List ℕ) → List ℕ → Type 0
@@ -27,7 +27,7 @@ AreOutside n lists xs = (b x : ℕ) → b < n → has (lists b) x ≡ true → h
 -- a bucket that is not empty has one of the given rows at its head, which belongs into it, and the list of the front
 -- has more than one word
 abbrev pub AreHeads : ℕ → ℕ → List ℕ → List ℕ → List ℕ → Type 0
-AreHeads n count xs hash last = (b : ℕ) → b < n → num hash b < n → (1 < count) × (has xs (num hash b) ≡ true) ×
+AreHeads n count xs hash last = (b : ℕ) → b < bucket_count n → num hash b < n → (1 < count) × (has xs (num hash b) ≡ true) ×
     (bucket_of count last (num hash b) ≡ b)
 
 -- the classes of a list were merged into their representatives, which alone are classes now; lists by bound of other

@@ -1,5 +1,5 @@
 -- Classes of a front that keep the same lists, found through buckets and merged in their places.
-use Rattle.std.specs.Prelude.{ℕ, ℤ, zero, suc, Bool, true, false, List, [], ◌∷◌, ◌≡◌, ◌<◌, ◌≤◌, ◌+◌, ◌-◌, ◌^◌}
+use Rattle.std.specs.Prelude.{ℕ, ℤ, zero, suc, Bool, true, false, List, [], ◌∷◌, ◌≡◌, ◌<◌, ◌≤◌, ◌+◌, ◌-◌, ◌/◌, ◌^◌}
 use Rattle.std.specs.Prelude.{◌==◌, ◌&&◌, ◌⊎◌}
 use Rattle.std.specs.Prelude.{bit_and, negsuc, not, nat_lt, cond, length, sum_by, filter, slice_set}
 use Rattle.amd_model.specs.Quotient.{has, each, Once, last_that}
@@ -68,15 +68,18 @@ abbrev pub Finds : ℕ → (ℕ → Bool) → List ℕ → ℕ → Type 0
 Finds n p members r = ((r < n) × (has members r ≡ true) × (p r ≡ true)) ⊎
     ((r ≡ n) × ((x : ℕ) → has members x ≡ true → p x ≡ false))
 
--- the bits of a key that choose a bucket: the lowest ten for a front whose list has few words, so that the buckets in
--- use
--- stand close together, and all bits for another one
+-- how many buckets there are for n rows: one for each sixteen keys
+unfoldable pub bucket_count : ℕ → ℕ
+bucket_count n = (n + 15) / 16
+
+-- the bits of a sixteenth of a key that choose a bucket: the lowest ten for a front whose list has few words, so that
+-- the buckets in use stand close together, and all bits for another one
 abbrev pub mask_of : ℕ → ℕ
 mask_of count = cond (nat_lt count 256) 1023 (2 ^ 64 - 1)
 
 -- the bucket of a class of a front whose list has so many words
 unfoldable pub bucket_of : ℕ → List ℕ → ℕ → ℕ
-bucket_of count last i = bit_and (num last i) (mask_of count)
+bucket_of count last i = bit_and (num last i / 16) (mask_of count)
 
 -- the class i of the front was merged into the class r
 pub record MergesInto (i r : ℕ) (hash next : List ℕ) (pe e_len nv : List ℤ) (hash' next' : List ℕ)
@@ -119,7 +122,7 @@ pub record IsMember (n : ℕ) (iw pe e_len : List ℤ) (len : List ℕ) (nv : Li
 -- the class i stands ready to be looked for in its bucket, and to be merged or put there
 pub record IsReady (n : ℕ) (iw : List ℤ) (len last : List ℕ) (count i : ℕ) (pe e_len nv : List ℤ)
     (w hash next : List ℕ) : Type 0 where
-  pub key : bucket_of count last i < n
+  pub key : bucket_of count last i < bucket_count n
   pub chain : Chain n next (num hash (bucket_of count last i)) (links n next n (num hash (bucket_of count last i)))
   pub here : IsRenewed n iw pe e_len len i
   pub marked : in_front nv i ≡ true

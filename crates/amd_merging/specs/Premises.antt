@@ -10,7 +10,7 @@ use Rattle.amd_lists.specs.Chains.{Chain}
 use Rattle.amd_lists.specs.Layout.{variables_in}
 use Rattle.amd_lists.specs.Lengths.{row_count}
 use Rattle.amd_merging.specs.FrontLists.{IsList, LongToMerge, LongToPlace, AreHeads, CanPlace, HasListsByBound}
-use Rattle.amd_merging.specs.Merging.{bucket, kept_of, IsRenewed, AreApart, AreRenewed, IsReady}
+use Rattle.amd_merging.specs.Merging.{bucket, bucket_count, kept_of, IsRenewed, AreApart, AreRenewed, IsReady}
 use Rattle.amd_merging.specs.Restoring.{marked_in, IsPlaceable}
 
 -- rows are small enough to merge: for sizes, for links, and for cells
@@ -84,13 +84,13 @@ pub record CanMergeFront (most_word most_place most_cell from count flag : ℕ) 
   pub classes_are : AreRenewed (row_count sides) iw pe e_len len nv w (lasts sides) (classes nv (rows iw from count))
   pub under : (x : ℕ) → num w x < flag
   pub room : flag + count ≤ most_cell
-  pub empty : (b : ℕ) → b < row_count sides → row_count sides ≤ num hash b
+  pub empty : (b : ℕ) → b < bucket_count (row_count sides) → row_count sides ≤ num hash b
 
 -- the class i can be placed by its new bound
 pub record CanPlaceClass (most_word most_cell border left i : ℕ) (nv : List ℤ) (degree head hash : List ℕ)
     (sides : List (ℕ × ℕ)) : Type 0 where
   pub lengths : (length nv ≡ row_count sides) × (length degree ≡ row_count sides) × (length head ≡ row_count sides) ×
-      (length hash ≡ row_count sides)
+      (length hash ≡ bucket_count (row_count sides))
   pub short : AreSmallToPlace most_word most_cell (row_count sides)
   pub row : i < row_count sides
   pub marked : in_front nv i ≡ true

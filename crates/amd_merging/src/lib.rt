@@ -3,6 +3,7 @@
 //! and Duff 1996 and 2004.
 #![tactic(auto)]
 
+pub mod buckets;
 pub mod closing;
 pub mod merging;
 pub mod restoring;

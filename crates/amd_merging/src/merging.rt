@@ -1,7 +1,7 @@
 // Merging: classes of a new element that keep the same elements and the same variables become one, which the last of
 // them represents. The key of a class is the sum of what it lists, modulo the number of rows. Only classes of one
-// bucket are compared: a bucket is chosen by the lowest bits of a key, or by all of them in a large front. Source:
-// Amestoy, Davis and Duff 1996 (supervariables, found by a hash function).
+// bucket are compared: a bucket is chosen by ten bits of a key, or by all but the lowest four in a large front.
+// Source: Amestoy, Davis and Duff 1996 (supervariables, found by a hash function).
 
 ghost use Rattle.std.specs.Prelude.{ℕ, ◌&&◌, ◌<◌, ◌==◌, ◌≡◌, ◌≤◌, negsuc, cond, length, slice_set, true, false};
 ghost use Rattle.std.specs.Prelude.{nat_lt};
@@ -17,6 +17,7 @@ ghost use Rattle.amd_merging.specs.Merging.{is_near, looks};
 ghost use Rattle.amd_merging.specs.Premises.{CanAdd, CanCompare, CanFind, CanMergeFront, CanMergeInto, CanMergeOne};
 ghost use Rattle.amd_merging.specs.Premises.{CanPush, CanWalk};
 
+use crate::buckets::bucket_at;
 use amd_words::sides::{Sides, last_at, next_at, put_next, row_count};
 use amd_words::words::{named, put_flip};
 use amd_words::{Cell, Signed, Unsigned, Word, cell_at, put_cell, put_word, word_at};
@@ -77,15 +78,6 @@ fn is_as_long<P: Signed, U: Unsigned>(
         return false;
     }
     named(e_len, j) == few
-}
-
-/// The bucket of a class of a front whose list has `count` words.
-pub fn bucket_at<U: Unsigned>(sides: &[Sides<U>], i: usize, count: usize) -> usize
-    requires { i < length (nexts sides.now) }
-    ensures { result ≡ bucket_of count (lasts sides.now) i }
-{
-    let mask = if count < 256 { 1023 } else { usize::MAX };
-    last_at(sides, i) & mask
 }
 
 /// Whether some class of a bucket has the key given and so many words and elements.

@@ -7,12 +7,12 @@ ghost use Rattle.amd_words.specs.Sides.{lasts};
 ghost use Rattle.amd_words.specs.Words.{num};
 ghost use Rattle.amd_lists.specs.Lengths.{row_count};
 ghost use Rattle.amd_merging.specs.Effects.{PlacesClass, RestoresFront};
-ghost use Rattle.amd_merging.specs.Merging.{bucket_of};
+ghost use Rattle.amd_merging.specs.Merging.{bucket_count, bucket_of};
 ghost use Rattle.amd_merging.specs.Premises.{CanPlaceClass, CanRestore};
 
-use crate::merging::bucket_at;
+use crate::buckets::bucket_at;
 use amd_lists::chains::put_head;
-use amd_words::sides::Sides;
+use amd_words::sides::{Sides, row_count};
 use amd_words::words::{is_marked, leave, named};
 use amd_words::{Cell, Signed, Unsigned, Word, cell_at, copy_word, put_cell};
 
@@ -29,13 +29,14 @@ fn new_bound(reach: usize, size: usize, border: usize, left: usize) -> usize
 /// Empties the bucket of a class of a front whose list has `count` words. Where there is one at most, no bucket is
 /// used.
 fn empty_bucket<U: Unsigned>(hash: &mut [Cell<U>], sides: &[Sides<U>], i: usize, count: usize)
-    requires class { (i < row_count sides.now) × (num (lasts sides.now) i < length hash.old) }
-    requires short { length hash.old ≤ U.MOST }
+    requires class { (i < row_count sides.now) × (num (lasts sides.now) i < row_count sides.now) }
+    requires long { length hash.old ≡ bucket_count (row_count sides.now) }
+    requires short { row_count sides.now ≤ U.MOST }
     ensures { hash.new ≡ cond (nat_lt 1 count) (slice_set hash.old (bucket_of count (lasts sides.now) i)
-        (length hash.old)) hash.old }
+        (row_count sides.now)) hash.old }
 {
     if count > 1 {
-        put_cell(hash, bucket_at(sides, i, count), hash.len());
+        put_cell(hash, bucket_at(sides, i, count), row_count(sides));
     }
 }
 

@@ -12,7 +12,7 @@ use Rattle.amd_model.proofs.Listings.Words.{filter_has, has_filter as filter_giv
 use Rattle.amd_words.specs.Words.{num, word, place, is_place, start, in_front, flip_of}
 use Rattle.amd_lists.specs.Layout.{has_list, end_of, Layout}
 use Rattle.amd_lists.specs.Chains.{without}
-use Rattle.amd_merging.specs.Merging.{words_of, bucket_of}
+use Rattle.amd_merging.specs.Merging.{words_of, bucket_count, bucket_of}
 use Rattle.amd_merging.specs.Restoring.{marked_in, IsPlaceable}
 use Rattle.amd_lists.proofs.Frames.{has_parts, has_from, dropped}
 use Rattle.amd_rounds.specs.Workspaces.{Workspace}
@@ -99,7 +99,7 @@ module _ {g : Graph} {dense : ℕ → Bool} {nzaat : ℕ} {aggressive : Bool} {p
         let f = ap (λ (w : Workspace). num w.last i) merges.same in omega (arith, a, e, f));
   }
 
-  heads_marked : (b : ℕ) → b < g.size → num p4.hash b < g.size →
+  heads_marked : (b : ℕ) → b < bucket_count g.size → num p4.hash b < g.size →
       (1 < num p4.len r.c) × (has (marked_in p4.nv (front_at p4 r.c)) (num p4.hash b) ≡ true) ×
       (bucket_of (num p4.len r.c) p4.last (num p4.hash b) ≡ b)
   heads_marked b l h = let q = merges.heads b l h in (

@@ -3,9 +3,10 @@ use Rattle.std.specs.Prelude.{ℕ, true, false, ◌≡◌, ◌<◌, ◌≤◌, �
 use Rattle.amd_model.specs.Quotient.{has}
 use Rattle.amd_words.specs.Words.{num, word, is_place, size_of, in_front}
 use Rattle.amd_lists.specs.Layout.{has_list, elements_in, Layout, live_words}
+use Rattle.amd_merging.specs.Merging.{bucket_count}
 use Rattle.amd_rounds.specs.Workspaces.{Workspace}
 
--- there is a place for each of n rows in each list of numbers
+-- there is a place for each of n rows in each list of numbers, and one for each bucket
 pub record IsSized (n : ℕ) (p : Workspace) : Type 0 where
   pub pe : length p.pe ≡ n
   pub e_len : length p.e_len ≡ n
@@ -16,7 +17,7 @@ pub record IsSized (n : ℕ) (p : Workspace) : Type 0 where
   pub head : length p.head ≡ n
   pub next : length p.next ≡ n
   pub last : length p.last ≡ n
-  pub hash : length p.hash ≡ n
+  pub hash : length p.hash ≡ bucket_count n
 
 -- words, places and cells of these greatest numbers hold all that an elimination of n rows in iwlen words has: a word a row
 -- or a mark that names one, a place each word, a cell both
@@ -47,6 +48,6 @@ pub record IsLaid (n nzaat : ℕ) (p : Workspace) : Type 0 where
   pub two : 2 ≤ p.flag
   pub under : (j : ℕ) → num p.w j < p.flag
   pub standing : (j : ℕ) → has_list p.pe p.len j ≡ true → 0 < num p.w j
-  pub empty : (b : ℕ) → b < n → n ≤ num p.hash b
+  pub empty : (b : ℕ) → b < bucket_count n → n ≤ num p.hash b
   -- at most one compaction for each row that is not live
   pub packs : p.n_cmp_a + p.live ≤ n

@@ -13,7 +13,7 @@ use Rattle.amd_lists.specs.Chains.{DegreeLists, Chooses, without}
 use Rattle.amd_elements.specs.Beginning.{Begins}
 use Rattle.amd_fronts.specs.Effects.{KeepsOrResets}
 use Rattle.amd_fronts.specs.Turning.{TurnsFront}
-use Rattle.amd_merging.specs.Merging.{MergesAll, represents_in, bucket_of}
+use Rattle.amd_merging.specs.Merging.{MergesAll, represents_in, bucket_count, bucket_of}
 use Rattle.amd_merging.specs.Restoring.{marked_in, bound_in, put_all, Restores}
 use Rattle.amd_merging.specs.Closing.{Closes}
 use Rattle.amd_rounds.specs.Workspaces.{Workspace}
@@ -115,7 +115,7 @@ pub record MergesFront (n me block border : ℕ) (p v : Workspace) : Type 0 wher
       p.nv p.next v.pe v.e_len v.nv v.next
   pub made : classes v.nv (front_at p me) ≡ filter
       (λ i. represents_in p.iw p.pe p.e_len p.len (classes p.nv (front_at p me)) i == i) (classes p.nv (front_at p me))
-  pub heads : (b : ℕ) → b < n → num v.hash b < n → (1 < num p.len me) ×
+  pub heads : (b : ℕ) → b < bucket_count n → num v.hash b < n → (1 < num p.len me) ×
       (has (classes v.nv (front_at p me)) (num v.hash b) ≡ true)
       × (bucket_of (num p.len me) p.last (num v.hash b) ≡ b)
   pub linked : (lists : ℕ → List ℕ) → ((b x : ℕ) → b < n → has (lists b) x ≡ true →
@@ -149,7 +149,7 @@ pub record EndsFront (n me block border : ℕ) (is_built : Bool) (p v : Workspac
   pub counts : v.e_len ≡ slice_set p.e_len me (flip_of (block + border))
   pub free_is : v.free ≡ cond is_built (end_of v.pe v.len me) p.free
   pub laid : Layout n v.iw v.pe v.e_len v.len v.free
-  pub empty : (b : ℕ) → b < n → n ≤ num v.hash b
+  pub empty : (b : ℕ) → b < bucket_count n → n ≤ num v.hash b
   pub linked : (lists : ℕ → List ℕ) → ((b : ℕ) → b < n → has (lists b) me ≡ false) →
       ((b x : ℕ) → b < n → has (lists b) x ≡ true → has (front_at p me) x ≡ false) → LinksByBound n p lists →
       LinksByBound n v (put_all (bound_in border p.live p.nv p.degree) (marked_in p.nv (front_at p me)) lists)

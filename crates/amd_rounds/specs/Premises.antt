@@ -6,7 +6,7 @@ use Rattle.amd_elements.specs.Element.{front_of}
 use Rattle.amd_lists.specs.Layout.{has_list, end_of, elements_in, Layout}
 use Rattle.amd_lists.specs.Layout.{rows_met}
 use Rattle.amd_fronts.specs.Turning.{IsTurning}
-use Rattle.amd_merging.specs.Merging.{AreRenewed, bucket_of}
+use Rattle.amd_merging.specs.Merging.{AreRenewed, bucket_count, bucket_of}
 use Rattle.amd_merging.specs.Restoring.{marked_in, IsPlaceable}
 use Rattle.amd_rounds.specs.Workspaces.{Workspace}
 use Rattle.amd_rounds.specs.Parts.{LinksByBound, front_at}
@@ -50,7 +50,7 @@ pub record CanMerge (n me block border most_cell : ℕ) (p : Workspace) : Type 0
   pub room : p.flag + n ≤ most_cell
   pub most : (border ≤ n) × (p.most ≤ n)
   pub live : block ≤ p.live
-  pub empty : (b : ℕ) → b < n → n ≤ num p.hash b
+  pub empty : (b : ℕ) → b < bucket_count n → n ≤ num p.hash b
 
 -- the classes that are left of the front of me can be placed, and the element can be closed
 pub record CanEnd (n me block border : ℕ) (is_built : Bool) (p : Workspace) : Type 0 where
@@ -58,7 +58,7 @@ pub record CanEnd (n me block border : ℕ) (is_built : Bool) (p : Workspace) : 
   pub classes : (i : ℕ) → has (front_at p me) i ≡ true → in_front p.nv i ≡ true →
       IsPlaceable n border p.nv p.degree p.last i
   pub order : (border ≤ p.live) × (p.live + block ≤ n)
-  pub heads : (b : ℕ) → b < n → num p.hash b < n → (1 < num p.len me) ×
+  pub heads : (b : ℕ) → b < bucket_count n → num p.hash b < n → (1 < num p.len me) ×
       (has (marked_in p.nv (front_at p me)) (num p.hash b) ≡ true)
       × (bucket_of (num p.len me) p.last (num p.hash b) ≡ b)
   pub linked : (lists : ℕ → List ℕ) × LinksByBound n p lists

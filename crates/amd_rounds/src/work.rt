@@ -5,9 +5,9 @@ use amd_types::figures::Figures;
 use amd_words::sides::Sides;
 use amd_words::{Cell, Signed, Unsigned, Word};
 
-/// The state of an elimination of a matrix with `n` rows. Each slice but `iw` has `n` places, with a number in each,
-/// and in `sides` two. Where a figure names a row, `n` stands for no row. A mark is a number below zero: -1 names
-/// nothing, and `-k - 2` names `k`.
+/// The state of an elimination of a matrix with `n` rows. Each slice but `iw` and `hash` has `n` places, with a number
+/// in each, and in `sides` two. Where a figure names a row, `n` stands for no row. A mark is a number below zero: -1
+/// names nothing, and `-k - 2` names `k`.
 #[derive(Drop)]
 pub struct Work<'a, 'b, S: Signed, P: Signed, U: Unsigned> {
     /// All lists: that of a class names its elements and then its variables, that of an element its members.
@@ -33,7 +33,8 @@ pub struct Work<'a, 'b, S: Signed, P: Signed, U: Unsigned> {
     /// in a bucket has the next one of the bucket behind it, and a class of the front has its key where the one before
     /// it stood.
     pub sides: &'a mut [Sides<U>],
-    /// The first class of each bucket, in which classes alike are looked for. Between rounds there is none.
+    /// The first class of each of the `bucket_count(n)` buckets, in which classes alike are looked for. Between rounds
+    /// there is none.
     pub hash: &'a mut [Cell<U>],
     /// No list has a word from here on.
     pub free: usize,

@@ -13,6 +13,7 @@ use Rattle.amd_model.proofs.Listings.Words.{has_none}
 use Rattle.amd_round_laws.specs.Starts.{class_of, starting_block, IsBegun}
 use Rattle.amd_words.specs.Words.{num, word, place, is_place, start, size_of, is_negative, rows_in, rows, flip_of}
 use Rattle.amd_lists.specs.Layout.{has_list, end_of, elements_in, variables_in, list_in, Layout, live_words}
+use Rattle.amd_merging.specs.Merging.{bucket_count}
 use Rattle.amd_rounds.specs.Workspaces.{Workspace, owner_of, is_flip, is_over, flipped, view_of}
 use Rattle.amd_rounds.specs.Laid.{IsSized, IsLaid}
 use Rattle.amd_rounds.proofs.Standing.{flip_is, over_is, place_is}
@@ -289,7 +290,8 @@ module _ (n : ℕ) (held : ℕ → Bool) (p : Rows) (v : Workspace) (begins : Be
     -- the workspace is laid out for a round
     pub begun_laid : (nzaat : ℕ) → IsSized n v → nzaat + n ≤ length v.iw → v.free ≤ length v.iw → live_words n p.pe p.len ≤ nzaat →
         ((i : ℕ) → i < n → is_place (word p.pe i) ≡ true) → ((i : ℕ) → i < n → num p.len i < n) → v.most ≡ 0 → 2 ≤ v.flag →
-        ((b : ℕ) → b < n → n ≤ num v.hash b) → v.n_cmp_a ≡ 0 → v.live ≡ count_below n (begins_class held p.len) → IsLaid n nzaat v
+        ((b : ℕ) → b < bucket_count n → n ≤ num v.hash b) → v.n_cmp_a ≡ 0 → v.live ≡ count_below n (begins_class held p.len) →
+        IsLaid n nzaat v
     begun_laid nzaat sized room end few starts small most two empty packs live = record {
       sized = sized;
       room = room;

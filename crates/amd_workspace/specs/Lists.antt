@@ -1,6 +1,7 @@
 -- The memory of an elimination: how much room its lists have, and that they keep it.
 use Rattle.std.specs.Prelude.{ℕ, ◌≤◌}
 use Rattle.std.specs.Vec.{vec_capacity}
+use Rattle.amd_merging.specs.Merging.{bucket_count}
 use Rattle.amd_workspace.specs.declared.lists.Words.{Words}
 use Rattle.amd_workspace.specs.declared.lists.Lists.{Lists}
 use Rattle.amd_workspace.specs.declared.lists.Memory.{Memory}
@@ -10,14 +11,14 @@ pub record KeepsWords {S U A : Type 0} (old new : Words S U A) : Type 0 where
   pub next : vec_capacity old.next ≤ vec_capacity new.next
   pub iw : vec_capacity old.iw ≤ vec_capacity new.iw
 
--- the lists with a place for each row have room for n rows
+-- the lists with a place for each row have room for n rows, and that of the buckets for theirs
 pub record HasRows {S P U A : Type 0} (n : ℕ) (l : Lists S P U A) : Type 0 where
   pub nv : n ≤ vec_capacity l.nv
   pub e_len : n ≤ vec_capacity l.e_len
   pub w : n ≤ vec_capacity l.w
   pub head : n ≤ vec_capacity l.head
   pub sides : n ≤ vec_capacity l.sides
-  pub hash : n ≤ vec_capacity l.hash
+  pub hash : bucket_count n ≤ vec_capacity l.hash
 
 -- all lists have room for n rows, and the words for so many
 pub record HasRoom {S P U A : Type 0} (n count : ℕ) (m : Memory S P U A) : Type 0 where

@@ -5,6 +5,7 @@
 ghost use Rattle.std.specs.Prelude.{IfOk};
 ghost use Rattle.amd_workspace.specs.Lists.{HasRoom, HasRows};
 
+use amd_merging::buckets::bucket_count;
 use amd_words::sides::Sides;
 use amd_words::{Cell, Signed, Unsigned, Word};
 use std::alloc::{AllocError, Allocator};
@@ -18,7 +19,7 @@ pub struct Words<S: Signed, U: Unsigned, A: Allocator> {
     pub iw: Vec<Word<S>, A>,
 }
 
-/// Lists of an elimination with a place for each row.
+/// Lists of an elimination with a place for each row, and that of the buckets.
 #[derive(Drop)]
 pub struct Lists<S: Signed, P: Signed, U: Unsigned, A: Allocator> {
     /// The number of rows of each class, and at the end that of each block.
@@ -63,7 +64,7 @@ impl<S: Signed, P: Signed, U: Unsigned, A: Allocator + Copy> Lists<S, P, U, A> {
             w: Vec::with_capacity(alloc, rows)?,
             head: Vec::with_capacity(alloc, rows)?,
             sides: Vec::with_capacity(alloc, rows)?,
-            hash: Vec::with_capacity(alloc, rows)?,
+            hash: Vec::with_capacity(alloc, bucket_count(rows))?,
         })
     }
 }

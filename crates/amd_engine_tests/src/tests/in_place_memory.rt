@@ -113,14 +113,14 @@ fn requests_sparing(rt: &impl Abort, alloc: Global, more: usize) -> u64 {
 }
 
 /// The workspace of a pair of rows has four words and those to spare; a block of the size that is counted has half of
-/// it and twelve words.
+/// it and nine words.
 #[test]
 fn asks_for_two_blocks_of_a_large_workspace(rt: HostRuntime) {
     let requests = requests_sparing(&rt, rt.alloc(), 0);
     check!(&rt; requests > 0 && requests_sparing(&rt, rt.alloc(), 8_379_996) == requests);
     check!(&rt; requests_sparing(&rt, rt.alloc(), 8_379_998) == requests.saturating_add(2));
     check!(&rt; requests_sparing(&rt, rt.alloc(), 14_399_998) == requests);
-    let heap = Refusing::counting(rt.alloc(), 0, 4 * (4_190_001 + 12));
+    let heap = Refusing::counting(rt.alloc(), 0, 4 * (4_190_001 + 9));
     let pair = unmarked(2, &[0, 1, 1], &[1]);
     check!(&rt; is_ordered_sparing(&rt, &heap, rt.alloc(), 8_379_998, &pair));
     check!(&rt; heap.of_size() == 2);

@@ -140,26 +140,26 @@ struct Sizes<'a> {
     n: i64,
     a_p: &'a [i64],
     a_i: &'a [i64],
-    sizes: [(usize, u64); 4],
+    sizes: [(usize, u64); 5],
 }
 
-/// Eight lists have 4 bytes for each row and three have 8, of which two are the result. The words of the lists have 4
-/// bytes each, and are the sum of the degrees, a fifth of it, and the number of rows. The block that is given back at
-/// once has so many words for the entries in the place of the degrees, and 12 for each row.
+/// Seven lists have 4 bytes for each row and three have 8, of which two are the result. The words of the lists have 4
+/// bytes each, and are the sum of the degrees, a fifth of it, and the number of rows. One bucket has 4 bytes. The block
+/// that is given back at once has so many words for the entries in the place of the degrees, and 9 for each row.
 static SIZES: [Sizes<'static>; 2] = [
     // 8 + 1 + 4 words, 4 + 0 + 4 for the entries
     Sizes {
         n: 4,
         a_p: &[0, 2, 3, 4, 4],
         a_i: &[1, 3, 2, 3],
-        sizes: [(16, 8), (32, 3), (4 * 13, 1), (4 * (8 + 48), 1)],
+        sizes: [(16, 7), (32, 3), (4 * 13, 1), (4, 1), (4 * (8 + 36), 1)],
     },
     // 10 + 2 + 5 words, 14 + 2 + 5 for the entries
     Sizes {
         n: 5,
         a_p: &[0, 2, 6, 10, 12, 14],
         a_i: &[0, 1, 0, 1, 2, 4, 1, 2, 3, 4, 2, 3, 1, 4],
-        sizes: [(20, 8), (40, 3), (4 * 17, 1), (4 * (21 + 60), 1)],
+        sizes: [(20, 7), (40, 3), (4 * 17, 1), (4, 1), (4 * (21 + 45), 1)],
     },
 ];
 

@@ -245,8 +245,8 @@ fn makes(rt: &impl Abort, alloc: Global, heap: &Refusing<Global>) -> bool {
     true
 }
 
-/// The number of requests of a workspace: nine lists with a place for each row, the words of the lists, and two lists
-/// for the transpose of a jumbled matrix.
+/// The number of requests of a workspace: eight lists with a place for each row, one with a place for each bucket, the
+/// words of the lists, and two lists for the transpose of a jumbled matrix.
 const REQUESTS: u64 = 12;
 
 #[test]

@@ -1,4 +1,4 @@
-use Rattle.std.proofs.Common.{ℕ, ◌≡◌, ◌≤◌, ◌<◌, ◌^◌, ◌∙◌, arith, rules, ap, length, pos, to_z, w64}
+use Rattle.std.proofs.Common.{ℕ, ◌≡◌, ◌≤◌, ◌<◌, ◌^◌, ◌∙◌, arith, rules, ap, le_of_eq, le_trans, length, pos, to_z, w64}
 use Rattle.std.specs.Prelude.{replicate}
 use Rattle.std.proofs.lemmas.Int.{to_z_pos}
 use Rattle.std.proofs.lemmas.List.{length-replicate}
@@ -33,6 +33,9 @@ overflow_cast-n g c = let small : c.args.n < 2 ^ 63 = low c.args.n c.requires.na
 pub overflow_cast-n-2 : goal.overflow_cast-n-2
 overflow_cast-n-2 g c = let small : c.args.n < 2 ^ 63 = low c.args.n c.requires.narrow.0 g.met.S.Signed.narrow in search rules
 
+pub fill_cells-requires-4-clause-room : goal.fill_cells-requires-4-clause-room
+fill_cells-requires-4-clause-room g c = le_trans (le_of_eq c.bucket_count.ensures) c.requires.room.1.hash
+
 pub returns-clause-fresh : goal.returns-clause-fresh
 returns-clause-fresh g c =
     let n : ℕ = c.args.n in
@@ -41,7 +44,7 @@ returns-clause-fresh g c =
     let sides = c.fill_sides.ensures.items in record {
       words = (ap length c.fill_words-2.ensures.items ∙ length-replicate n _, ap length c.fill_words.ensures.items ∙ length-replicate n _);
       figures = (ap length c.fill_cells.ensures.items ∙ none, ap length c.fill_cells-2.ensures.items ∙ none);
-      heads = (c.fill_cells-3.ensures.items, c.fill_cells-4.ensures.items);
+      heads = (c.fill_cells-3.ensures.items, c.fill_cells-4.ensures.items ∙ ap (λ m. replicate m n) c.bucket_count.ensures);
       links = (nexts_long _ ∙ ap length sides ∙ two, lasts_long _ ∙ ap length sides ∙ two);
     }
 

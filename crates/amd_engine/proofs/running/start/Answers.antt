@@ -23,7 +23,7 @@ returns-clause-starts g c = λ iw can gr lists lays.
     stands_start (option_copied a.choice.now.hold) a.threshold p _ e.begins (record {
       sized = (e.lengths.0, e.lengths.1, e.lengths.2, empty.buckets);
       linked = e.linked;
-      empty = λ b small. (empty.heads b small).1;
+      empty = empty.empty;
       live = e.live;
       dense = e.dense;
       sums = c.first_figures.ensures;

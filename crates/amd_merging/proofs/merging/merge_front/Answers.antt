@@ -3,7 +3,7 @@ use borrow.Author.Count.{falls_down}
 use Rattle.std.proofs.Common.{ℕ, List, refl, sym, ap, subst, ◌∙◌, ◌+◌, ◌-◌, ◌≤◌, arith, length}
 use Rattle.amd_words.specs.Words.{num, classes, rows}
 use Rattle.amd_round_laws.specs.Rounds.{alike_in}
-use Rattle.amd_merging.specs.Merging.{MergesAll, kept_of, represents_in}
+use Rattle.amd_merging.specs.Merging.{MergesAll, bucket_count, kept_of, represents_in}
 use Rattle.amd_lists.specs.Layout.{variables_in}
 use Rattle.amd_merging.proofs.FewMerged.{few_merged}
 use Rattle.amd_merging.proofs.MergeEnds.{made_is, made_from, still_linked}
@@ -45,7 +45,7 @@ merge_one-now-requires g c = record {
         o.2 ∙ n,
         l.3 ∙ n,
         o.3 ∙ n,
-        o.4 ∙ n,
+        o.4 ∙ ap bucket_count n,
         refl,
         ap length c.classes.invariant.keys ∙ l.7 ∙ n,
       ));
@@ -79,7 +79,7 @@ classes-preserved-then-is_class g c = let g = premises (length (nexts c.args.sid
       merging = step_settles _ _ _ _ _ _ _ _ _ _ _ _ g c.classes.left c.classes-test.true c.classes.invariant.within c.named-i.result
           c.named-i.ensures _ _ _ _ _ _ _ c.classes.invariant.merging (sym c.is_class.ensures ∙ c.if-is_class.true)
           _ _ _ _ _ _ _ (l.0 ∙ m ∙ sym o.0, l.1 ∙ m ∙ sym o.1, l.2 ∙ m ∙ sym o.2, l.4 ∙ m ∙ sym o.3)
-          (l.5 ∙ m ∙ sym o.4, l.6) d.rises d.under d.zeros (rw (sym c.classes.invariant.keys) d.settles);
+          (l.5 ∙ ap bucket_count m ∙ sym o.4, l.6) d.rises d.under d.zeros (rw (sym c.classes.invariant.keys) d.settles);
     }
 
 pub classes-preserved : goal.classes-preserved

@@ -13,9 +13,9 @@ use Rattle.amd_round_laws.proofs.Lists.Cuts.{cut_small}
 use Rattle.amd_words.specs.Words.{num, word, place, is_place, size_of, in_front, rows, Names}
 use Rattle.amd_lists.specs.Chains.{DegreeLists}
 use Rattle.amd_lists.specs.Renewal.{Filters}
-use Rattle.amd_merging.specs.Merging.{bucket_of}
+use Rattle.amd_merging.specs.Merging.{bucket_count, bucket_of}
 use Rattle.amd_merging.specs.Restoring.{marked_in, bound_in, put_all, Restores}
-use Rattle.amd_merging.proofs.Buckets.{bucket_least, bucket_same}
+use Rattle.amd_merging.proofs.BucketKeys.{bucket_small, bucket_same}
 use Rattle.amd_words.proofs.RowLists.{rows_has}
 use Rattle.amd_words.proofs.WordMarks.{rows_start, rows_next}
 use Rattle.amd_words.proofs.EachRow.{each_none, each_next}
@@ -132,7 +132,7 @@ place_class-bound-requires g c =
     let here : in_front c.loop-p.nv i ≡ true = sym c.is_marked.ensures ∙ c.if-is_marked.true in
     let old = c.requires.classes_are i named (sym mark_same ∙ here) in let s = was.restores.sizes i in let order = c.requires.order in
     let short = c.requires.short in let n = sym next in record {
-      lengths = (long.0 ∙ n, long.1 ∙ n, long.2 ∙ n, long.5 ∙ n);
+      lengths = (long.0 ∙ n, long.1 ∙ n, long.2 ∙ n, long.5 ∙ ap bucket_count n);
       short = (subst (λ q. q + 2 ≤ g.S.Signed.MOST) n short.0, le_trans (le_of_eq next) short.1);
       row = lt_of_le_of_lt (le_of_eq is) (lt_of_lt_of_le small (le_of_eq n));
       marked = here;
@@ -199,7 +199,7 @@ loop-p-preserved g c =
               ap length w.head-is ∙ v.2 ∙ long.3,
               ap length (ap nexts w.sides-is) ∙ v.3 ∙ long.3,
               ap length (ap lasts w.sides-is) ∙ v.4 ∙ long.3,
-              ap length w.hash-is ∙ v.5 ∙ long.3,
+              ap length w.hash-is ∙ v.5 ∙ ap bucket_count long.3,
             );
             filters = filters_as next (w.iw-is ∙ w.copy_word.ensures) w.end-is
                 (filters_yes n (in_front nv) (λ j. 0) 0 iw from from h p 0 at (omega arith) (let a = c.requires.front.0 in
@@ -229,7 +229,7 @@ loop-p-preserved g c =
                 (out_met given.0 given.2 b x tight m q.1)) ∙ was.lasts_kept x m q.1;
             empties = emptying_as next (w.hash-is ∙ hash_is)
                 (emptying_clears n iw nv from c.args.count c.args.hash.now (lasts c.args.sides.now) c.requires.heads k i is
-                c.loop-p.hash was.empties (lt_of_le_of_lt (bucket_least c.args.count (lasts c.args.sides.now) i) old.key) long.5);
+                c.loop-p.hash was.empties (bucket_small n c.args.count (lasts c.args.sides.now) i old.key) long.5);
             linked = λ lists out g.
                 let before = subst (λ m. DegreeLists m c.loop-p.head (nexts c.loop-p.sides) (lasts c.loop-p.sides) c.loop-p.degree
                 (put_all bound met lists))

@@ -1,5 +1,5 @@
 use Rattle.std.proofs.Common.{ℕ, ℤ, List, true, ◌≡◌, ◌+◌, ◌-◌, refl, sym, ap, subst, ◌∙◌, arith, cond, length}
-use Rattle.std.proofs.Common.{get_or-set_same, length-set}
+use Rattle.std.proofs.Common.{get_or-set_same, length-set, le_of_eq, lt_of_lt_of_le}
 use Rattle.std.proofs.lemmas.Bool.{cond-true, cond-false}
 use Rattle.amd_words.specs.Sides.{nexts, lasts}
 use Rattle.amd_words.specs.Words.{num, start, in_front}
@@ -9,6 +9,7 @@ use Rattle.amd_merging.specs.Closing.{Closes}
 use Rattle.amd_merging.specs.Premises.{CanRestore}
 use Rattle.amd_merging.specs.Effects.{RestoresFront}
 use Rattle.amd_lists.specs.Renewal.{Filters}
+use Rattle.amd_merging.specs.Merging.{bucket_count}
 use Rattle.amd_merging.specs.Restoring.{marked_in, bound_in, put_all, IsPlaceable}
 use Rattle.amd_rounds.specs.Parts.{front_at}
 use Rattle.amd_rounds.specs.Workspaces.{workspace_of}
@@ -66,7 +67,8 @@ returns g c =
         counts = c.close.ensures.counts;
         free_is = free_is ∙ ap (λ q. cond c.args.is_built (end_of q len' me) free) (sym same_pe);
         laid = subst (λ q. Layout n v.iw q e_len' len' c.if-is_built.free) (sym same_pe) laid;
-        empty = λ b k. let a = s.next in let d = told.empty b (omega (arith, a, k)) in omega (arith, a, d);
+        empty = λ b k. let a = s.next in let d = told.empty b (lt_of_lt_of_le k (le_of_eq (ap bucket_count (sym a)))) in
+            omega (arith, a, d);
         linked = λ lists none other h'.
             subst (λ z. DegreeLists n v.head (nexts v.sides) (lasts v.sides) z
             (put_all (bound_in border p.live nv p.degree.now) (marked_in nv front) lists)) (sym c.close.ensures.borders)
@@ -91,7 +93,7 @@ returns g c =
           head = l.2 ∙ s.next;
           next = l.3 ∙ s.next;
           last = l.4 ∙ s.next;
-          hash = l.5 ∙ s.next;
+          hash = l.5 ∙ ap bucket_count s.next;
         };
         same = rw same_pe refl;
       };
@@ -109,7 +111,7 @@ restore-end-requires g c =
     let ready : CanRestore g.S.Signed.MOST g.U.Unsigned.MOST c.args.border p.live (start p.pe.now c.args.me)
     (num p.len.now c.args.me) p.iw.now p.nv.now p.degree.now p.head.now p.hash.now p.sides.now
     = record {
-      lengths = (s.nv ∙ n, s.degree ∙ n, s.head ∙ n, refl, s.last ∙ n, s.hash ∙ n);
+      lengths = (s.nv ∙ n, s.degree ∙ n, s.head ∙ n, refl, s.last ∙ n, s.hash ∙ ap bucket_count n);
       short = (let a = w.2 in let b = w.3 in ((omega (arith, a, k)), (omega (arith, b, k))));
       front = (
         (let b = f.end in omega (arith, q, b)),
@@ -119,7 +121,7 @@ restore-end-requires g c =
       classes_are = λ i a b. subst (λ z. IsPlaceable z c.args.border p.nv.now p.degree.now (lasts p.sides.now) i) n
           (h.classes i a b);
       order = (h.order.0, (let a = h.order.1 in omega (arith, a, k)));
-      heads = λ b x y. h.heads b (omega (arith, x, k)) (omega (arith, y, k));
+      heads = λ b x y. h.heads b (lt_of_lt_of_le x (le_of_eq (ap bucket_count k))) (omega (arith, y, k));
       linked = (
         h.linked.0,
         subst (λ z. DegreeLists z p.head.now (nexts p.sides.now) (lasts p.sides.now) p.degree.now h.linked.0) n h.linked.1,

@@ -1,10 +1,10 @@
-use Rattle.std.proofs.Common.{◌≡◌, refl, sym, ap, subst, ◌∙◌, arith, length}
+use Rattle.std.proofs.Common.{◌≡◌, refl, sym, ap, subst, ◌∙◌, arith, length, le_of_eq, lt_of_lt_of_le}
 use Rattle.amd_words.specs.Sides.{nexts, lasts}
 use Rattle.std.proofs.Common.{◌+◌}
 use Rattle.amd_words.specs.Words.{classes, num, start}
 use Rattle.amd_merging.specs.Premises.{CanMergeFront}
 use Rattle.amd_merging.specs.Effects.{MergesClasses}
-use Rattle.amd_merging.specs.Merging.{AreRenewed}
+use Rattle.amd_merging.specs.Merging.{AreRenewed, bucket_count}
 use Rattle.amd_fronts.specs.Effects.{KeepsOrResets}
 use Rattle.amd_lists.specs.Chains.{DegreeLists}
 use Rattle.amd_rounds.specs.Parts.{front_at}
@@ -25,7 +25,7 @@ merge_front-work-requires g c =
     let ready : CanMergeFront g.S.Signed.MOST g.P.Signed.MOST g.U.Unsigned.MOST (start p.pe.now c.args.me) (num p.len.now c.args.me)
     c.renew_flag-flag.result p.iw.now p.pe.now p.e_len.now p.nv.now p.len.now c.renew_flag-flag.new.w p.hash.now p.sides.now
     = record {
-      lengths = (s.pe ∙ n, s.e_len ∙ n, s.nv ∙ n, s.len ∙ n, flag.long ∙ s.w ∙ n, s.hash ∙ n, refl, s.last ∙ n);
+      lengths = (s.pe ∙ n, s.e_len ∙ n, s.nv ∙ n, s.len ∙ n, flag.long ∙ s.w ∙ n, s.hash ∙ ap bucket_count n, refl, s.last ∙ n);
       short = (omega (arith, w, k), omega (arith, w, k), omega (arith, w, k));
       front = (
         (let x = f.within in let y = f.end in omega (arith, x, y)),
@@ -38,7 +38,7 @@ merge_front-work-requires g c =
           (renewed_zeros flag.zeros h.renewed);
       under = flag.under;
       room = (let x = s.w in let r = flag.room in omega (arith, a, x, r));
-      empty = λ b l. let e = h.empty b (omega (arith, l, k)) in omega (arith, e, k);
+      empty = λ b l. let e = h.empty b (lt_of_lt_of_le l (le_of_eq (ap bucket_count k))) in omega (arith, e, k);
     } in
     rw (at.0, at.1, same.0, same.1) ready
 
@@ -55,7 +55,8 @@ returns g c =
       merges = record {
         merged = told.merges.merged;
         made = told.merges.made;
-        heads = λ b k m. let n = s.next in told.merges.heads b (omega (arith, n, k)) (omega (arith, n, m));
+        heads = λ b k m. let n = s.next in
+            told.merges.heads b (lt_of_lt_of_le k (le_of_eq (ap bucket_count (sym n)))) (omega (arith, n, m));
         linked = λ lists other h.
             subst (λ n. DegreeLists n p.head.now (nexts v.sides) (lasts v.sides) p.degree.now lists) s.next
             (subst (λ l. DegreeLists (length (nexts p.sides.now)) p.head.now (nexts v.sides) l p.degree.now lists) (sym told.keys)
@@ -76,7 +77,7 @@ returns g c =
           head = s.head;
           next = l.6 ∙ s.next;
           last = ap length told.keys ∙ s.last;
-          hash = l.5 ∙ s.next;
+          hash = l.5 ∙ ap bucket_count s.next;
         };
         same = rw (same.0, same.1, told.keys) refl;
       };

@@ -1,9 +1,11 @@
-use Rattle.std.proofs.Common.{map, length, arith}
+use Rattle.std.proofs.Common.{map, length, arith, le_refl}
 use Rattle.std.specs.Option.{option_copied}
 use Rattle.amd_input.specs.Transposes.{IsCleanForm}
 use Rattle.amd_input.proofs.RowForms.{upto_fits}
+use Rattle.amd_workspace.specs.Lists.{HasRoom}
 use Rattle.amd.specs.Within.{list_words}
 use Rattle.amd.proofs.Orderings.{orders_turned}
+use Rattle.amd.proofs.Rooms.{less_room}
 use Rattle.amd.proofs.widths.WorkspaceIn.order.Given.{Over}
 use Rattle.amd.proofs.widths.WorkspaceIn.order.Goals.{After-deref-2}
 use Rattle.amd.proofs.widths.WorkspaceIn.order.Goals as goal
@@ -12,6 +14,39 @@ use Rattle.amd.proofs.widths.WorkspaceIn.order.Goals as goal
 clean : (g : Over) (c : After-deref-2 g) → IsCleanForm (length c.args.p.now) (map g.I.Index.value c.args.a_p.now)
     (map g.I.Index.value c.args.a_i.now) (map g.J.Index.value c.deref.result.now) (map g.J.Index.value c.deref-2.result.now)
 clean g c = rw (c.deref.ensures.value, c.deref-2.ensures.value) c.transpose_within.ensures.clean
+
+-- the memory in which the transpose was made
+taken : (g : Over) (c : After-deref-2 g) → let old = c.args.self.now.memory in let new = c.transpose_within.new in
+    HasRoom {S = g.row.S.Denot} {P = g.row.P.Denot} {U = g.row.U.Denot} {A = g.row.A.Denot} c.args.self.now.rows
+    (list_words c.args.self.now.rows c.args.self.now.entries) record {
+      words = record { next = new.next; iw = old.words.iw };
+      pe = old.pe;
+      len = old.len;
+      lists = record {
+        nv = old.lists.nv;
+        e_len = old.lists.e_len;
+        w = new.marks;
+        head = old.lists.head;
+        sides = old.lists.sides;
+        hash = old.lists.hash;
+      };
+    }
+taken g c =
+    let r = c.args.self.now.sized.memory in let e = c.transpose_within.ensures in
+    let marks = e.scratch.0 in let next = e.scratch.1 in let w = r.lists.w in let ends = r.next in record {
+      words = r.words;
+      next = omega (arith, ends, next);
+      pe = r.pe;
+      len = r.len;
+      lists = record {
+        nv = r.lists.nv;
+        e_len = r.lists.e_len;
+        w = omega (arith, w, marks);
+        head = r.lists.head;
+        sides = r.lists.sides;
+        hash = r.lists.hash;
+      };
+    }
 
 pub invariant_of-self : goal.invariant_of-self
 invariant_of-self g c =
@@ -31,6 +66,17 @@ transpose_within-requires-clause-names g c = (
   upto_fits g.J.Index.fits g.met.J.Index.zero_fits g.met.J.Index.between _ _ c.requires.names.1 c.requires.inside.1,
 )
 
+pub order_columns-requires-clause-room : goal.order_columns-requires-clause-room
+order_columns-requires-clause-room g c = let self = c.args.self.now in
+    less_room self.rows (list_words self.rows self.entries) (length c.args.p.now) (list_words self.rows self.entries) self.memory
+    self.sized.memory c.requires.inside.0 (le_refl (list_words self.rows self.entries))
+
+pub order_columns-requires-2-clause-room : goal.order_columns-requires-2-clause-room
+order_columns-requires-2-clause-room g c = let self = c.args.self.now in
+    less_room self.rows (list_words self.rows self.entries) (length c.args.p.now) (list_words self.rows self.entries) _
+    (taken g (goal.at.order_columns-requires-2-clause-room g c).After-deref-2) c.requires.inside.0
+    (le_refl (list_words self.rows self.entries))
+
 pub order_columns-requires-2-clause-given : goal.order_columns-requires-2-clause-given
 order_columns-requires-2-clause-given g c =
     let given = c.requires.given in let is = clean g (goal.at.order_columns-requires-2-clause-given g c).After-deref-2 in record {
@@ -43,24 +89,11 @@ order_columns-requires-2-clause-given g c =
 
 pub invariant_of-self-2 : goal.invariant_of-self-2
 invariant_of-self-2 g c =
-    let s = c.args.self.now.sized in let r = s.memory in let e = c.transpose_within.ensures in
-    let marks = e.scratch.0 in let next = e.scratch.1 in let pointers = e.room.0 in let columns = e.room.1 in
-    let w = r.lists.w in let ends = r.next in let wide = s.pointers in let long = s.columns in record {
+    let s = c.args.self.now.sized in let e = c.transpose_within.ensures in let pointers = e.room.0 in let columns = e.room.1 in
+    let wide = s.pointers in let long = s.columns in record {
       sized = record {
-        memory = c.order_columns-2.ensures.room c.args.self.now.rows (list_words c.args.self.now.rows c.args.self.now.entries) (record {
-          words = r.words;
-          next = omega (arith, ends, next);
-          pe = r.pe;
-          len = r.len;
-          lists = record {
-            nv = r.lists.nv;
-            e_len = r.lists.e_len;
-            w = omega (arith, w, marks);
-            head = r.lists.head;
-            sides = r.lists.sides;
-            hash = r.lists.hash;
-          };
-        });
+        memory = c.order_columns-2.ensures.room c.args.self.now.rows (list_words c.args.self.now.rows c.args.self.now.entries)
+            (taken g (goal.at.invariant_of-self-2 g c).After-deref-2);
         pointers = omega (arith, wide, pointers);
         columns = omega (arith, long, columns);
         narrow = s.narrow;
