@@ -2,7 +2,7 @@
 // that grows, or in numbers that a caller has. Source: George and Liu 1981; Liu 1990.
 
 ghost use Rattle.std.specs.Prelude.{ℕ, ◌≡◌, ◌<◌, ◌≤◌, ◌+◌, ◌++◌, [], drop, length, map, pos, slice_index, MatchOption};
-ghost use Rattle.std.specs.Prelude.{List, take};
+ghost use Rattle.std.specs.Prelude.{List, replicate, take};
 ghost use Rattle.std.specs.Vec.{vec_capacity};
 ghost use Rattle.amd_model.specs.Graph.{IsGraph};
 ghost use Rattle.amd_symbolic.specs.Columns.{FactorSizes, HoldFactor, PassesRoom};
@@ -13,7 +13,22 @@ ghost use Rattle.amd_symbolic.specs.Numbers.{FillsFront};
 
 use crate::column::{Marked, finish_column, plan_column};
 use amd_types::index::Index;
+use core::mem::replace_with;
 use std::alloc::Allocator;
+
+/// Appends so many zeros to numbers that have the capacity for them, and keep it. They are moved in and out, so that
+/// their length is stored once, and not at each zero.
+fn with_zeros<N: Index, A: Allocator>(mut rows: Vec<N, A>, size: usize) -> (Vec<N, A>, ())
+    requires room { length rows.items + size ≤ vec_capacity rows }
+    ensures zeros { (zero : N) × (N.value zero ≡ pos 0) × (result.0.items ≡ rows.items ++ replicate size zero) }
+    ensures capacity { vec_capacity result.0 ≡ vec_capacity rows }
+{
+    let zero = N::zero();
+    'zeros: for _ in 0..size {
+        rows.push_reserved(zero);
+    }
+    (rows, ())
+}
 
 /// Writes column `k` behind those before it, and returns the column that the marks then tell; none, exactly where it
 /// does not fit.
@@ -44,7 +59,7 @@ fn add_column<N: Index, A: Allocator>(
         (λ now. FillsFront N.value o (k + 1) ptr.new rows.new.items parent.new link.new now.column now.stamp mark.new) }
     ensures full { MatchOption result (Unit {0}) (λ now. slice_index ptr.new (k + 1) ≡ length rows.new.items) }
     ensures within { length rows.new.items ≤ room }
-    ensures capacity { room ≤ vec_capacity rows.new }
+    ensures capacity { vec_capacity rows.new ≡ vec_capacity rows.old }
 {
     let plan = plan_column(k, neighbours, marked, link, ptr, rows, mark, fresh);
     let begin = rows.len();
@@ -52,10 +67,8 @@ fn add_column<N: Index, A: Allocator>(
     if room - begin < size {
         return None;
     }
-    // The room is there, so nothing is asked for. The zeros of a column are still at hand when it is written over them.
-    let Ok(()) = rows.resize(begin + size, N::zero()) else {
-        unreachable!()
-    };
+    // The zeros of a column are still at hand when it is written over them.
+    replace_with(rows, size, with_zeros);
     finish_column(
         k,
         plan.from,
@@ -96,9 +109,9 @@ fn begin(ptr: &mut [usize], mark: &mut [usize], link: &mut [Option<usize>]) -> M
 /// place more than there are rows, and `parent`, `mark`, `link` and `fresh`, of which the last three are for the work
 /// alone, have as many.
 ///
-/// No memory is asked for. The steps are as many as there are later neighbours, entries and rows, times at most the
-/// logarithm of the number of rows that are new in a column: those that it does not take over from its greatest child.
-/// Each place is a number of the type.
+/// No memory is asked for: the capacity of `rows` stays as it is. The steps are as many as there are later neighbours,
+/// entries and rows, times at most the logarithm of the number of rows that are new in a column: those that it does not
+/// take over from its greatest child. Each place is a number of the type.
 pub fn fill<N: Index, A: Allocator>(
     starts: &[usize],
     later: &[usize],
@@ -121,6 +134,7 @@ pub fn fill<N: Index, A: Allocator>(
         (λ total. (total ≡ length rows.new.items) × (entries : List ℕ) ×
         (map N.value rows.new.items ≡ map pos entries) × HoldFactor o.graph o.rows ptr.new entries parent.new) }
     ensures within { length rows.new.items ≤ room }
+    ensures capacity { vec_capacity rows.new ≡ vec_capacity rows.old }
 {
     let mut marked = begin(ptr, mark, link);
     'columns: for k in 0..parent.len() {

@@ -5,7 +5,8 @@ use Rattle.amd_symbolic.proofs.fill.fill.Goals as goal
 pub add_column-requires : goal.add_column-requires
 add_column-requires g c κs inside =
     let q = c.requires.1.1 in
-    let i = c.columns.invariant in let r = i.filled.filled.parents.room in let t = c.columns-test.true in (
+    let i = c.columns.invariant in let r = i.filled.filled.parents.room in let t = c.columns-test.true in
+    let kept = i.capacity in let given = q.1.1.1.1.1 in (
       inside.0,
       (
         inside.1,
@@ -17,7 +18,7 @@ add_column-requires g c κs inside =
               q.1.0,
               (
                 q.1.1.0.each c.columns.k (omega (arith, r, t)),
-                (i.filled, (c.columns.auto.fresh ∙ q.1.1.1.0.fresh, (i.full, (i.within, i.capacity)))),
+                (i.filled, (c.columns.auto.fresh ∙ q.1.1.1.0.fresh, (i.full, (i.within, omega (arith, kept, given))))),
               ),
             ),
           ),

@@ -15,5 +15,5 @@ invariant-columns g l = record {
   filled : FillsFront g.N.Index.value g.o l.k l.ptr l.rows.items l.parent l.link l.marked.column l.marked.stamp l.mark;
   full : slice_index l.ptr l.k ≡ length l.rows.items;
   within : length l.rows.items ≤ l.room;
-  capacity : l.room ≤ vec_capacity l.rows;
+  capacity : vec_capacity l.rows ≡ vec_capacity l.fn.rows;
 }
