@@ -160,14 +160,17 @@ struct rimopaku_supernode_sizes {
  * the rows rows[ptr[s]] to rows[ptr[s + 1] - 1], in ascending order. parent[s] is the supernode in which the first of its rows lies, or -1
  * if it has none. With m supernodes first[m] is n, and ptr[m] the number of rows.
  *
- * Two calls. rimopaku_supernode_sizes tells how much room is needed; the memory that it takes does not grow with the factor.
- * rimopaku_supernodes then writes m places of parent, one more of first and ptr, and the rows. The arrays may be longer, if first and ptr
- * still have one place more than parent; what follows in each is unchanged. With n places of parent, and as many of rows as
- * rimopaku_columns needs, there is always room, and the first call may be left out. The second writes the rows in their place at once.
+ * Three calls. rimopaku_supernode_sizes tells how much room is needed; the memory that it takes does not grow with the factor.
+ * rimopaku_supernodes writes m places of parent, one more of first and ptr, and the rows, in their place at once. The arrays may be longer,
+ * if first and ptr still have one place more than parent; what follows in each is unchanged. rimopaku_supernodes_and_sizes does the work of
+ * both in the time of the second: it writes the supernodes, and tells the sizes. With n places of parent, and as many of rows as
+ * rimopaku_columns needs, there is always room: statistics.lnz of rimopaku_order is enough for its own p. So one call does, and what is
+ * left of the arrays may be given back.
  *
- * Both return RIMOPAKU_NOT_PERMUTATION if p is no permutation of the rows. The second returns RIMOPAKU_INVALID also if first_len or ptr_len
+ * All return RIMOPAKU_NOT_PERMUTATION if p is no permutation of the rows. The last two return RIMOPAKU_INVALID also if first_len or ptr_len
  * is not parent_len + 1; RIMOPAKU_ROOM_TOO_SMALL if parent has fewer places than there are supernodes, or rows than there are rows below
- * the blocks; and RIMOPAKU_OUT_OF_MEMORY also if the integer type cannot count the rows. After an error all is unchanged. */
+ * the blocks; and RIMOPAKU_OUT_OF_MEMORY also if the integer type cannot count the rows. After an error all is unchanged, but that with
+ * RIMOPAKU_ROOM_TOO_SMALL rimopaku_supernodes_and_sizes tells the sizes. */
 int32_t rimopaku_supernode_sizes_i32(int32_t n, const int32_t *a_p, size_t a_p_len, const int32_t *a_i, size_t a_i_len, const int32_t *p,
                                      size_t p_len, struct rimopaku_supernode_sizes *sizes);
 int32_t rimopaku_supernode_sizes_i64(int64_t n, const int64_t *a_p, size_t a_p_len, const int64_t *a_i, size_t a_i_len, const int64_t *p,
@@ -178,6 +181,14 @@ int32_t rimopaku_supernodes_i32(int32_t n, const int32_t *a_p, size_t a_p_len, c
 int32_t rimopaku_supernodes_i64(int64_t n, const int64_t *a_p, size_t a_p_len, const int64_t *a_i, size_t a_i_len, const int64_t *p,
                                 size_t p_len, int64_t *first, size_t first_len, int64_t *ptr, size_t ptr_len, int64_t *rows,
                                 size_t rows_len, int64_t *parent, size_t parent_len);
+int32_t rimopaku_supernodes_and_sizes_i32(int32_t n, const int32_t *a_p, size_t a_p_len, const int32_t *a_i, size_t a_i_len,
+                                          const int32_t *p, size_t p_len, int32_t *first, size_t first_len, int32_t *ptr, size_t ptr_len,
+                                          int32_t *rows, size_t rows_len, int32_t *parent, size_t parent_len,
+                                          struct rimopaku_supernode_sizes *sizes);
+int32_t rimopaku_supernodes_and_sizes_i64(int64_t n, const int64_t *a_p, size_t a_p_len, const int64_t *a_i, size_t a_i_len,
+                                          const int64_t *p, size_t p_len, int64_t *first, size_t first_len, int64_t *ptr, size_t ptr_len,
+                                          int64_t *rows, size_t rows_len, int64_t *parent, size_t parent_len,
+                                          struct rimopaku_supernode_sizes *sizes);
 
 /* Writes the degrees of the rows by the pattern of A + A', without its diagonal: degrees[i] is the number of its entries in row i. The
  * columns of the matrix must be sorted and have no duplicates. Of *statistics the fields n, nz, symmetry, nz_diag and nz_a_plus_at tell the

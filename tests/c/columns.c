@@ -1,5 +1,5 @@
 /* The columns of the factors of two matrices under given orders, and their counts, once with int32_t and once with int64_t; and a room that
- * is too small. */
+ * is too small. The same for the supernodes of one of them, by one call. */
 #include <stdio.h>
 
 #include "rimopaku.h"
@@ -70,10 +70,30 @@ static void nine_rows(size_t room)
     print_needs(needs);
 }
 
+static void nine_rows_by_supernodes(size_t places, size_t room)
+{
+    const int64_t a_p[] = {0, 1, 4, 7, 10, 12, 15, 17, 20, 22}, p[] = {6, 1, 0, 7, 2, 4, 5, 8, 3};
+    const int64_t a_i[] = {1, 0, 1, 2, 1, 2, 3, 2, 3, 4, 3, 5, 4, 5, 6, 5, 7, 6, 7, 8, 7, 8};
+    int64_t first[10] = {-9}, ptr[10] = {-9}, rows[10] = {-9}, parent[10] = {-9};
+    struct rimopaku_supernode_sizes sizes = {77, 77};
+    int32_t status = rimopaku_supernodes_and_sizes_i64(9, a_p, 10, a_i, 22, p, 9, first, places + 1, ptr, places + 1, rows, room, parent,
+                                                       places, &sizes);
+
+    printf("places %zu, room %zu, status %d, supernodes %zu, rows %zu\n", places, room, (int)status, sizes.supernodes, sizes.rows);
+    print("FIRST", first, 10);
+    print("PTR", ptr, 10);
+    print("ROWS", rows, 10);
+    print("PARENT", parent, 10);
+}
+
 int main(void)
 {
     six_rows();
     nine_rows(14);
     nine_rows(12);
+    nine_rows_by_supernodes(9, 10);
+    nine_rows_by_supernodes(6, 8);
+    nine_rows_by_supernodes(6, 7);
+    nine_rows_by_supernodes(5, 8);
     return 0;
 }

@@ -120,6 +120,20 @@ static int32_t supernodes_64(struct answer *to)
                                    ROWS);
 }
 
+static int32_t both_32(struct answer *to)
+{
+    int32_t *ptr = to->narrow + ROWS + 1, *parent = ptr + ROWS + 1, *rows = parent + ROWS;
+    return rimopaku_supernodes_and_sizes_i32(ROWS, a_p_32, ROWS + 1, a_i_32, 14, p_32, ROWS, to->narrow, ROWS + 1, ptr, ROWS + 1, rows, 5,
+                                             parent, ROWS, &to->sizes);
+}
+
+static int32_t both_64(struct answer *to)
+{
+    int64_t *ptr = to->wide + ROWS + 1, *parent = ptr + ROWS + 1, *rows = parent + ROWS;
+    return rimopaku_supernodes_and_sizes_i64(ROWS, a_p_64, ROWS + 1, a_i_64, 14, p_64, ROWS, to->wide, ROWS + 1, ptr, ROWS + 1, rows, 5,
+                                             parent, ROWS, &to->sizes);
+}
+
 static int32_t aat_32(struct answer *to)
 {
     return rimopaku_aat_i32(ROWS, a_p_32, ROWS + 1, a_i_32, 14, to->narrow, ROWS, &to->statistics);
@@ -225,6 +239,8 @@ int main(void)
     refuse_each("sizes of supernodes, 64 bits", supernode_sizes_64);
     refuse_each("supernodes, 32 bits", supernodes_32);
     refuse_each("supernodes, 64 bits", supernodes_64);
+    refuse_each("supernodes and sizes, 32 bits", both_32);
+    refuse_each("supernodes and sizes, 64 bits", both_64);
     refuse_each("aat, 32 bits", aat_32);
     refuse_each("aat, 64 bits", aat_64);
     refuse_each("preprocess, 32 bits", preprocess_32);

@@ -8,6 +8,7 @@
  *
  *     sizes        rimopaku_supernode_sizes
  *     supernodes   rimopaku_supernodes, with arrays as long as the sizes say
+ *     both         rimopaku_supernodes_and_sizes, with a place for each row, and for each entry that the ordering tells of
  *     columns      rimopaku_columns, with as much room as there are entries
  *     copied       these columns, copied from the supernodes
  *     cholmod      CHOLMOD: the permuted matrix, its tree, postorder and counts, and then cholmod_l_super_symbolic, with no relaxation
@@ -31,8 +32,8 @@
 typedef int64_t number;
 typedef SuiteSparse_long integer;
 
-enum call { SIZES, SUPERNODES, COLUMNS, COPIED, CHOLMOD, OF_THESE, CALLS };
-static const char *const names[CALLS] = {"sizes", "supernodes", "columns", "copied", "cholmod", "of_these"};
+enum call { SIZES, SUPERNODES, BOTH, COLUMNS, COPIED, CHOLMOD, OF_THESE, CALLS };
+static const char *const names[CALLS] = {"sizes", "supernodes", "both", "columns", "copied", "cholmod", "of_these"};
 static double least[CALLS];
 static long most[CALLS];
 
@@ -40,7 +41,7 @@ static long most[CALLS];
 static number n, entries, *pointers, *rows, *p, *p_inv;
 static struct rimopaku_supernode_sizes sizes;
 static number *first, *ptr, *below, *parent;
-static size_t needed;
+static size_t needed, bound;
 
 static double now(void)
 {
@@ -122,7 +123,7 @@ static void take_order(void)
     need(rimopaku_order_i64(n, pointers, n + 1, rows, entries, &parameters, p, n, p_inv, n, &statistics) >= 0, "no ordering");
     number *counts = memory(n), *over = memory(n);
     need(rimopaku_counts_i64(n, pointers, n + 1, rows, entries, p, n, counts, n, over, n, &needs) == 0, "no counts");
-    needed = needs.lnz;
+    needed = needs.lnz, bound = statistics.lnz;
     free(counts), free(over);
 }
 
@@ -145,6 +146,21 @@ static void time_copies(const number *begins, const number *entry)
     free(at), free(to);
 }
 
+/* The same supernodes in one call. */
+static void time_both(void)
+{
+    struct rimopaku_supernode_sizes told;
+    size_t m = n;
+    begin();
+    number *begins = memory(m + 1), *at = memory(m + 1), *some = memory(bound), *over = memory(m);
+    int32_t done = rimopaku_supernodes_and_sizes_i64(n, pointers, m + 1, rows, entries, p, m, begins, m + 1, at, m + 1, some, bound, over,
+                                                     m, &told);
+    end(BOTH);
+    need(done == 0 && told.supernodes == sizes.supernodes && told.rows == sizes.rows, "no supernodes in one call");
+    need(!memcmp(begins, first, sizeof(number) * (told.supernodes + 1)) && !memcmp(some, below, sizeof(number) * told.rows), "others");
+    free(begins), free(at), free(some), free(over);
+}
+
 static void time_ours(void)
 {
     free(first), free(ptr), free(below), free(parent);
@@ -157,6 +173,7 @@ static void time_ours(void)
     int32_t told = rimopaku_supernodes_i64(n, pointers, n + 1, rows, entries, p, n, first, m + 1, ptr, m + 1, below, sizes.rows, parent, m);
     end(SUPERNODES);
     need(told == 0, "no supernodes");
+    time_both();
     begin();
     number *begins = memory(n + 1), *entry = memory(needed), *over = memory(n);
     told = rimopaku_columns_i64(n, pointers, n + 1, rows, entries, p, n, begins, n + 1, entry, needed, over, n);

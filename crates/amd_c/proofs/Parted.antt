@@ -1,10 +1,27 @@
 -- What a partition into supernodes tells: there are supernodes, and how many.
-use Rattle.std.proofs.Common.{ℕ, ◌<◌, ◌⊎◌, inl, inr, arith, List, length}
+use Rattle.std.proofs.Common.{ℕ, ◌≡◌, ◌<◌, ◌⊎◌, inl, inr, sym, subst, arith, List, length}
 use Rattle.std.specs.Prelude.{slice_index, unsigned_abs, Option}
+use Rattle.amd_model.specs.Input.Pattern.{graph_of}
 use Rattle.amd_model.proofs.Patterns.DegreeSums.{pattern_graph}
 use Rattle.amd_symbolic.specs.Partitions.{IsPartitionOf, OrderedMatrix, order_of}
 use Rattle.amd_symbolic.proofs.SupernodeRoom.{room-of}
+use Rattle.amd_symbolic.specs.SupernodeLaws.{AreSizesOf, TellSizesOf}
 use Rattle.amd_c.specs.Supernodal.{Blocks, PassesPlaces}
+
+-- the sizes of the supernodes, by a partition
+pub sizes : (m : OrderedMatrix) (first owner ptr : List ℕ) (parent : List (Option ℕ)) (starts earlier : List ℕ) →
+    IsPartitionOf m first owner ptr parent starts earlier → (supernodes below : ℕ) → supernodes ≡ length parent →
+    below ≡ slice_index ptr (length parent) → AreSizesOf m.size m.pointers m.indices m.list supernodes below
+sizes m first owner ptr parent starts earlier p supernodes below count total =
+    let t = room-of (order_of m) (pattern_graph (unsigned_abs m.size) m.pointers m.indices) first owner ptr parent p.cut in
+    let g = graph_of (unsigned_abs m.size) m.pointers m.indices in
+    record {
+      form = p.form;
+      order = (order_of m).rows;
+      permutes = p.permutes;
+      tells = subst (λ x. TellSizesOf g (order_of m).rows x below) (sym count)
+          (subst (TellSizesOf g (order_of m).rows (length parent)) (sym total) t);
+    }
 
 pub passes : (m : OrderedMatrix) (first owner ptr : List ℕ) (parent : List (Option ℕ)) (starts earlier : List ℕ) →
     IsPartitionOf m first owner ptr parent starts earlier → (a : Blocks) →

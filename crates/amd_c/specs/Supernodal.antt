@@ -70,6 +70,23 @@ pub record SupernodesInto (n : ℤ) (ap ai p : List ℤ) (old new : Blocks) (num
   pub answer : number ≡ number_of_end outcome
   pub left : LeavesSupernodes n ap ai p old new outcome
 
+-- what a call with this outcome tells of the sizes: them where the supernodes are written or have no room, and else
+-- what was there
+abbrev pub TellsSizes : ℤ → List ℤ → List ℤ → List ℤ → SupernodeSizes → SupernodeSizes → Result (Unit {0}) Fault → Type 0
+TellsSizes n ap ai p old new (Ok _) = AreSizesOf n ap ai p new.supernodes new.rows
+TellsSizes n ap ai p old new (Err RoomTooSmall) = AreSizesOf n ap ai p new.supernodes new.rows
+TellsSizes n ap ai p old new (Err NotColumnForm) = new ≡ old
+TellsSizes n ap ai p old new (Err NotPermutation) = new ≡ old
+TellsSizes n ap ai p old new (Err OutOfMemory) = new ≡ old
+
+-- the number is that of an outcome, and the call leaves and tells what these say
+pub record SupernodesAndSizes (n : ℤ) (ap ai p : List ℤ) (old new : Blocks) (before after : SupernodeSizes) (number : ℤ) : Type 0
+  where
+    pub outcome : Result (Unit {0}) Fault
+    pub answer : number ≡ number_of_end outcome
+    pub left : LeavesSupernodes n ap ai p old new outcome
+    pub told : TellsSizes n ap ai p before after outcome
+
 -- what a call for the sizes leaves with this outcome: them, or after a fault all as it was
 abbrev pub LeavesSizes : ℤ → List ℤ → List ℤ → List ℤ → SupernodeSizes → SupernodeSizes → Result (Unit {0}) Fault → Type 0
 LeavesSizes n ap ai p old new (Ok _) = AreSizesOf n ap ai p new.supernodes new.rows

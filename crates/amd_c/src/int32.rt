@@ -11,12 +11,12 @@ ghost use Rattle.amd_calls.specs.Counting.{CountsInto, tallies};
 ghost use Rattle.amd_c.specs.Forests.{PostorderInto};
 ghost use Rattle.amd_c.specs.Laid.{EliminatesInto, HasPlacesFor, elimination};
 ghost use Rattle.amd_c.specs.Patterns.{DegreesInto, RowFormInto, counted, row_arrays};
-ghost use Rattle.amd_c.specs.Supernodal.{SizesInto, SupernodesInto, blocks};
+ghost use Rattle.amd_c.specs.Supernodal.{SizesInto, SupernodesAndSizes, SupernodesInto, blocks};
 
 use crate::forests::postorder_into;
 use crate::narrow::eliminate_narrow;
 use crate::patterns::{degrees_into, row_form_into};
-use crate::supernodal::{supernode_sizes_into, supernodes_into};
+use crate::supernodal::{supernode_sizes_into, supernodes_and_sizes_into, supernodes_into};
 use amd::valid::valid;
 use amd_calls::counting::counts_into;
 use amd_calls::factors::{columns_into, number_of_end};
@@ -229,6 +229,35 @@ pub extern "C" fn rimopaku_supernodes_i32(
         (blocks first.new ptr.new rows.new parent.new) result }
 {
     let outcome = supernodes_into(alloc, n, a_p, a_i, p, first, ptr, rows, parent);
+    number_of_end(&outcome)
+}
+
+/// Writes the supernodes of a factor as `rimopaku_supernodes_i32`, and how much room they need into `sizes`, and returns
+/// 0. One call is enough where the arrays are long, and where they are not it tells how long they have to be.
+///
+/// # Errors
+///
+/// The numbers of `rimopaku_supernodes_i32`; the arrays stay as they were. After -4 `sizes` tells how many supernodes
+/// there are, and how many rows below their blocks; after any other number it stays as it was.
+///
+/// Source: Rose, Tarjan and Lueker 1976; Liu 1990; Liu, Ng and Peyton 1993.
+#[unsafe(no_mangle)]
+pub extern "C" fn rimopaku_supernodes_and_sizes_i32(
+    alloc: Global,
+    n: i32,
+    a_p: &[i32],
+    a_i: &[i32],
+    p: &[i32],
+    first: &mut [i32],
+    ptr: &mut [i32],
+    rows: &mut [i32],
+    parent: &mut [i32],
+    sizes: &mut SupernodeSizes,
+) -> i32
+    ensures { SupernodesAndSizes n a_p.now a_i.now p.now (blocks first.old ptr.old rows.old parent.old)
+        (blocks first.new ptr.new rows.new parent.new) sizes.old sizes.new result }
+{
+    let outcome = supernodes_and_sizes_into(alloc, n, a_p, a_i, p, first, ptr, rows, parent, sizes);
     number_of_end(&outcome)
 }
 

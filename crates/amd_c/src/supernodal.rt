@@ -4,7 +4,7 @@
 
 ghost use Rattle.std.specs.Prelude.{◌≡◌, ◌↔◌, IsTrue, map};
 ghost use Rattle.amd_symbolic.specs.Partitions.{OrderedMatrix, ordered_matrix};
-ghost use Rattle.amd_c.specs.Supernodal.{HasBlockPlaces, LeavesSizes, LeavesSupernodes, blocks};
+ghost use Rattle.amd_c.specs.Supernodal.{HasBlockPlaces, LeavesSizes, LeavesSupernodes, TellsSizes, blocks};
 
 use amd_calls::factors::{has_numbers, has_parents, write_first_numbers, write_first_parents};
 use amd_calls::records::SupernodeSizes;
@@ -36,11 +36,15 @@ pub fn supernode_sizes_into<I: PrimInt>(
         sizes.new result }
 {
     let found = supernode_sizes(alloc, n, a_p, a_i, p)?;
-    *sizes = SupernodeSizes {
-        supernodes: found.supernodes,
-        rows: found.rows,
-    };
+    *sizes = sizes_of(found.supernodes, found.rows);
     Ok(())
+}
+
+/// The record of a number of supernodes and of rows below their blocks.
+fn sizes_of(supernodes: usize, rows: usize) -> SupernodeSizes
+    ensures { (result.supernodes ≡ supernodes) × (result.rows ≡ rows) }
+{
+    SupernodeSizes { supernodes, rows }
 }
 
 /// Whether two arrays have one place more than a third.
@@ -51,7 +55,7 @@ fn have_block_places<I: Index>(first: &[I], ptr: &[I], parent: &[I]) -> bool
         && ptr.len().checked_sub(1) == Some(parent.len())
 }
 
-/// Writes the supernodes of the matrix `m`, which has `n` rows.
+/// Writes the supernodes of the matrix `m`, which has `n` rows, and how much room they need.
 fn matrix_supernodes_into<I: PrimInt>(
     alloc: Global,
     n: I,
@@ -62,13 +66,15 @@ fn matrix_supernodes_into<I: PrimInt>(
     ptr: &mut [I],
     rows: &mut [I],
     parent: &mut [I],
+    sizes: &mut SupernodeSizes,
 ) -> Result<(), Fault>
     ghost m: { OrderedMatrix }
     requires fits { I.fits (I.value n) }
     requires matrix { m ≡ ordered_matrix (I.value n) (map I.value a_p.now) (map I.value a_i.now) (map I.value p.now) }
-    ensures { LeavesSupernodes m.size m.pointers m.indices m.list
+    ensures left { LeavesSupernodes m.size m.pointers m.indices m.list
         (blocks (map I.value first.old) (map I.value ptr.old) (map I.value rows.old) (map I.value parent.old))
         (blocks (map I.value first.new) (map I.value ptr.new) (map I.value rows.new) (map I.value parent.new)) result }
+    ensures told { TellsSizes m.size m.pointers m.indices m.list sizes.old sizes.new result }
 {
     if !have_block_places(first, ptr, parent) {
         return Err(Fault::NotColumnForm);
@@ -76,6 +82,7 @@ fn matrix_supernodes_into<I: PrimInt>(
     let found = supernode_partition(alloc, n, a_p, a_i, p)?;
     let below = found.cut.ptr[found.cut.parent.len()];
     if found.cut.parent.len() > parent.len() || below > rows.len() {
+        *sizes = sizes_of(found.cut.parent.len(), below);
         return Err(Fault::RoomTooSmall);
     }
     if !has_numbers::<I>(&found.cut.first)
@@ -88,7 +95,39 @@ fn matrix_supernodes_into<I: PrimInt>(
     write_first_numbers(&cut.first, first);
     write_first_numbers(&cut.ptr, ptr);
     write_first_parents(&cut.parent, parent);
+    *sizes = sizes_of(cut.parent.len(), below);
     Ok(())
+}
+
+/// Writes the supernodes of the factor of a matrix as [`supernodes_into`], and how much room they need into `sizes`.
+///
+/// # Errors
+///
+/// Those of [`supernodes_into`]; the arrays stay as they were. After `RoomTooSmall` `sizes` tells how much room is needed;
+/// after any other it stays as it was.
+///
+/// Source: Rose, Tarjan and Lueker 1976; Liu 1990; Liu, Ng and Peyton 1993.
+pub fn supernodes_and_sizes_into<I: PrimInt>(
+    alloc: Global,
+    n: I,
+    a_p: &[I],
+    a_i: &[I],
+    p: &[I],
+    first: &mut [I],
+    ptr: &mut [I],
+    rows: &mut [I],
+    parent: &mut [I],
+    sizes: &mut SupernodeSizes,
+) -> Result<(), Fault>
+    // A number of a primitive type is always in range.
+    requires fits { I.fits (I.value n) }
+    ensures left { LeavesSupernodes (I.value n) (map I.value a_p.now) (map I.value a_i.now) (map I.value p.now)
+        (blocks (map I.value first.old) (map I.value ptr.old) (map I.value rows.old) (map I.value parent.old))
+        (blocks (map I.value first.new) (map I.value ptr.new) (map I.value rows.new) (map I.value parent.new)) result }
+    ensures told { TellsSizes (I.value n) (map I.value a_p.now) (map I.value a_i.now) (map I.value p.now) sizes.old
+        sizes.new result }
+{
+    matrix_supernodes_into(alloc, n, p, a_p, a_i, first, ptr, rows, parent, sizes)
 }
 
 /// Writes the supernodes of the factor of a matrix under the order `p` into the caller's arrays.
@@ -122,5 +161,6 @@ pub fn supernodes_into<I: PrimInt>(
         (blocks (map I.value first.old) (map I.value ptr.old) (map I.value rows.old) (map I.value parent.old))
         (blocks (map I.value first.new) (map I.value ptr.new) (map I.value rows.new) (map I.value parent.new)) result }
 {
-    matrix_supernodes_into(alloc, n, p, a_p, a_i, first, ptr, rows, parent)
+    let mut sizes = sizes_of(0, 0);
+    supernodes_and_sizes_into(alloc, n, a_p, a_i, p, first, ptr, rows, parent, &mut sizes)
 }

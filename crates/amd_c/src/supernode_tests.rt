@@ -4,8 +4,12 @@
 
 ghost use Rattle.std.specs.Prelude.{◌≤◌};
 
-use crate::int32::{rimopaku_supernode_sizes_i32, rimopaku_supernodes_i32};
-use crate::int64::{rimopaku_supernode_sizes_i64, rimopaku_supernodes_i64};
+use crate::int32::{
+    rimopaku_supernode_sizes_i32, rimopaku_supernodes_and_sizes_i32, rimopaku_supernodes_i32,
+};
+use crate::int64::{
+    rimopaku_supernode_sizes_i64, rimopaku_supernodes_and_sizes_i64, rimopaku_supernodes_i64,
+};
 use amd_calls::records::SupernodeSizes;
 use std::alloc::Global;
 
@@ -136,4 +140,66 @@ fn supernodes_that_are_refused(rt: HostRuntime) {
         refused_cycle(alloc, &p, 2, 2, 2, 1) == -4 && refused_cycle(alloc, &p, 3, 3, 1, 2) == -4
     );
     assert!(rt; refused_cycle(alloc, &[0, 1, 1, 3], 3, 3, 2, 2) == -3);
+}
+
+/// The number that the supernodes of a cycle of four rows give in arrays with as many places as columns and so many for
+/// rows, and the sizes that are told.
+fn told_cycle(alloc: Global, p: &[i64], rows: usize) -> (i32, SupernodeSizes)
+    requires { rows ≤ 4 }
+{
+    let mut begins = [-5; 5];
+    let mut pointers = [-5; 5];
+    let mut entries = [-5; 4];
+    let mut parents = [-5; 4];
+    let mut sizes = no_sizes();
+    let number = rimopaku_supernodes_and_sizes_i64(
+        alloc,
+        4,
+        &[0, 2, 3, 4, 4],
+        &[1, 3, 2, 3],
+        p,
+        &mut begins,
+        &mut pointers,
+        &mut entries[..rows],
+        &mut parents,
+        &mut sizes,
+    );
+    (number, sizes)
+}
+
+#[test]
+fn sizes_that_are_told_beside(rt: HostRuntime) {
+    let (number, sizes) = told_cycle(rt.alloc(), &[0, 1, 2, 3], 4);
+    assert!(rt; number == 0 && sizes.supernodes == 2 && sizes.rows == 2);
+    let (number, sizes) = told_cycle(rt.alloc(), &[0, 1, 2, 3], 1);
+    assert!(rt; number == -4 && sizes.supernodes == 2 && sizes.rows == 2);
+    let (number, sizes) = told_cycle(rt.alloc(), &[0, 1, 1, 3], 4);
+    assert!(rt; number == -3 && sizes.supernodes == 77 && sizes.rows == 77);
+}
+
+#[test]
+fn supernodes_in_one_call(rt: HostRuntime) {
+    let a_p = [0, 2, 6, 10, 12, 14];
+    let a_i = [0, 1, 0, 1, 2, 4, 1, 2, 3, 4, 2, 3, 1, 4];
+    let p = [0, 3, 2, 4, 1];
+    let mut first = [-5; 6];
+    let mut ptr = [-5; 6];
+    let mut rows = [-5; 5];
+    let mut parent = [-5; 5];
+    let mut sizes = no_sizes();
+    let number = rimopaku_supernodes_and_sizes_i32(
+        rt.alloc(),
+        5,
+        &a_p,
+        &a_i,
+        &p,
+        &mut first,
+        &mut ptr,
+        &mut rows,
+        &mut parent,
+        &mut sizes,
+    );
+    assert!(rt; number == 0 && sizes.supernodes == 3 && sizes.rows == 2);
+    assert!(rt; first == [0, 1, 2, 5, -5, -5] && ptr == [0, 1, 2, 2, -5, -5]);
+    assert!(rt; rows == [4, 2, -5, -5, -5] && parent == [2, 2, -1, -5, -5]);
 }

@@ -8,7 +8,7 @@ use Rattle.amd_symbolic.proofs.TypedRows.{count-length}
 use Rattle.amd_calls.specs.Columns.{parent_number}
 use Rattle.amd_c.specs.Supernodal.{HasBlockPlaces}
 use Rattle.amd_calls.proofs.ColumnsLeft.{front_values}
-use Rattle.amd_c.proofs.Parted.{passes}
+use Rattle.amd_c.proofs.Parted.{passes, sizes}
 use Rattle.amd_c.proofs.supernodal.matrix_supernodes_into.Goals as goal
 use mathlib.Core.List.{not-mem-nil}
 use Rattle.amd_c.proofs.supernodal.matrix_supernodes_into.Goals.{then-len-parent-via-then-len-parent}
@@ -27,8 +27,8 @@ write_rows-cut-requires g c κs within =
       ),
     )
 
-pub returns-then-len-parent : goal.returns-then-len-parent
-returns-then-len-parent g c =
+pub returns-then-len-parent-clause-left : goal.returns-then-len-parent-clause-left
+returns-then-len-parent-clause-left g c =
     let value = g.I.Number.value in
     let cut = c.in_ok-found.found.cut in
     let p = partition_of c.requires.1.1.1 c.in_ok-found.ensures.partition in
@@ -49,8 +49,28 @@ returns-then-len-parent g c =
       refl,
     )
 
-pub returns : goal.returns
-returns g c =
+pub returns-then-len-parent-clause-told : goal.returns-then-len-parent-clause-told
+returns-then-len-parent-clause-told g c =
+    let cut = c.in_ok-found.found.cut in let lists = c.in_ok-found.found.lists in
+    let p = partition_of c.requires.1.1.1 c.in_ok-found.ensures.partition in
+    let ends = rows_end p c.len.result c.index-below.result.now (omega arith) c.index-below.ensures in
+    let told = c.sizes_of.ensures in
+    let all : c.len-then-len-parent.result ≡ length cut.parent.items = omega arith in
+    sizes g.m cut.first.items cut.owner.items cut.ptr.items cut.parent.items lists.starts.items lists.neighbours.items p _ _
+    (told.0 ∙ all) (told.1 ∙ ends.1)
+
+pub returns-clause-told : goal.returns-clause-told
+returns-clause-told g c =
+    let cut = c.in_ok-found.found.cut in let lists = c.in_ok-found.found.lists in
+    let p = partition_of c.requires.1.1.1 c.in_ok-found.ensures.partition in
+    let ends = rows_end p c.len.result c.index-below.result.now (omega arith) c.index-below.ensures in
+    let told = c.sizes_of-2.ensures in
+    let all : c.len-3.result ≡ length c.write_rows-cut.result.parent.items = omega arith in
+    sizes g.m cut.first.items cut.owner.items cut.ptr.items cut.parent.items lists.starts.items lists.neighbours.items p _ _
+    (told.0 ∙ all ∙ ap (λ x. length x.parent.items) c.write_rows-cut.ensures.same) (told.1 ∙ ends.1)
+
+pub returns-clause-left : goal.returns-clause-left
+returns-clause-left g c =
     let value = g.I.Number.value in
     let e = c.write_rows-cut.ensures in
     let cut = c.write_rows-cut.result in

@@ -1,6 +1,6 @@
 use Rattle.std.proofs.Common.{map}
 use Rattle.amd_symbolic.specs.Partitions.{ordered_matrix}
-use Rattle.amd_c.proofs.supernodal.supernodes_into.Given as goal
+use Rattle.amd_c.proofs.supernodal.supernodes_and_sizes_into.Given as goal
 
 abbrev pub ghost-matrix_supernodes_into : goal.ghost-matrix_supernodes_into
 ghost-matrix_supernodes_into g a = ordered_matrix (g.I.Number.value a.n) (map g.I.Number.value a.a_p.now) (map g.I.Number.value a.a_i.now)
