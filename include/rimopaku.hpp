@@ -11,8 +11,10 @@
 
 #include "rimopaku.h"
 
+#include <algorithm>
 #include <cstddef>
 #include <cstdint>
+#include <memory>
 #include <new>
 #include <stdexcept>
 #include <type_traits>
@@ -145,14 +147,12 @@ template <> struct Calls<4> {
         return rimopaku_counts_i32(n, a_p.data(), a_p.size(), a_i.data(), a_i.size(), p.data(), p.size(), sizes.data(), sizes.size() - 1,
                                    parent.data(), parent.size() - 1, &needs);
     }
-    static std::int32_t supernode_sizes(Integer n, Numbers a_p, Numbers a_i, Numbers p, rimopaku_supernode_sizes &sizes)
+    static std::int32_t supernodes_and_sizes(Integer n, Numbers a_p, Numbers a_i, Numbers p, Integer *first, Integer *ptr, Integer *rows,
+                                             Integer *parent, rimopaku_supernode_sizes &sizes)
     {
-        return rimopaku_supernode_sizes_i32(n, a_p.data(), a_p.size(), a_i.data(), a_i.size(), p.data(), p.size(), &sizes);
-    }
-    static std::int32_t supernodes(Integer n, Numbers a_p, Numbers a_i, Numbers p, List &first, List &ptr, List &rows, List &parent)
-    {
-        return rimopaku_supernodes_i32(n, a_p.data(), a_p.size(), a_i.data(), a_i.size(), p.data(), p.size(), first.data(), first.size(),
-                                       ptr.data(), ptr.size(), rows.data(), rows.size() - 1, parent.data(), parent.size() - 1);
+        const std::size_t places = sizes.supernodes, room = sizes.rows;
+        return rimopaku_supernodes_and_sizes_i32(n, a_p.data(), a_p.size(), a_i.data(), a_i.size(), p.data(), p.size(), first, places + 1, ptr,
+                                                 places + 1, rows, room, parent, places, &sizes);
     }
     static std::int32_t aat(Integer n, Numbers a_p, Numbers a_i, List &degrees, rimopaku_statistics &statistics)
     {
@@ -200,14 +200,12 @@ template <> struct Calls<8> {
         return rimopaku_counts_i64(n, a_p.data(), a_p.size(), a_i.data(), a_i.size(), p.data(), p.size(), sizes.data(), sizes.size() - 1,
                                    parent.data(), parent.size() - 1, &needs);
     }
-    static std::int32_t supernode_sizes(Integer n, Numbers a_p, Numbers a_i, Numbers p, rimopaku_supernode_sizes &sizes)
+    static std::int32_t supernodes_and_sizes(Integer n, Numbers a_p, Numbers a_i, Numbers p, Integer *first, Integer *ptr, Integer *rows,
+                                             Integer *parent, rimopaku_supernode_sizes &sizes)
     {
-        return rimopaku_supernode_sizes_i64(n, a_p.data(), a_p.size(), a_i.data(), a_i.size(), p.data(), p.size(), &sizes);
-    }
-    static std::int32_t supernodes(Integer n, Numbers a_p, Numbers a_i, Numbers p, List &first, List &ptr, List &rows, List &parent)
-    {
-        return rimopaku_supernodes_i64(n, a_p.data(), a_p.size(), a_i.data(), a_i.size(), p.data(), p.size(), first.data(), first.size(),
-                                       ptr.data(), ptr.size(), rows.data(), rows.size() - 1, parent.data(), parent.size() - 1);
+        const std::size_t places = sizes.supernodes, room = sizes.rows;
+        return rimopaku_supernodes_and_sizes_i64(n, a_p.data(), a_p.size(), a_i.data(), a_i.size(), p.data(), p.size(), first, places + 1, ptr,
+                                                 places + 1, rows, room, parent, places, &sizes);
     }
     static std::int32_t aat(Integer n, Numbers a_p, Numbers a_i, List &degrees, rimopaku_statistics &statistics)
     {
@@ -264,6 +262,15 @@ template <typename Number> std::vector<Number> room(std::size_t size)
 template <typename Integer, typename Number> std::vector<Integer> cut(std::vector<Number> &numbers, std::size_t size)
 {
     return std::vector<Integer>(numbers.begin(), numbers.begin() + static_cast<std::ptrdiff_t>(size));
+}
+
+/* Places for each column, and for as many rows as the factors of grids and of networks have below their blocks. */
+inline rimopaku_supernode_sizes likely_sizes(std::size_t columns, std::size_t entries)
+{
+    rimopaku_supernode_sizes sizes;
+    sizes.supernodes = columns;
+    sizes.rows = std::min(8 * entries, 2 * entries + 16 * columns);
+    return sizes;
 }
 
 } // namespace detail
@@ -346,17 +353,22 @@ template <typename Integer> Supernodes<Integer> supernodes(Integer n, View<Integ
 {
     typedef detail::As<Integer> As;
     typedef typename As::Number Number;
-    rimopaku_supernode_sizes sizes;
-    detail::count(n);
-    detail::checked(As::Call::supernode_sizes(static_cast<Number>(n), As::view(a_p), As::view(a_i), As::view(p), sizes));
-    std::vector<Number> first = detail::room<Number>(sizes.supernodes), ptr = detail::room<Number>(sizes.supernodes),
-                        rows = detail::room<Number>(sizes.rows), parent = detail::room<Number>(sizes.supernodes);
+    std::unique_ptr<Number[]> first, ptr, rows, parent;
+    rimopaku_supernode_sizes sizes = detail::likely_sizes(detail::count(n), a_i.size());
+    std::int32_t status = RIMOPAKU_ROOM_TOO_SMALL;
+    /* Where there are more rows than is likely, the first call tells the sizes, and the second one has the places. */
+    for (int calls = 0; calls < 2 && status == RIMOPAKU_ROOM_TOO_SMALL; calls++) {
+        first.reset(new Number[sizes.supernodes + 1]), ptr.reset(new Number[sizes.supernodes + 1]);
+        rows.reset(new Number[sizes.rows]), parent.reset(new Number[sizes.supernodes]);
+        status = As::Call::supernodes_and_sizes(static_cast<Number>(n), As::view(a_p), As::view(a_i), As::view(p), first.get(), ptr.get(),
+                                                rows.get(), parent.get(), sizes);
+    }
+    detail::checked(status);
     Supernodes<Integer> result;
-    detail::checked(As::Call::supernodes(static_cast<Number>(n), As::view(a_p), As::view(a_i), As::view(p), first, ptr, rows, parent));
-    result.first = detail::cut<Integer>(first, sizes.supernodes + 1);
-    result.ptr = detail::cut<Integer>(ptr, sizes.supernodes + 1);
-    result.rows = detail::cut<Integer>(rows, sizes.rows);
-    result.parent = detail::cut<Integer>(parent, sizes.supernodes);
+    result.first.assign(first.get(), first.get() + sizes.supernodes + 1);
+    result.ptr.assign(ptr.get(), ptr.get() + sizes.supernodes + 1);
+    result.rows.assign(rows.get(), rows.get() + sizes.rows);
+    result.parent.assign(parent.get(), parent.get() + sizes.supernodes);
     return result;
 }
 

@@ -46,6 +46,22 @@ template <typename Integer> void five_rows()
     print("indices", rows.indices);
 }
 
+/* A path of 40 rows, each joined to one of 40 more, which stand in all columns behind it: more rows than are likely. */
+template <typename Integer> void path()
+{
+    std::vector<Integer> a_p{0}, a_i, p;
+    for (int k = 0; k < 80; k++) {
+        if (k < 39)
+            a_i.push_back(k + 1);
+        if (k < 40)
+            a_i.push_back(k + 40);
+        a_p.push_back(static_cast<Integer>(a_i.size()));
+        p.push_back(k);
+    }
+    const auto supernodes = Rimopaku::supernodes<Integer>(80, a_p, a_i, p);
+    std::cout << "path " << supernodes.parent.size() << ' ' << supernodes.rows.size() << ' ' << supernodes.rows[5] << '\n';
+}
+
 void held_row()
 {
     const std::array<std::int64_t, 4> a_p{{0, 1, 2, 2}};
@@ -80,6 +96,8 @@ int main()
     five_rows<std::int32_t>();
     five_rows<std::int64_t>();
     five_rows<long long>();
+    path<std::int32_t>();
+    path<std::int64_t>();
     held_row();
     forest();
     print("no rows", Rimopaku::order<int>(0, none, none).p);

@@ -81,8 +81,7 @@ def _load() -> ctypes.CDLL:
             "order_holding": [*array, *array, POINTER(Parameters), *array, *array, *array, POINTER(Statistics)],
             "columns": [*array, *array, *array, *array, *array, *array],
             "counts": [*array, *array, *array, *array, *array, POINTER(Needs)],
-            "supernode_sizes": [*array, *array, *array, POINTER(SupernodeSizes)],
-            "supernodes": [*array, *array, *array, *array, *array, *array, *array],
+            "supernodes_and_sizes": [*array * 7, POINTER(SupernodeSizes)],
         }
         for name, types in arguments.items():
             function = getattr(library, f"rimopaku_{name}_{suffix}")
@@ -168,13 +167,30 @@ def counts(matrix: Columns, p: Numbers) -> Tuple[Numbers, Numbers]:
     return sizes, parent
 
 
-def supernodes(matrix: Columns, p: Numbers) -> Tuple[Numbers, Numbers, Numbers, Numbers]:
-    """Where the supernodes of that factor begin, where the rows of each begin, these rows, and the parents."""
-    kind, sizes = matrix.a_p.dtype, SupernodeSizes()
-    _call("supernode_sizes", matrix, p, sizes)
-    if sizes.rows > np.iinfo(kind).max:
-        return supernodes(matrix.widened(), p.astype(np.int64))
+def _supernodes_within(
+    matrix: Columns, p: Numbers, sizes: SupernodeSizes
+) -> Tuple[Numbers, Numbers, Numbers, Numbers]:
+    """The supernodes of that factor, in arrays of these sizes, which then are those that it has.
+
+    Raises RoomTooSmall if it has more.
+    """
+    kind = matrix.a_p.dtype
     first, ptr = np.empty(sizes.supernodes + 1, kind), np.empty(sizes.supernodes + 1, kind)
     rows, parent = np.empty(sizes.rows, kind), np.empty(sizes.supernodes, kind)
-    _call("supernodes", matrix, p, first, ptr, rows, parent)
-    return first, ptr, rows, parent
+    _call("supernodes_and_sizes", matrix, p, first, ptr, rows, parent, sizes)
+    count = sizes.supernodes
+    return first[: count + 1].copy(), ptr[: count + 1].copy(), rows[: sizes.rows].copy(), parent[:count].copy()
+
+
+def supernodes(matrix: Columns, p: Numbers) -> Tuple[Numbers, Numbers, Numbers, Numbers]:
+    """Where the supernodes of that factor begin, where the rows of each begin, these rows, and the parents."""
+    entries, most = len(matrix.a_i), np.iinfo(matrix.a_p.dtype).max
+    # As many rows as the factors of grids and of networks have below their blocks.
+    sizes = SupernodeSizes(matrix.n, min(8 * entries, 2 * entries + 16 * matrix.n, most))
+    try:
+        return _supernodes_within(matrix, p, sizes)
+    except RoomTooSmall:
+        # The sizes are told.
+        if sizes.rows > most:
+            return supernodes(matrix.widened(), p.astype(np.int64))
+        return _supernodes_within(matrix, p, sizes)

@@ -183,6 +183,17 @@ class Factors(unittest.TestCase):
                     self.assertTrue(told.first[over] <= below[0] < told.first[over + 1])
         self.assertRaises(ValueError, supernodes, FIVE, p=[0, 0, 1, 2, 3])
 
+    def test_more_rows_than_are_likely(self):
+        """A path of 40 rows, each joined to one of 40 more, which stand in all columns behind it."""
+        edges = [(k, k + 1) for k in range(39)] + [(k, k + 40) for k in range(40)]
+        columns, rows = zip(*edges)
+        for kind in (np.int32, np.int64):
+            path = sp.csc_matrix((np.ones(79), (rows, columns)), shape=(80, 80))
+            path.indptr, path.indices = path.indptr.astype(kind), path.indices.astype(kind)
+            told = supernodes(path, p=range(80))
+            self.assertEqual((len(told.parent), len(told.indices)), (40, 819))
+            self.assertEqual(told.indices[told.indptr[2] : told.indptr[3]].tolist(), [3, 40, 41, 42])
+
     def test_a_full_factor(self):
         star = sp.csc_matrix((np.ones(99), np.arange(1, 100), [0] + [99] * 100), shape=(100, 100))
         self.assertEqual(analyze(star, p=range(100)).nnz, 99 * 50)

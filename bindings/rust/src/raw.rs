@@ -65,11 +65,8 @@ pub(crate) trait Word: PrimInt {
     /// Calls `rimopaku_counts`, and returns the status.
     fn counts(input: Columns<Self>, p: &[Self], output: Tallies<Self>) -> i32;
 
-    /// Calls `rimopaku_supernode_sizes`, and returns the status.
-    fn supernode_sizes(input: Columns<Self>, p: &[Self], output: &mut Sizes) -> i32;
-
-    /// Calls `rimopaku_supernodes`, and returns the status.
-    fn supernodes(input: Columns<Self>, p: &[Self], output: Blocks<Self>) -> i32;
+    /// Calls `rimopaku_supernodes_and_sizes`, and returns the status.
+    fn supernodes_and_sizes(input: Columns<Self>, p: &[Self], output: Blocks<Self>) -> i32;
 }
 
 /// A matrix in compressed sparse columns.
@@ -101,12 +98,13 @@ pub(crate) struct Tallies<'a, T> {
     pub needs: &'a mut Needs,
 }
 
-/// Where the supernodes of a factor are written.
+/// Where the supernodes of a factor are written, and how many there are.
 pub(crate) struct Blocks<'a, T> {
     pub first: &'a mut [T],
     pub ptr: &'a mut [T],
     pub rows: &'a mut [T],
     pub parent: &'a mut [T],
+    pub sizes: &'a mut Sizes,
 }
 
 macro_rules! word {
@@ -116,8 +114,7 @@ macro_rules! word {
         $order_holding:ident,
         $columns:ident,
         $counts:ident,
-        $supernode_sizes:ident,
-        $supernodes:ident
+        $supernodes_and_sizes:ident
     ) => {
         extern "C" {
             fn $order(
@@ -177,17 +174,7 @@ macro_rules! word {
                 parent_len: usize,
                 needs: *mut Needs,
             ) -> i32;
-            fn $supernode_sizes(
-                n: $word,
-                a_p: *const $word,
-                a_p_len: usize,
-                a_i: *const $word,
-                a_i_len: usize,
-                p: *const $word,
-                p_len: usize,
-                sizes: *mut Sizes,
-            ) -> i32;
-            fn $supernodes(
+            fn $supernodes_and_sizes(
                 n: $word,
                 a_p: *const $word,
                 a_p_len: usize,
@@ -203,6 +190,7 @@ macro_rules! word {
                 rows_len: usize,
                 parent: *mut $word,
                 parent_len: usize,
+                sizes: *mut Sizes,
             ) -> i32;
         }
 
@@ -298,20 +286,12 @@ macro_rules! word {
                 }
             }
 
-            fn supernode_sizes(input: Columns<$word>, p: &[$word], output: &mut Sizes) -> i32 {
+            fn supernodes_and_sizes(input: Columns<$word>, p: &[$word], output: Blocks<$word>) -> i32 {
                 let Columns { n, a_p, a_i } = input;
+                let Blocks { first, ptr, rows, parent, sizes } = output;
                 // SAFETY: as in `order`.
                 unsafe {
-                    $supernode_sizes(n, a_p.as_ptr(), a_p.len(), a_i.as_ptr(), a_i.len(), p.as_ptr(), p.len(), output)
-                }
-            }
-
-            fn supernodes(input: Columns<$word>, p: &[$word], output: Blocks<$word>) -> i32 {
-                let Columns { n, a_p, a_i } = input;
-                let Blocks { first, ptr, rows, parent } = output;
-                // SAFETY: as in `order`.
-                unsafe {
-                    $supernodes(
+                    $supernodes_and_sizes(
                         n,
                         a_p.as_ptr(),
                         a_p.len(),
@@ -327,6 +307,7 @@ macro_rules! word {
                         rows.len(),
                         parent.as_mut_ptr(),
                         parent.len(),
+                        sizes,
                     )
                 }
             }
@@ -340,8 +321,7 @@ word!(
     rimopaku_order_holding_i32,
     rimopaku_columns_i32,
     rimopaku_counts_i32,
-    rimopaku_supernode_sizes_i32,
-    rimopaku_supernodes_i32
+    rimopaku_supernodes_and_sizes_i32
 );
 word!(
     i64,
@@ -349,6 +329,5 @@ word!(
     rimopaku_order_holding_i64,
     rimopaku_columns_i64,
     rimopaku_counts_i64,
-    rimopaku_supernode_sizes_i64,
-    rimopaku_supernodes_i64
+    rimopaku_supernodes_and_sizes_i64
 );

@@ -3,10 +3,10 @@
 use crate::factor::parents_of;
 use crate::numbers::{converted, filled, returned, Matrix};
 use crate::order::Fault;
-use crate::raw::{Blocks, Sizes, Word};
+use crate::raw::{Blocks, Columns, Sizes, Word, ROOM_TOO_SMALL};
 use alloc::vec;
 use alloc::vec::Vec;
-use num_traits::PrimInt;
+use num_traits::{cast, PrimInt};
 
 /// The entries of a factor `L` below its diagonal, by supernodes: the longest runs of places of which each but the last
 /// has the next one as its parent, and one entry more than that has.
@@ -45,27 +45,66 @@ impl<I> Supernodes<I> {
     }
 }
 
-/// Whether a call wrote what it is for.
-fn written(status: i32) -> Result<(), Fault> {
-    match status {
-        0 => Ok(()),
-        fault => Err(Fault::of(fault)),
+/// The lists of supernodes, in numbers of the library.
+struct Lists<T> {
+    first: Vec<T>,
+    ptr: Vec<T>,
+    rows: Vec<T>,
+    parent: Vec<T>,
+}
+
+impl<T: Word> Lists<T> {
+    /// Lists with places for so many.
+    fn with_places(sizes: &Sizes) -> Result<Lists<T>, Fault> {
+        let first = filled(T::zero(), sizes.supernodes + 1)?;
+        let ptr = filled(T::zero(), sizes.supernodes + 1)?;
+        let rows = filled(T::zero(), sizes.rows)?;
+        Ok(Lists { first, ptr, rows, parent: filled(T::zero(), sizes.supernodes)? })
+    }
+
+    /// The lists without the places behind so many.
+    fn cut(&mut self, sizes: &Sizes) {
+        self.first.truncate(sizes.supernodes + 1);
+        self.ptr.truncate(sizes.supernodes + 1);
+        self.rows.truncate(sizes.rows);
+        self.rows.shrink_to_fit();
+        self.parent.truncate(sizes.supernodes);
     }
 }
 
-/// The supernodes, in numbers of the library: two calls, for the sizes and for the numbers.
+/// Places for each column, and for as many rows as the factors of grids and of networks have below their blocks.
+fn likely_sizes(columns: usize, entries: usize) -> Sizes {
+    let most = entries.saturating_mul(2).saturating_add(columns.saturating_mul(16));
+    Sizes { supernodes: columns, rows: entries.saturating_mul(8).min(most) }
+}
+
+/// Writes the supernodes into lists of the library, with places for `sizes` of them, which then are those that there
+/// are, and returns the status.
+fn write<T: Word>(input: Columns<T>, p: &[T], sizes: &mut Sizes) -> Result<(Lists<T>, i32), Fault> {
+    let mut lists = Lists::with_places(sizes)?;
+    let Lists { first, ptr, rows, parent } = &mut lists;
+    let status = T::supernodes_and_sizes(input, p, Blocks { first, ptr, rows, parent, sizes });
+    Ok((lists, status))
+}
+
+/// The supernodes, in numbers of the library: one call, and a second one where there were more rows than is likely.
 fn supernodes_in<I: PrimInt, T: Word>(matrix: Matrix<I>, p: &[I]) -> Result<Supernodes<I>, Fault> {
     let copied = matrix.copied::<T>()?;
     let order = converted(p, T::NONE)?;
-    let mut sizes = Sizes::default();
-    written(T::supernode_sizes(copied.columns(), &order, &mut sizes))?;
-    let mut first = filled(T::zero(), sizes.supernodes + 1)?;
-    let mut ptr = filled(T::zero(), sizes.supernodes + 1)?;
-    let mut rows = filled(T::zero(), sizes.rows)?;
-    let mut parent = filled(T::zero(), sizes.supernodes)?;
-    let output = Blocks { first: &mut first, ptr: &mut ptr, rows: &mut rows, parent: &mut parent };
-    written(T::supernodes(copied.columns(), &order, output))?;
+    let mut sizes = likely_sizes(matrix.size, matrix.entries());
+    let (mut lists, mut status) = write(copied.columns(), &order, &mut sizes)?;
+    if status == ROOM_TOO_SMALL {
+        // Memory is asked for only where the type counts the rows.
+        cast::<usize, T>(sizes.rows).ok_or(Fault::OutOfMemory)?;
+        drop(lists);
+        (lists, status) = write(copied.columns(), &order, &mut sizes)?;
+    }
+    if status < 0 {
+        return Err(Fault::of(status));
+    }
     drop(copied);
+    lists.cut(&sizes);
+    let Lists { first, ptr, rows, parent } = lists;
     let first = converted(&first, 0)?;
     let ptr = converted(&ptr, 0)?;
     Ok(Supernodes { first, ptr, rows: returned(rows)?, parent: parents_of(&parent)? })
@@ -103,7 +142,21 @@ pub fn supernodes<I: PrimInt>(n: I, a_p: &[I], a_i: &[I], p: &[I]) -> Result<Sup
 
 #[cfg(test)]
 mod tests {
-    use super::{supernodes_in, Matrix};
+    use super::{likely_sizes, supernodes_in, Matrix};
+    use alloc::vec::Vec;
+
+    /// A path of 40 rows, each joined to one of 40 more, which stand in all columns behind it.
+    #[test]
+    fn more_rows_than_are_likely() {
+        let a_p: Vec<u8> = (0..40).map(|k| 2 * k).chain([79; 41]).collect();
+        let a_i: Vec<u8> = (0..39).flat_map(|k| [k + 1, k + 40]).chain([79]).collect();
+        let p: Vec<u8> = (0..80).collect();
+        let matrix = Matrix::new(80, &a_p, &a_i).expect("long enough");
+        let told = supernodes_in::<u8, i32>(matrix, &p).expect("supernodes");
+        assert!(told.rows.len() > likely_sizes(80, 79).rows);
+        assert_eq!((told.len(), told.rows.len(), told.below(2)), (40, 819, &[3, 40, 41, 42][..]));
+        assert_eq!(Ok(told), supernodes_in::<u8, i64>(matrix, &p));
+    }
 
     #[test]
     fn both_widths_give_the_same() {
