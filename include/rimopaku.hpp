@@ -151,8 +151,8 @@ template <> struct Calls<4> {
                                              Integer *parent, rimopaku_supernode_sizes &sizes)
     {
         const std::size_t places = sizes.supernodes, room = sizes.rows;
-        return rimopaku_supernodes_and_sizes_i32(n, a_p.data(), a_p.size(), a_i.data(), a_i.size(), p.data(), p.size(), first, places + 1, ptr,
-                                                 places + 1, rows, room, parent, places, &sizes);
+        return rimopaku_supernodes_and_sizes_i32(n, a_p.data(), a_p.size(), a_i.data(), a_i.size(), p.data(), p.size(), first, places + 1,
+                                                 ptr, places + 1, rows, room, parent, places, &sizes);
     }
     static std::int32_t aat(Integer n, Numbers a_p, Numbers a_i, List &degrees, rimopaku_statistics &statistics)
     {
@@ -204,8 +204,8 @@ template <> struct Calls<8> {
                                              Integer *parent, rimopaku_supernode_sizes &sizes)
     {
         const std::size_t places = sizes.supernodes, room = sizes.rows;
-        return rimopaku_supernodes_and_sizes_i64(n, a_p.data(), a_p.size(), a_i.data(), a_i.size(), p.data(), p.size(), first, places + 1, ptr,
-                                                 places + 1, rows, room, parent, places, &sizes);
+        return rimopaku_supernodes_and_sizes_i64(n, a_p.data(), a_p.size(), a_i.data(), a_i.size(), p.data(), p.size(), first, places + 1,
+                                                 ptr, places + 1, rows, room, parent, places, &sizes);
     }
     static std::int32_t aat(Integer n, Numbers a_p, Numbers a_i, List &degrees, rimopaku_statistics &statistics)
     {

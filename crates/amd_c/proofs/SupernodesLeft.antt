@@ -1,4 +1,4 @@
--- What the supernodes of a factor leave in a caller's arrays, and the same for the integers of C, whose values are themselves.
+-- What the supernodes of a factor leave in a caller's arrays, and the same for the integers of C, which are their values.
 use Rattle.std.proofs.Common.{ℤ, List, ◌≡◌, ◌∙◌, ap, subst, to_z, of_z, w32}
 use Rattle.std.specs.Prelude.{Result}
 use Rattle.std.proofs.lemmas.List.{map-id}

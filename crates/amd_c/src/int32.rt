@@ -232,8 +232,8 @@ pub extern "C" fn rimopaku_supernodes_i32(
     number_of_end(&outcome)
 }
 
-/// Writes the supernodes of a factor as `rimopaku_supernodes_i32`, and how much room they need into `sizes`, and returns
-/// 0. One call is enough where the arrays are long, and where they are not it tells how long they have to be.
+/// Writes the supernodes of a factor as `rimopaku_supernodes_i32`, and how much room they need into `sizes`, and
+/// returns 0. One call is enough where the arrays are long, and where they are not it tells how long they have to be.
 ///
 /// # Errors
 ///

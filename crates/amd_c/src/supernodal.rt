@@ -103,8 +103,8 @@ fn matrix_supernodes_into<I: PrimInt>(
 ///
 /// # Errors
 ///
-/// Those of [`supernodes_into`]; the arrays stay as they were. After `RoomTooSmall` `sizes` tells how much room is needed;
-/// after any other it stays as it was.
+/// Those of [`supernodes_into`]; the arrays stay as they were. After `RoomTooSmall` `sizes` tells how much room is
+/// needed; after any other it stays as it was.
 ///
 /// Source: Rose, Tarjan and Lueker 1976; Liu 1990; Liu, Ng and Peyton 1993.
 pub fn supernodes_and_sizes_into<I: PrimInt>(
