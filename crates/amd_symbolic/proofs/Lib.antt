@@ -19,6 +19,8 @@ pub mod PlacedOrders
 -- The columns: children, new rows, merging, and columns that stand one behind the other.
 pub mod Descent
 pub mod Tails
+pub mod ThinRows
+pub mod ThinCounts
 pub mod NewRows
 pub mod Completing
 pub mod Merging

@@ -24,6 +24,7 @@ pub mod Numbers
 pub mod Walks
 pub mod Ancestors
 pub mod Ranks
+pub mod Thinning
 pub mod Meetings
 -- The columns by supernodes.
 pub mod Supernodes

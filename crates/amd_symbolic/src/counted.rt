@@ -7,10 +7,14 @@ ghost use Rattle.amd_symbolic.specs.Neighbours.{HasEarlier};
 ghost use Rattle.amd_symbolic.specs.Orders.{Order};
 ghost use Rattle.amd_symbolic.specs.Counted.{IsCutNeed, TellCounts, wide_cut};
 ghost use Rattle.amd_symbolic.specs.Sizes.{HoldSizes};
+ghost use Rattle.amd_symbolic.specs.Thinning.{Thins};
+ghost use Rattle.amd_symbolic.specs.Walks.{TellParents};
 
 use crate::needs::Need;
 use crate::neighbours::turned_lists;
-use crate::sizes::count_by_meetings;
+use crate::sizes::{count_by_meetings, count_by_tree};
+use crate::thinning::thin_lists;
+use crate::tree::elimination_tree;
 use std::alloc::{AllocError, Allocator};
 
 /// How many entries the columns of a factor have below its diagonal, and what the factor needs.
@@ -126,22 +130,75 @@ pub fn written_sizes<A: Allocator + Copy>(
     Ok(Sized { sizes, parent })
 }
 
-/// Takes all memory, counts by the lists of earlier neighbours, and sums up what the factor needs.
+/// The number of entries of each column, by lists of earlier neighbours and the parents. `work` is for the work alone.
+///
+/// # Errors
+///
+/// A refused request for memory.
+fn tree_sizes<A: Allocator + Copy>(
+    alloc: A,
+    starts: &[usize],
+    earlier: &[usize],
+    parent: &[Option<usize>],
+    work: &mut [usize],
+) -> Result<Vec<usize, A>, AllocError>
+    ghost at: { Order × Order }
+    requires laws { IsGraph at.0.graph }
+    requires thins { Thins at.0 at.1 }
+    requires earlier { HasEarlier at.1 starts.now earlier.now }
+    requires parents { TellParents at.0 (length at.0.rows) parent.now }
+    requires work { length work.old ≡ 8 * length at.0.rows + 5 }
+    ensures { IfOk result (λ sizes. HoldSizes at.0.graph at.0.rows sizes.items parent.now) }
+{
+    let later = turned_lists(alloc, starts, earlier)?;
+    let mut sizes = vec![in alloc; 0; parent.len()]?;
+    count_by_tree(&later.starts, &later.neighbours, parent, &mut sizes, work);
+    Ok(sizes)
+}
+
+/// Takes all memory, and counts by the lists of earlier neighbours, which are thinned out first.
+///
+/// # Errors
+///
+/// A refused request for memory.
+fn thinned_sizes<A: Allocator + Copy>(
+    alloc: A,
+    starts: &mut [usize],
+    earlier: &mut [usize],
+) -> Result<Sized<A>, AllocError>
+    ghost o: { Order }
+    requires laws { IsGraph o.graph }
+    requires earlier { HasEarlier o starts.old earlier.old }
+    ensures { IfOk result (λ c. HoldSizes o.graph o.rows c.sizes.items c.parent.items) }
+{
+    let columns = starts.len() - 1;
+    let mut parent = vec![in alloc; None; columns]?;
+    let Some(words) = work_words(columns) else {
+        return Err(AllocError);
+    };
+    let mut work = vec![in alloc; 0; words]?;
+    elimination_tree(starts, earlier, &mut parent, &mut work[..columns]);
+    thin_lists(starts, earlier, &parent, &mut work[..columns]);
+    let sizes = tree_sizes(alloc, starts, earlier, &parent, &mut work)?;
+    Ok(Sized { sizes, parent })
+}
+
+/// Takes all memory, counts by the lists of earlier neighbours, which are thinned out, and sums up what a factor needs.
 ///
 /// # Errors
 ///
 /// A refused request for memory.
 pub fn written_counts<A: Allocator + Copy>(
     alloc: A,
-    starts: &[usize],
-    earlier: &[usize],
+    starts: &mut [usize],
+    earlier: &mut [usize],
 ) -> Result<Counts<A>, AllocError>
     ghost o: { Order }
     requires laws { IsGraph o.graph }
-    requires earlier { HasEarlier o starts.now earlier.now }
+    requires earlier { HasEarlier o starts.old earlier.old }
     ensures { IfOk result (λ c. TellCounts o.graph o.rows c.sizes.items c.parent.items c.need) }
 {
-    let sized = written_sizes(alloc, starts, earlier)?;
+    let sized = thinned_sizes(alloc, starts, earlier)?;
     let need = need_of_sizes(&sized.sizes);
     Ok(Counts {
         sizes: sized.sizes,

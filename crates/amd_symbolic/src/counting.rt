@@ -38,8 +38,8 @@ fn form_counts<I: Index, A: Allocator + Copy>(
     ensures fault { IfErr result (λ e. IsCountsFault (pos size) (map I.value a_p.now) (map I.value a_i.now)
         (map I.value p.now) e) }
 {
-    let lists = ordered_lists(alloc, size, a_p, a_i, p)?;
-    Ok(written_counts(alloc, &lists.starts, &lists.neighbours)?)
+    let mut lists = ordered_lists(alloc, size, a_p, a_i, p)?;
+    Ok(written_counts(alloc, &mut lists.starts, &mut lists.neighbours)?)
 }
 
 /// The counts of a matrix with `n` rows, as [`counts`].

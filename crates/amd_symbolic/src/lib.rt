@@ -65,6 +65,7 @@ pub mod sizes;
 pub mod supernodal;
 pub mod supernode_laws;
 pub mod sweep;
+pub mod thinning;
 pub mod tree;
 pub mod turning;
 pub mod workspace;

@@ -1,4 +1,4 @@
 use Rattle.amd_symbolic.proofs.counted.written_counts.Given as goal
 
-abbrev pub ghost-written_sizes : goal.ghost-written_sizes
-ghost-written_sizes g a = g.o
+abbrev pub ghost-thinned_sizes : goal.ghost-thinned_sizes
+ghost-thinned_sizes g a = g.o

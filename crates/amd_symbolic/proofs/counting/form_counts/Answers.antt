@@ -13,7 +13,7 @@ written_counts-requires g c κs within =
       within,
       (
         laws c.args.size a_p a_i p g.o c.requires.1.1.1.0 c.requires.1.1.1.1,
-        earlier_of c.args.size a_p a_i p g.o c.requires.1.1.1.0 c.requires.1.1.1.1 c.deref.result.now c.deref-2.result.now
-            (rw (c.deref.ensures.value, c.deref-2.ensures.value) c.in_ok-lists.ensures.lists),
+        earlier_of c.args.size a_p a_i p g.o c.requires.1.1.1.0 c.requires.1.1.1.1 c.deref_mut.result.now c.deref_mut-2.result.now
+            (rw (c.deref_mut.ensures.value, c.deref_mut-2.ensures.value) c.in_ok-lists.ensures.lists),
       ),
     )
