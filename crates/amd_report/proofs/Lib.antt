@@ -2,6 +2,7 @@
 pub mod Pieces
 pub mod Mirrors
 pub mod Passing
+pub mod Signing
 pub mod Widths
 pub mod Classes
 pub mod Connecting

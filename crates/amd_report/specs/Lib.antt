@@ -4,6 +4,7 @@ pub mod Degrees
 pub mod Sources
 pub mod Shapes
 pub mod Passes
+pub mod Signs
 pub mod Descriptions
 pub mod Json
 pub mod FactorTexts

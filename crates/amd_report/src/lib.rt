@@ -29,6 +29,7 @@ pub mod pattern;
 mod profile;
 pub mod rows;
 pub mod shapes;
+mod signs;
 mod sources;
 pub mod symmetry;
 pub mod tree;
