@@ -1,7 +1,7 @@
 -- The first of the row itself and of those that it was met beside.
 use Rattle.std.proofs.Common.{◌≡◌, ◌+◌, ◌-◌, ◌<◌, ◌≤◌, ◌⊎◌, inl, inr, ℕ, Bool, List, map, pos, length, set, refl, sym}
 use Rattle.std.proofs.Common.{subst, ◌∙◌, arith, not, eqb, ◌&&◌, ◌||◌}
-use Rattle.std.specs.Prelude.{slice_index, min}
+use Rattle.std.specs.Prelude.{slice_index, max, min}
 use Rattle.std.proofs.lemmas.Bool.{and_parts, and_from, or_cases, or_left, or_right, cases_Bool, cases_eq, cases_lt, ne_eqb}
 use Rattle.std.proofs.lemmas.List.{get_or-set_same, get_or-set_other, length-set}
 use Rattle.amd_model.specs.Below.{sum_below}
@@ -85,48 +85,49 @@ module _ (ap' ai : List ℕ) where
 
   -- one entry more
   pub firsts-next : (j place : ℕ) (old : List ℕ) → slice_index ap' j ≤ place → place < slice_index ap' (j + 1) →
-      slice_index ai place < length old → j < length old → AreFirsts ap' ai j place old → (mid new : List ℕ) →
-      mid ≡ set old (slice_index ai place) (min (slice_index old (slice_index ai place)) j) →
-      new ≡ set mid j (min (slice_index mid j) (slice_index ai place)) → AreFirsts ap' ai j (place + 1) new
+      slice_index ai place < length old → j < length old → AreFirsts ap' ai j place old → (new : List ℕ) →
+      new ≡ set old (max (slice_index ai place) j) (min (slice_index old (max (slice_index ai place) j)) (min (slice_index ai place) j)) →
+      AreFirsts ap' ai j (place + 1) new
   unfolding both
-  firsts-next j place old low high li lj h mid new m w =
+  firsts-next j place old low high li lj h new w =
       let i : ℕ = slice_index ai place in
-      let first : Lowered old mid i j = subst (λ z. Lowered old z i j) (sym m) (lowered old i j li) in
-      let long = first.long in
-      let second : Lowered mid new j i = subst (λ z. Lowered mid z j i) (sym w) (lowered mid j i (omega (arith, long, lj))) in
-      let more = second.long in
+      let less : Lowered old new (max i j) (min i j) =
+      subst (λ z. Lowered old z (max i j) (min i j)) (sym w) (lowered old (max i j) (min i j) (omega (arith, li, lj))) in
+      let long = less.long in
       let met = met-new ap' ai j place low high in
       let most : (k : ℕ) → k < length old → slice_index old k ≤ k =
       λ k l. elim (h.found k l) [ inl e ↦ omega (arith, e) | inr f ↦ (let g = f.0 in omega (arith, g)) ] in
       record {
         low = low-of j (place + 1) new (met-next ap' ai (both new) j place
             (λ a c x. (let b = met-both j place old h a c x in
-            let p = first.less a in let q = second.less a in let r = first.less c in let s = second.less c in
-            let u = b.0 in let v = b.1 in
-            (omega (arith, p, q, u), omega (arith, r, s, v))))
-            ((let p = first.there in let q = second.less i in omega (arith, p, q)), second.there));
-        found = λ k l. elim (second.only k) [
-          | inl same ↦ elim (first.only k) [
-            | inl as_before ↦ (let is = same ∙ as_before in elim (h.found k (omega (arith, l, more, long))) [
-              | inl e ↦ inl (is ∙ e)
-              | inr f ↦ inr (
-                (let g = f.0 in omega (arith, is, g)),
-                subst (MetBeside ap' ai j (place + 1) k) (sym is)
-                    (beside j place j (place + 1) k (slice_index old k) (met-kept ap' ai j place) f.1),
-              )
-            ])
-            | inr f ↦ (let is = same ∙ f.1 in let top = most k (omega (arith, l, more, long)) in let under = f.2 in
-                inr (
-                  omega (arith, is, top, under),
-                  subst (MetBeside ap' ai j (place + 1) k) (sym is)
-                      (subst (λ z. MetBeside ap' ai j (place + 1) z j) (sym f.0) (inl met)),
-                ))
+            let p = less.less a in let r = less.less c in let u = b.0 in let v = b.1 in
+            (omega (arith, p, u), omega (arith, r, v))))
+            (elim (cases_lt i j) [
+              | inl l ↦ (let e : max i j ≡ j = omega (arith, l) in
+                  let there = subst (λ z. slice_index new z ≤ min i j) e less.there in
+                  let own = less.less i in let up = most i li in
+                  (omega (arith, own, up, l), omega (arith, there)))
+              | inr l ↦ (let e : max i j ≡ i = omega (arith, l) in
+                  let there = subst (λ z. slice_index new z ≤ min i j) e less.there in
+                  let own = less.less j in let up = most j lj in
+                  (omega (arith, there), omega (arith, own, up, l)))
+            ]));
+        found = λ k l. elim (less.only k) [
+          | inl same ↦ elim (h.found k (omega (arith, l, long))) [
+            | inl e ↦ inl (same ∙ e)
+            | inr f ↦ inr (
+              (let g = f.0 in omega (arith, same, g)),
+              subst (MetBeside ap' ai j (place + 1) k) (sym same)
+                  (beside j place j (place + 1) k (slice_index old k) (met-kept ap' ai j place) f.1),
+            )
           ]
-          | inr f ↦ (let is = f.1 in let top = most k (omega (arith, l, more, long)) in let under = f.2 in let down = first.less k in
+          | inr f ↦ (let here = f.0 in let is = f.1 in let under = f.2 in let top = most k (omega (arith, l, long)) in
               inr (
-                omega (arith, is, top, under, down),
-                subst (MetBeside ap' ai j (place + 1) k) (sym is)
-                    (subst (λ z. MetBeside ap' ai j (place + 1) z i) (sym f.0) (inr met)),
+                omega (arith, is, top, under),
+                subst (MetBeside ap' ai j (place + 1) k) (sym is) (elim (cases_lt i j) [
+                  | inl m ↦ (let a : k ≡ j = omega (arith, here, m) in let b : min i j ≡ i = omega (arith, m) in rw (a, b) (inr met))
+                  | inr m ↦ (let a : k ≡ i = omega (arith, here, m) in let b : min i j ≡ j = omega (arith, m) in rw (a, b) (inl met))
+                ]),
               ))
         ];
       }

@@ -30,8 +30,7 @@ fn meet_column(column: usize, a_p: &[usize], a_i: &[usize], firsts: &mut [usize]
     let end = a_p[column + 1];
     'places: for place in a_p[column]..end {
         let row = a_i[place];
-        lower(row, column, firsts);
-        lower(column, row, firsts);
+        lower(row.max(column), row.min(column), firsts);
     }
 }
 

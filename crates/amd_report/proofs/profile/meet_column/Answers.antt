@@ -22,13 +22,11 @@ places-preserved c =
     let low : slice_index pointers column ≤ place = omega arith in
     let high : place < slice_index pointers (column + 1) = omega arith in
     let row = c.requires.form.rows column place inside low high in
-    let first = ap length c.lower.ensures ∙ length-set _ _ _ in
-    let second = ap length c.lower-in-places.ensures ∙ length-set _ _ _ in
+    let after = ap length c.lower.ensures ∙ length-set _ _ _ in
     record {
-      size = second ∙ first ∙ before;
+      size = after ∙ before;
       firsts = firsts-next pointers rows column place c.places.firsts low high (omega (arith, row, before))
-          (omega (arith, inside, before)) c.places.invariant.firsts c.lower.new.firsts c.lower-in-places.new.firsts c.lower.ensures
-          c.lower-in-places.ensures;
+          (omega (arith, inside, before)) c.places.invariant.firsts c.lower.new.firsts (rw (c.max.ensures, c.min.ensures) at c.lower.ensures);
     }
 
 pub returns-clause-firsts : goal.returns-clause-firsts

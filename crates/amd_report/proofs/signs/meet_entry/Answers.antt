@@ -94,18 +94,14 @@ overflow_add-degrees c =
     let room = row-room c.args.degrees.now c.args.a_p.now c.args.a_i.now c.args.column c.args.place c.args.degree c.requires.form
     c.requires.inside c.requires.from c.requires.to c.if-row-column.false c.has_mirror.result c.has_mirror.ensures c.if-has_mirror.false
     c.requires.degrees in
-    let long = c.type_inv.signs in
-    let sizes = c.requires.sizes in
-    omega (arith, room, long, sizes)
+    omega (arith, room)
 
 pub overflow_add-result : goal.overflow_add-result
 overflow_add-result c =
     let room = own-room c.args.degrees.now c.args.a_p.now c.args.a_i.now c.args.column c.args.place c.args.degree c.requires.form
     c.requires.inside c.requires.from c.requires.to c.if-row-column.false c.has_mirror.result c.has_mirror.ensures c.if-has_mirror.false
     c.requires.degrees in
-    let long = c.type_inv.signs in
-    let sizes = c.requires.sizes in
-    omega (arith, room, long, sizes)
+    omega (arith, room)
 
 pub returns-clause-signs : goal.returns-clause-signs
 returns-clause-signs c =
