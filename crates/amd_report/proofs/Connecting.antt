@@ -1,13 +1,14 @@
 -- The classes that entries make are the components of the graph.
-use Rattle.std.proofs.Common.{◌≡◌, ◌+◌, ◌<◌, ◌≤◌, inl, inr, ℕ, true, List, map, pos, length, refl, sym, subst, ap, ◌∙◌, arith}
+use Rattle.std.proofs.Common.{◌≡◌, ◌+◌, ◌<◌, ◌≤◌, inl, inr, ℕ, Bool, true, false, List, map, pos, length, refl, sym, subst, ap, ◌∙◌, arith}
 use Rattle.std.proofs.Common.{cond, eqb, not}
-use Rattle.std.specs.Prelude.{slice_index, max, min, ◌==◌}
+use Rattle.std.specs.Prelude.{slice_index, slice_index_or, max, min, ◌==◌}
 use Rattle.std.proofs.lemmas.Bool.{and_parts, and_from, or_cases, or_left, cases_eq, cases_lt, ne_eqb, eq-eqb, eqb-true}
 use Rattle.amd_model.specs.Below.{count_below}
 use Rattle.amd_model.specs.Graph.{Graph}
 use Rattle.amd_model.specs.Input.Columns.{IsColumnForm}
 use Rattle.amd_model.specs.Input.Pattern.{graph_of}
-use Rattle.amd_report.specs.Passes.{AreClasses, AreNames, Connects, joined_names}
+use Rattle.amd_edges.proofs.Places.{funext}
+use Rattle.amd_report.specs.Passes.{AreClasses, AreMarkedClasses, AreNames, Connects, HaveOneName, joined_names}
 use Rattle.amd_report.specs.Shapes.{Connected, HasComponents}
 use Rattle.amd_report.specs.Shapes.Connected.{alone, joined, back, onward}
 use Rattle.amd_report.proofs.Classes.{name-in, name-ends, name-moved, name-stays, one-name}
@@ -29,49 +30,108 @@ module _ (g : Graph) (ap' ai : List ℕ) where
     connected = λ v l. alone;
   }
 
-  pub classes-begin : (j : ℕ) (links : List ℕ) → AreClasses g ap' ai j 0 links → AreClasses g ap' ai j (slice_index ap' j) links
-  classes-begin j links h = record {
-    name = h.name;
-    names = h.names;
-    met = met-begin ap' ai (λ i c. h.name i ≡ h.name c) j h.met;
-    connected = h.connected;
+  -- the classes of two connected rows are joined
+  module _ (i j : ℕ) (name : ℕ → ℕ) (links new : List ℕ) (names : AreNames name links) (li : i < length links) (lj : j < length links)
+      (long : length new ≡ length links) (entry : Connected g i j) (to : (v : ℕ) → v < length links → Connected g v (name v)) where
+    across : Connected g (name i) (name j)
+    across = onward (back (to i li)) (onward entry (to j lj))
+
+    down : Connected g (max (name i) (name j)) (min (name i) (name j))
+    down = elim (cases_lt (name i) (name j)) [
+      | inl l ↦ (let a : max (name i) (name j) ≡ name j = omega (arith, l) in
+          let b : min (name i) (name j) ≡ name i = omega (arith, l) in rw (a, b) (back across))
+      | inr l ↦ (let a : max (name i) (name j) ≡ name i = omega (arith, l) in
+          let b : min (name i) (name j) ≡ name j = omega (arith, l) in rw (a, b) across)
+    ]
+
+    still-connected : (v : ℕ) → v < length new → Connected g v (joined_names name i j v)
+    still-connected v l = (let own = to v (omega (arith, l, long)) in elim (cases_eq (name v) (max (name i) (name j))) [
+      | inl e ↦ subst (Connected g v) (sym (name-moved name links names i j li lj v e)) (onward (subst (Connected g v) e own) down)
+      | inr n ↦ subst (Connected g v) (sym (name-stays name links names i j li lj v n)) own
+    ])
+
+  -- before any entry was met
+  pub classes-more : (i j : ℕ) (links new : List ℕ) → i < length links → j < length links → length new ≡ length links → Connected g i j →
+      ((name : ℕ → ℕ) → AreNames name links → AreNames (joined_names name i j) new) → AreClasses g ap' ai 0 0 links →
+      AreClasses g ap' ai 0 0 new
+  classes-more i j links new li lj long entry made h = record {
+    name = joined_names h.name i j;
+    names = made h.name h.names;
+    met = met-none ap' ai (λ a c. joined_names h.name i j a ≡ joined_names h.name i j c);
+    connected = still-connected i j h.name links new h.names li lj long entry h.connected;
   }
 
-  pub classes-end : (j place : ℕ) (links : List ℕ) → slice_index ap' (j + 1) ≤ place → AreClasses g ap' ai j place links →
-      AreClasses g ap' ai (j + 1) 0 links
-  classes-end j place links past h = record {
+  -- with the same names
+  pub classes-kept : (links new : List ℕ) → length new ≡ length links →
+      ((name : ℕ → ℕ) → AreNames name links → AreNames name new) → AreClasses g ap' ai 0 0 links → AreClasses g ap' ai 0 0 new
+  classes-kept links new long made h = record {
     name = h.name;
-    names = h.names;
-    met = met-end ap' ai (λ i c. h.name i ≡ h.name c) j place past h.met;
-    connected = h.connected;
+    names = made h.name h.names;
+    met = h.met;
+    connected = λ v l. h.connected v (omega (arith, l, long));
   }
 
-  -- one entry more
-  pub classes-next : (j place : ℕ) (links new : List ℕ) → slice_index ai place < length links → j < length links →
-      length new ≡ length links → Connected g (slice_index ai place) j →
-      ((name : ℕ → ℕ) → AreNames name links → AreNames (joined_names name (slice_index ai place) j) new) →
-      AreClasses g ap' ai j place links → AreClasses g ap' ai j (place + 1) new
-  classes-next j place links new li lj long entry made h =
-      let i : ℕ = slice_index ai place in
-      let name : ℕ → ℕ = h.name in
-      let across : Connected g (name i) (name j) = onward (back (h.connected i li)) (onward entry (h.connected j lj)) in
-      let down : Connected g (max (name i) (name j)) (min (name i) (name j)) = elim (cases_lt (name i) (name j)) [
-        | inl l ↦ (let a : max (name i) (name j) ≡ name j = omega (arith, l) in
-            let b : min (name i) (name j) ≡ name i = omega (arith, l) in rw (a, b) (back across))
-        | inr l ↦ (let a : max (name i) (name j) ≡ name i = omega (arith, l) in
-            let b : min (name i) (name j) ≡ name j = omega (arith, l) in rw (a, b) across)
-      ] in
-      record {
-        name = joined_names name i j;
-        names = made name h.names;
-        met = met-next ap' ai (λ a c. joined_names name i j a ≡ joined_names name i j c) j place
-            (λ a c m. ap (λ z. cond (eqb z (max (name i) (name j))) (min (name i) (name j)) z) (h.met a c m))
-            (one-name name links h.names i j li lj);
-        connected = λ v l. (let own = h.connected v (omega (arith, l, long)) in elim (cases_eq (name v) (max (name i) (name j))) [
-          | inl e ↦ subst (Connected g v) (sym (name-moved name links h.names i j li lj v e)) (onward (subst (Connected g v) e own) down)
-          | inr n ↦ subst (Connected g v) (sym (name-stays name links h.names i j li lj v n)) own
-        ]);
-      }
+  -- and rows marked that link to one row
+  pub classes-marked : (marks : List Bool) (links : List ℕ) (first : ℕ) →
+      ((i : ℕ) → slice_index_or marks i false ≡ true → (i < length links) × (slice_index links i ≡ first)) →
+      AreClasses g ap' ai 0 0 links → AreMarkedClasses g ap' ai 0 0 marks links
+  classes-marked marks links first marked h = record {
+    classes = h;
+    marked = λ v w a b. (let p = marked v a in let q = marked w b in
+        sym (h.names.same v p.0) ∙ ap h.name (p.1 ∙ sym q.1) ∙ h.names.same w q.0);
+  }
+
+  module _ (marks : List Bool) where
+    pub marked-begin : (j : ℕ) (links : List ℕ) → AreMarkedClasses g ap' ai j 0 marks links →
+        AreMarkedClasses g ap' ai j (slice_index ap' j) marks links
+    marked-begin j links h = record {
+      classes = record {
+        name = h.classes.name;
+        names = h.classes.names;
+        met = met-begin ap' ai (λ i c. h.classes.name i ≡ h.classes.name c) j h.classes.met;
+        connected = h.classes.connected;
+      };
+      marked = h.marked;
+    }
+
+    pub marked-end : (j place : ℕ) (links : List ℕ) → slice_index ap' (j + 1) ≤ place → AreMarkedClasses g ap' ai j place marks links →
+        AreMarkedClasses g ap' ai (j + 1) 0 marks links
+    marked-end j place links past h = record {
+      classes = record {
+        name = h.classes.name;
+        names = h.classes.names;
+        met = met-end ap' ai (λ i c. h.classes.name i ≡ h.classes.name c) j place past h.classes.met;
+        connected = h.classes.connected;
+      };
+      marked = h.marked;
+    }
+
+    -- one entry more
+    pub marked-next : (j place : ℕ) (links new : List ℕ) → slice_index ai place < length links → j < length links →
+        length new ≡ length links → Connected g (slice_index ai place) j →
+        ((name : ℕ → ℕ) → AreNames name links → HaveOneName name marks → AreNames (joined_names name (slice_index ai place) j) new) →
+        AreMarkedClasses g ap' ai j place marks links → AreMarkedClasses g ap' ai j (place + 1) marks new
+    marked-next j place links new li lj long entry made h =
+        let i : ℕ = slice_index ai place in
+        let name : ℕ → ℕ = h.classes.name in
+        record {
+          classes = record {
+            name = joined_names name i j;
+            names = made name h.classes.names h.marked;
+            met = met-next ap' ai (λ a c. joined_names name i j a ≡ joined_names name i j c) j place
+                (λ a c m. ap (λ z. cond (eqb z (max (name i) (name j))) (min (name i) (name j)) z) (h.classes.met a c m))
+                (one-name name links h.classes.names i j li lj);
+            connected = still-connected i j name links new h.classes.names li lj long entry h.classes.connected;
+          };
+          marked = λ v w a b. ap (λ z. cond (eqb z (max (name i) (name j))) (min (name i) (name j)) z) (h.marked v w a b);
+        }
+
+-- to join two classes with one name changes no name
+pub joined-same : (name : ℕ → ℕ) (i j : ℕ) → name i ≡ name j → joined_names name i j ≡ name
+joined-same name i j same = funext _ _ (λ v. elim (cases_eq (name v) (max (name i) (name j))) [
+  | inl e ↦ (let least : min (name i) (name j) ≡ name v = omega (arith, e, same) in rw (eq-eqb (name v) (max (name i) (name j)) e) least)
+  | inr n ↦ rw (ne_eqb (name v) (max (name i) (name j)) n) refl
+])
 
 module _ (n : ℕ) (ap' ai : List ℕ) (form : IsColumnForm (pos n) n (map pos ap') (map pos ai)) where
   graph : Graph

@@ -1,5 +1,6 @@
 -- How far a pass over the entries of a column form has come, and what it found.
-use Rattle.std.specs.Prelude.{◌≡◌, ◌<◌, ◌≤◌, ◌+◌, ◌⊎◌, ℕ, List, length, slice_index, max, min, cond, nat_eq}
+use Rattle.std.specs.Prelude.{◌≡◌, ◌<◌, ◌≤◌, ◌+◌, ◌⊎◌, ℕ, Bool, true, false, List, length, slice_index, max, min, cond, nat_eq}
+use Rattle.std.specs.Prelude.{slice_index_or}
 use Rattle.amd_model.specs.Graph.{Graph}
 use Rattle.amd_report.specs.Shapes.{Connected}
 
@@ -51,6 +52,15 @@ pub record AreClasses (g : Graph) (ap ai : List ℕ) (j place : ℕ) (links : Li
   pub names : AreNames name links
   pub met : (i c : ℕ) → Met ap ai j place i c → name i ≡ name c
   pub connected : (v : ℕ) → v < length links → Connected g v (name v)
+
+-- the marked rows have one name
+abbrev pub HaveOneName : (ℕ → ℕ) → List Bool → Type 0
+HaveOneName name marks = (v w : ℕ) → slice_index_or marks v false ≡ true → slice_index_or marks w false ≡ true → name v ≡ name w
+
+-- and the marked rows are of one of them
+pub record AreMarkedClasses (g : Graph) (ap ai : List ℕ) (j place : ℕ) (marks : List Bool) (links : List ℕ) : Type 0 where
+  pub classes : AreClasses g ap ai j place links
+  pub marked : HaveOneName classes.name marks
 
 -- each entry of a form connects its row with its column
 abbrev pub Connects : Graph → ℕ → List ℕ → List ℕ → Type 0

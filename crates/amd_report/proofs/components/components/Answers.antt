@@ -23,27 +23,27 @@ first g c =
     λ i l. own i (subst (λ z. i < z) size l) in
     classes-none _ _ _ _ (subst (λ (z : List ℕ). (i : ℕ) → i < length z → slice_index z i ≡ i) same named)
 
-pub join_entries-requires : goal.join_entries-requires
-join_entries-requires g c = record {
+pub join_all-requires : goal.join_all-requires
+join_all-requires g c = record {
   size = ap length c.deref_mut.ensures.value ∙ c.in_ok-links.ensures.size;
   form = form-counts c.args.n c.args.a_p.now c.args.a_i.now c.requires;
   classes = (
     graph_of c.args.n (map pos c.args.a_p.now) (map pos c.args.a_i.now),
     entries-connect c.args.n c.args.a_p.now c.args.a_i.now c.requires,
-    first g (goal.at.join_entries-requires g c).After-deref_mut,
+    first g (goal.at.join_all-requires g c).After-deref_mut,
   );
 }
 
 pub returns : goal.returns
 returns g c =
     let n : ℕ = c.args.n in
-    let new : List ℕ = c.join_entries.new.links in
+    let new : List ℕ = c.join_all.new.links in
     let graph : Graph = graph_of n (map pos c.args.a_p.now) (map pos c.args.a_i.now) in
     let left = written c.in_ok-links.links.items c.deref_mut.result.now new c.in_ok-links.links.len n c.deref_mut.ensures.value
-    c.in_ok-links.ensures.size c.in_ok-links.links.ok.0 c.join_entries.auto.links in
+    c.in_ok-links.ensures.size c.in_ok-links.links.ok.0 c.join_all.auto.links in
     let read : c.deref.result.now ≡ new = c.deref.ensures.value ∙ left.0 in
     let counted = subst (λ (z : List ℕ). c.count_first.result ≡ count_below (length z) (λ v. slice_index z v == v)) read
     c.count_first.ensures in
-    components-are n c.args.a_p.now c.args.a_i.now c.requires new (c.join_entries.ensures.classes graph
+    components-are n c.args.a_p.now c.args.a_i.now c.requires new (c.in_ok-join_all.ensures.classes graph
     (entries-connect n c.args.a_p.now c.args.a_i.now c.requires) (first g (goal.at.returns g c).After-deref_mut)) left.1
     c.count_first.result counted

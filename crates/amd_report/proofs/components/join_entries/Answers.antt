@@ -1,6 +1,6 @@
 -- Each turn meets the entries of one column more.
-use Rattle.std.proofs.Common.{◌≡◌, subst, sym, arith}
-use Rattle.amd_report.specs.Passes.{AreClasses, Connects, IsForm}
+use Rattle.std.proofs.Common.{◌≡◌, ◌∙◌, subst, sym, arith}
+use Rattle.amd_report.specs.Passes.{AreMarkedClasses, Connects, IsForm}
 use Rattle.amd_report.proofs.components.join_entries.Goals as goal
 
 pub join_column-requires : goal.join_column-requires
@@ -9,6 +9,7 @@ join_column-requires c =
     let size = c.columns.invariant.size in
     record {
       inside = omega (arith, size);
+      marks = c.requires.marks ∙ sym size;
       form = subst (λ z. IsForm z c.args.a_p.now c.args.a_i.now) (sym size) c.requires.form;
       classes = (
         some.0,
@@ -30,4 +31,4 @@ columns-preserved c =
 pub returns-clause-classes : goal.returns-clause-classes
 returns-clause-classes c g connects h =
     let last : c.columns.column ≡ c.args.n = (let t = c.columns-test.false in let e = c.columns.auto.column-end in omega (arith, t, e)) in
-    subst (λ k. AreClasses g c.args.a_p.now c.args.a_i.now k 0 c.columns.links) last (c.columns.invariant.classes g connects h)
+    subst (λ k. AreMarkedClasses g c.args.a_p.now c.args.a_i.now k 0 c.args.marks.now c.columns.links) last (c.columns.invariant.classes g connects h)
