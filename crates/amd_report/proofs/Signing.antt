@@ -1,20 +1,19 @@
 -- The signs of rows with one entry more, and the edges that were met with it.
-use Rattle.std.proofs.Common.{◌≡◌, ◌≢◌, ◌+◌, ◌<◌, ◌≤◌, ◌⊎◌, inl, inr, ℕ, Bool, true, false, List, length, set, refl, sym, ap, subst, ◌∙◌}
-use Rattle.std.proofs.Common.{arith, eqb, ltb, not, ◌&&◌, ◌||◌, bit_and, bit_or, min, max}
+use Rattle.std.proofs.Common.{◌≡◌, ◌≢◌, ◌+◌, ◌<◌, ◌≤◌, ◌⊎◌, inl, inr, ℕ, true, false, List, length, set, refl, sym, ap, subst, ◌∙◌}
+use Rattle.std.proofs.Common.{arith, eqb, ltb, not, ◌&&◌, ◌||◌, bit_and, bit_or}
 use Rattle.std.specs.Prelude.{slice_index}
 use Rattle.std.specs.Int.{bit_at}
 use Rattle.std.specs.Cmp.{both_ways}
 use Rattle.std.proofs.Math.Bool.{or-false}
-use Rattle.std.proofs.lemmas.Bool.{and_parts, and_from, or_cases, or_left, or_right, cases_Bool, cases_eq, cases_lt, ne_eqb, eq-eqb, eqb-true}
+use Rattle.std.proofs.lemmas.Bool.{and_parts, and_from, or_cases, or_left, or_right, cases_eq, cases_lt, ne_eqb, eq-eqb, eqb-true}
 use Rattle.std.proofs.lemmas.Bool.{ltb-true, lt-ltb, false_from_ne_true}
-use Rattle.std.proofs.lemmas.List.{get_or-set_same, get_or-set_other, length-set}
+use Rattle.std.proofs.lemmas.List.{get_or-set_same, get_or-set_other}
 use Rattle.std.proofs.lemmas.Nat.{and_or_self}
 use Rattle.std.proofs.lemmas.Nat.Bits.{bit_at_and, bit_at_or, same_from_bits}
 use Rattle.amd_types.specs.Counts.{is_before, is_entry, is_edge, count_graph}
 use Rattle.amd_model.proofs.Counting.Below.{clash}
-use Rattle.amd_edges.specs.Visits.{IsNew, IsNewEdge, with_arc, with_edge}
+use Rattle.amd_edges.specs.Visits.{IsNewEdge, with_arc, with_edge}
 use Rattle.amd_edges.proofs.Places.{before_from, before_gives, before_none, before_more, entry_from, entry_gives, funext2}
-use Rattle.amd_report.specs.Passes.{Met}
 use Rattle.amd_report.specs.Signs.{HaveSigns, IsRisingForm, edge_met, signs_after, signs_of, was_met}
 use Rattle.amd_report.proofs.Passing.{met-begin, met-end, met-next, met-none}
 

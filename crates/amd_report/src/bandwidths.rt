@@ -1,10 +1,11 @@
 // How wide the band of a matrix is: the most rows by which an entry is below the diagonal, and above it. Source: George
 // and Liu 1981.
 
-ghost use Rattle.std.specs.Prelude.{◌≡◌, ◌<◌, ◌≤◌, ◌+◌, ◌-◌, pos, map, max, length, slice_index};
-ghost use Rattle.amd_model.specs.Input.Columns.{IsColumnForm};
+ghost use Rattle.std.specs.Prelude.{◌≡◌, ◌<◌, ◌+◌, ◌-◌, pos, map, max};
+ghost use Rattle.amd_model.specs.Input.Columns.{IsColumnForm, IsSorted};
 ghost use Rattle.amd_report.specs.Passes.{IsMostMet};
 ghost use Rattle.amd_report.specs.Shapes.{IsMost, above, below};
+ghost use Rattle.amd_report.specs.Signs.{IsRisingForm};
 
 /// How wide a band is.
 #[derive(Clone, Copy)]
@@ -26,32 +27,39 @@ fn with_entry(widths: Bandwidths, row: usize, column: usize) -> Bandwidths
     }
 }
 
-/// The bandwidths with the entries of one column more.
-fn with_column(widths: Bandwidths, column: usize, a_p: &[usize], a_i: &[usize]) -> Bandwidths
-    requires pointers { column + 1 < length a_p.now }
-    requires places { slice_index a_p.now (column + 1) ≤ length a_i.now }
+/// The bandwidths with the entries of one column more, of `n`: the first one and the last one tell, as the rows rise.
+fn with_column(
+    widths: Bandwidths,
+    column: usize,
+    n: usize,
+    a_p: &[usize],
+    a_i: &[usize],
+) -> Bandwidths
+    requires form { IsRisingForm n a_p.now a_i.now }
+    requires inside { column < n }
     requires lower { IsMostMet a_p.now a_i.now column 0 below widths.lower }
     requires upper { IsMostMet a_p.now a_i.now column 0 above widths.upper }
     ensures lower { IsMostMet a_p.now a_i.now (column + 1) 0 below result.lower }
     ensures upper { IsMostMet a_p.now a_i.now (column + 1) 0 above result.upper }
 {
-    let end = a_p[column + 1];
-    let mut wider = widths;
-    'places: for place in a_p[column]..end {
-        wider = with_entry(wider, a_i[place], column);
+    let (begin, end) = (a_p[column], a_p[column + 1]);
+    if begin == end {
+        return widths;
     }
-    wider
+    let wider = with_entry(widths, a_i[begin], column);
+    with_entry(wider, a_i[end - 1], column)
 }
 
-/// The bandwidths of a matrix with `n` rows and columns.
+/// The bandwidths of a sorted matrix with `n` rows and columns.
 pub(crate) fn widths_of(n: usize, a_p: &[usize], a_i: &[usize]) -> Bandwidths
-    requires { IsColumnForm (pos n) n (map pos a_p.now) (map pos a_i.now) }
+    requires form { IsColumnForm (pos n) n (map pos a_p.now) (map pos a_i.now) }
+    requires sorted { IsSorted n (map pos a_p.now) (map pos a_i.now) }
     ensures lower { IsMost n (map pos a_p.now) (map pos a_i.now) below result.lower }
     ensures upper { IsMost n (map pos a_p.now) (map pos a_i.now) above result.upper }
 {
     let mut widths = Bandwidths { lower: 0, upper: 0 };
     'columns: for column in 0..n {
-        widths = with_column(widths, column, a_p, a_i);
+        widths = with_column(widths, column, n, a_p, a_i);
     }
     widths
 }

@@ -1,6 +1,5 @@
 -- The classes of two entries of each column are classes of the graph, and the marked rows link to one row.
-use Rattle.std.proofs.Common.{◌≡◌, ◌<◌, ◌∙◌, ℕ, List, Bool, true, false, length, subst, sym}
-use Rattle.std.specs.Prelude.{slice_index, slice_index_or}
+use Rattle.std.proofs.Common.{subst, sym}
 use Rattle.amd_model.specs.Graph.{Graph}
 use Rattle.amd_report.specs.Passes.{AreClasses, AreMarkedClasses, Connects}
 use Rattle.amd_report.proofs.Connecting.{classes-kept, classes-marked}

@@ -1,5 +1,5 @@
 -- The entry connects its row with the column.
-use Rattle.std.proofs.Common.{◌≡◌, ◌+◌, ◌<◌, ◌≤◌, ℕ, inl, refl}
+use Rattle.std.proofs.Common.{ℕ, inl, refl}
 use Rattle.std.specs.Prelude.{slice_index}
 use Rattle.amd_report.proofs.Connecting.{classes-more}
 use Rattle.amd_report.proofs.components.join_place.Goals as goal

@@ -1,5 +1,5 @@
 -- Each turn counts a column with an entry on the diagonal.
-use Rattle.std.proofs.Common.{◌≡◌, ◌+◌, ℕ, suc, Bool, true, false, cond, refl, arith, subst, sym, ◌∙◌}
+use Rattle.std.proofs.Common.{◌≡◌, ◌+◌, ℕ, suc, Bool, true, false, cond, refl, arith, sym, ◌∙◌}
 use Rattle.std.specs.Prelude.{slice_index}
 use Rattle.amd_model.specs.Below.{count_below, sum_below}
 use Rattle.amd_model.proofs.Counting.Below.{count_most}

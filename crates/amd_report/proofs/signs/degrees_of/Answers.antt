@@ -4,7 +4,7 @@ use Rattle.amd_types.specs.Counts.{count_graph}
 use Rattle.amd_edges.specs.Visits.{AreCounts}
 use Rattle.amd_input.proofs.Counting.{counts_none, zeros_of}
 use Rattle.amd_lines.proofs.WrittenLists.{written}
-use Rattle.amd_report.specs.Signs.{IsRisingForm, edge_met}
+use Rattle.amd_report.specs.Signs.{edge_met}
 use Rattle.amd_report.proofs.Signing.{edges-all, edges-none, signs-none}
 use Rattle.amd_report.proofs.signs.degrees_of.Goals as goal
 

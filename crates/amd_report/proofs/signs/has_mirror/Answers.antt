@@ -1,5 +1,5 @@
 -- A row that lacks the signs of a column was not met in it.
-use Rattle.std.proofs.Common.{◌≡◌, ◌<◌, ◌+◌, inl, false, ltb, refl, subst, sym, ap, ◌∙◌, arith, bit_and, ◌&&◌}
+use Rattle.std.proofs.Common.{◌≡◌, ◌<◌, ◌+◌, inl, ltb, refl, subst, sym, ap, ◌∙◌, arith, bit_and, ◌&&◌}
 use Rattle.std.specs.Prelude.{slice_index}
 use Rattle.std.proofs.lemmas.Bool.{ne_eqb, lt-ltb}
 use Rattle.amd_edges.proofs.Places.{before_none}

@@ -1,7 +1,7 @@
 -- Each turn leaves one half of the places.
-use Rattle.std.proofs.Common.{◌≡◌, ◌+◌, ◌-◌, ◌/◌, ◌<◌, ◌≤◌, ℕ, inl, inr, sym, subst, ap, ◌∙◌, arith}
+use Rattle.std.proofs.Common.{◌+◌, ◌-◌, ◌/◌, ℕ, inl, inr, sym, ap, ◌∙◌, arith}
 use Rattle.std.specs.Prelude.{slice_index}
-use Rattle.std.proofs.lemmas.Bool.{cases_eq, cases_lt, false_from_ne_true, ne_eqb, eq-eqb, eqb-true, ltb-true}
+use Rattle.std.proofs.lemmas.Bool.{cases_eq, cases_lt, false_from_ne_true, eq-eqb, eqb-true, ltb-true}
 use Rattle.std.specs.Cmp.{both_ways}
 use Rattle.amd_edges.proofs.Places.{before_from, before_gives, before_none}
 use Rattle.amd_report.proofs.signs.has_row.Goals as goal

@@ -1,10 +1,10 @@
 -- An entry on the diagonal or with a mirror gives no edge, and another one gives one.
-use Rattle.std.proofs.Common.{◌≡◌, ◌≢◌, ◌+◌, ◌<◌, ◌≤◌, ◌∙◌, ℕ, Bool, List, length, set, true, false, refl, subst, sym, ap, arith, ltb-true, ltb, ◌&&◌, get_or}
+use Rattle.std.proofs.Common.{◌≡◌, ◌≢◌, ◌+◌, ◌<◌, ◌≤◌, ◌∙◌, ℕ, Bool, List, length, set, true, false, subst, sym, arith, ltb-true, ltb, ◌&&◌, get_or}
 use Rattle.std.specs.Prelude.{slice_index}
 use Rattle.std.proofs.lemmas.Bool.{and_parts}
 use Rattle.std.proofs.lemmas.Grind.{get_or_default_zero}
 use Rattle.amd_types.specs.Counts.{count_graph, is_before}
-use Rattle.amd_edges.specs.Visits.{AreCounts, IsNewEdge, with_edge}
+use Rattle.amd_edges.specs.Visits.{AreCounts, IsNewEdge}
 use Rattle.amd_input.proofs.Counting.{mark_room, other_room, run_more}
 use Rattle.amd_report.specs.Signs.{IsRisingForm, edge_met, was_met}
 use Rattle.amd_report.proofs.Signing.{edge-new, edges-loop, edges-mirror, edges-next, mirror-met, row-in, signs-before, signs-next, signs-same}

@@ -1,9 +1,7 @@
 -- The degrees, the diagonal and the pointers give the figures.
-use Rattle.std.proofs.Common.{◌≡◌, ◌≤◌, ◌∙◌, ℕ, List, length, map, pos, ap, refl, sym, subst}
+use Rattle.std.proofs.Common.{◌≡◌, ◌∙◌, ℕ, List, length, map, pos, ap, refl, sym, subst}
 use Rattle.std.specs.Prelude.{slice_index}
 use Rattle.amd_model.specs.Below.{sum_below}
-use Rattle.amd_model.specs.Input.Pattern.{diagonal_count, graph_of}
-use Rattle.amd_types.specs.Counts.{counts, count_graph}
 use Rattle.amd_edges.specs.Visits.{AreCounts}
 use Rattle.amd_input.proofs.PatternLemmas.{degrees_are, diagonal_within, figures_are}
 use Rattle.amd_report.proofs.Passing.{counts-back, diagonal-same, form-rising, graph-same}

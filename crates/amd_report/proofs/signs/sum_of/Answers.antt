@@ -1,7 +1,6 @@
 -- A sum that passes the greatest count is no part of a sum that does not.
-use Rattle.std.proofs.Common.{◌≡◌, ◌+◌, ◌<◌, ◌^◌, length, get_or, arith, refl, suc, subst, sym, add-one}
+use Rattle.std.proofs.Common.{◌≡◌, ◌+◌, ◌<◌, ◌^◌, length, arith, refl, suc, subst, sym, add-one}
 use Rattle.std.specs.Prelude.{SomeIff, slice_index}
-use Rattle.std.proofs.lemmas.Grind.{get_or_default_zero}
 use Rattle.amd_model.specs.Below.{sum_below}
 use Rattle.amd_model.proofs.Counting.Below.{sum_upto}
 use Rattle.amd_report.proofs.signs.sum_of.Goals as goal
