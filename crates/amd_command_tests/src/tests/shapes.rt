@@ -101,6 +101,101 @@ fn shape_of_a_drawn_pattern(rt: HostRuntime) -> Result<(), Fail> {
     Ok(())
 }
 
+/// A pattern in which most entries have no mirror.
+const ONE_WAY: &str = "%%MatrixMarket matrix coordinate pattern general
+30 30 53
+6 3
+13 18
+1 24
+8 1
+14 6
+12 10
+30 30
+10 13
+23 7
+5 5
+16 16
+3 10
+5 9
+7 7
+16 23
+26 27
+11 6
+16 8
+1 12
+7 18
+2 9
+1 15
+10 11
+22 20
+24 12
+20 9
+20 22
+13 10
+23 6
+8 21
+3 11
+4 19
+12 1
+22 21
+28 28
+23 11
+5 20
+6 6
+19 1
+7 6
+23 24
+1 1
+24 7
+2 6
+29 28
+21 17
+14 9
+20 15
+10 20
+4 12
+18 13
+20 10
+6 13
+";
+
+/// What is told of it.
+const ONE_WAY_FACTS: &str =
+    "    format of the file                                  Matrix Market coordinate
+    field of the file                                   pattern
+    symmetry of the file                                general
+    rows                                                30
+    entries                                             53
+    duplicates dropped                                  0
+    symmetric pattern                                   no
+    entries on the diagonal                             7
+    edges                                               41
+    mirrored entries off the diagonal                   10
+    pattern symmetry                                    21.7 %
+    bandwidth below the diagonal                        18
+    bandwidth above the diagonal                        23
+    profile of A + A'                                   183
+    components of A + A'                                5
+    greatest degree                                     7
+    mean degree                                         2.73
+    rows of degree 0                                    2
+    dense threshold                                     30
+    rows above the threshold                            0
+";
+
+#[test]
+fn shape_of_a_pattern_with_few_mirrors(rt: HostRuntime) -> Result<(), Fail> {
+    let alloc = rt.alloc();
+    let matrix = read_matrix(alloc, ONE_WAY.as_bytes())?;
+    let Ok(facts) = facts_of(alloc, &matrix, &Control::default()) else {
+        panic!(&rt; "no facts");
+    };
+    let mut text = Vec::new(alloc);
+    check!(&rt; write_facts(&facts, &mut text).is_ok());
+    check!(&rt; text.as_slice() == ONE_WAY_FACTS.as_bytes());
+    Ok(())
+}
+
 /// With the two entries of the first column exchanged it is jumbled, and all else that is told is the same.
 #[test]
 fn shape_of_a_jumbled_pattern(rt: HostRuntime) -> Result<(), Fail> {
