@@ -119,16 +119,17 @@ fn facts_of_sorted<A: Allocator + Copy>(
     let mirrored = mirrored_entries(&info);
     let threshold = dense_threshold(n, control);
     let some = count_above(&degrees, 0);
-    let degrees = Degrees {
+    let told = Degrees {
         sum,
         greatest: greatest_of(&degrees),
         none: degrees.len() - some,
         above: count_above(&degrees, threshold),
     };
+    drop(degrees);
     Ok(Facts {
         info,
         threshold,
-        degrees,
+        degrees: told,
         mirrored,
         bandwidths: widths_of(n, a_p, a_i),
         profile: profile(alloc, n, a_p, a_i)?,
