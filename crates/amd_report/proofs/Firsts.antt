@@ -1,15 +1,17 @@
 -- The first of the row itself and of those that it was met beside.
 use Rattle.std.proofs.Common.{◌≡◌, ◌+◌, ◌-◌, ◌<◌, ◌≤◌, ◌⊎◌, inl, inr, ℕ, Bool, List, map, pos, length, set, refl, sym}
-use Rattle.std.proofs.Common.{subst, ◌∙◌, arith, not, eqb, ◌&&◌, ◌||◌}
+use Rattle.std.proofs.Common.{subst, ◌∙◌, arith, not, eqb, ltb, true, ◌&&◌, ◌||◌}
 use Rattle.std.specs.Prelude.{slice_index, max, min}
 use Rattle.std.proofs.lemmas.Bool.{and_parts, and_from, or_cases, or_left, or_right, cases_Bool, cases_eq, cases_lt, ne_eqb}
+use Rattle.std.proofs.lemmas.Bool.{false_from_ne_true, lt-ltb, ltb-true}
 use Rattle.std.proofs.lemmas.List.{get_or-set_same, get_or-set_other, length-set}
 use Rattle.amd_model.specs.Below.{sum_below}
-use Rattle.amd_model.specs.Input.Columns.{IsColumnForm}
-use Rattle.amd_model.specs.Input.Pattern.{is_pair, graph_of}
-use Rattle.amd_report.specs.Passes.{AreFirsts, Met, MetBeside}
+use Rattle.amd_model.specs.Input.Columns.{IsColumnForm, IsSorted}
+use Rattle.amd_model.specs.Input.Pattern.{IsSymmetric, is_pair, graph_of}
+use Rattle.amd_report.specs.Passes.{AreFirsts, Met, MetBeside, first_row}
 use Rattle.amd_report.specs.Shapes.{IsProfile}
-use Rattle.amd_report.proofs.Passing.{met-begin, met-begun, met-end, met-ended, met-kept, met-new, met-next, met-none, met-pair, pair-met}
+use Rattle.amd_report.proofs.Passing.{form-rising, met-begin, met-begun, met-end, met-ended, met-kept, met-new, met-next}
+use Rattle.amd_report.proofs.Passing.{met-none, met-pair, pair-met}
 
 -- one number of a list was lowered to another one, where it was greater
 record Lowered (old new : List ℕ) (at to : ℕ) : Type 0 where
@@ -160,4 +162,48 @@ profile-is n ap' ai form firsts long h profile sum =
             ))
       ];
       sum = rw long at sum;
+    }
+
+-- the first rows of the columns of a symmetric form make it too
+pub symmetric-profile : (n : ℕ) (ap' ai : List ℕ) (form : IsColumnForm (pos n) n (map pos ap') (map pos ai)) →
+    IsSorted n (map pos ap') (map pos ai) → IsSymmetric n (map pos ap') (map pos ai) → (profile : ℕ) →
+    profile ≡ sum_below n (λ i. i - first_row ap' ai i) → IsProfile (graph_of n (map pos ap') (map pos ai)) profile
+unfolding graph_of
+symmetric-profile n ap' ai form sorted symmetric profile sum =
+    let pair : ℕ → ℕ → Bool = is_pair n (map pos ap') (map pos ai) in
+    let rising = form-rising n ap' ai form sorted in
+    let low : (i j : ℕ) → i < n → Met ap' ai n 0 j i → first_row ap' ai i ≤ j =
+    λ i j l m. (let from = m.from in let to = m.to in let row = m.row in
+    let up : slice_index ai (slice_index ap' i) ≤ slice_index ai m.at = elim (cases_eq m.at (slice_index ap' i)) [
+      | inl e ↦ rw e (omega arith)
+      | inr ne ↦ (let r = rising.rise i (slice_index ap' i) m.at l (omega arith) (omega (arith, from, ne)) to in omega (arith, r))
+    ] in
+    rw (lt-ltb (slice_index ap' i) (slice_index ap' (i + 1)) (omega (arith, from, to))) (omega (arith, up, row))) in
+    record {
+      first = first_row ap' ai;
+      before = λ i j l lt. elim (cases_Bool (not (eqb i j) && (pair i j || pair j i))) [
+        | inl e ↦ absurd (let up = low i j l (elim (or_cases (pair i j) (pair j i) (and_parts (not (eqb i j)) _ e).1) [
+          | inl q ↦ pair-met n ap' ai form j i (symmetric i j q)
+          | inr q ↦ pair-met n ap' ai form j i q
+        ]) in omega (arith, up, lt))
+        | inr e ↦ e
+      ];
+      found = λ i l. elim (cases_lt (slice_index ap' i) (slice_index ap' (i + 1))) [
+        | inl some ↦ elim (cases_lt (slice_index ai (slice_index ap' i)) i) [
+          | inl up ↦ (let row : ℕ = slice_index ai (slice_index ap' i) in
+              let is : first_row ap' ai i ≡ row = rw (lt-ltb _ _ some) (omega (arith, up)) in
+              let met : Met ap' ai n 0 row i =
+              record { at = slice_index ap' i; from = omega arith; to = some; row = refl; before = inl l } in
+              inr (
+                omega (arith, is, up),
+                subst (λ z. (not (eqb i z) && (pair i z || pair z i)) ≡ true) (sym is)
+                    (and_from (not (eqb i row)) _ (rw (ne_eqb i row (λ e. omega (arith, e, up))) refl)
+                    (or_right (pair i row) _ (met-pair n ap' ai form row i met))),
+              ))
+          | inr up ↦ inl (rw (lt-ltb _ _ some) (omega (arith, up)))
+        ]
+        | inr none ↦ inl (rw (false_from_ne_true (ltb (slice_index ap' i) (slice_index ap' (i + 1)))
+            (λ e. let x = ltb-true _ _ e in omega (arith, x, none))) refl)
+      ];
+      sum = sum;
     }

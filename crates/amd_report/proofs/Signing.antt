@@ -112,7 +112,8 @@ module _ (n : ℕ) (ap' ai : List ℕ) where
   edges-same j place k after same = funext2 _ _ (λ a b. rw (same a b, same b a) refl)
 
   -- what was met is an entry
-  met-entry : (j place a c : ℕ) → j < n → place ≤ slice_index ap' (j + 1) → was_met n ap' ai j place a c ≡ true → is_entry n ap' ai a c ≡ true
+  met-entry : (j place a c : ℕ) → j < n → place ≤ slice_index ap' (j + 1) → was_met n ap' ai j place a c ≡ true →
+      is_entry n ap' ai a c ≡ true
   met-entry j place a c inside to m = elim (met-gives j place a c m) [
     | inl x ↦ x.1
     | inr x ↦ (let q = before_gives ap' ai place a j x.1 in let past = q.2 in
@@ -126,7 +127,8 @@ module _ (n : ℕ) (ap' ai : List ℕ) where
     | inr x ↦ or_right (is_entry n ap' ai a b) (is_entry n ap' ai b a) x
   ])
 
-  met-edge : (j place a b : ℕ) → j < n → place ≤ slice_index ap' (j + 1) → edge_met n ap' ai j place a b ≡ true → is_edge n ap' ai a b ≡ true
+  met-edge : (j place a b : ℕ) → j < n → place ≤ slice_index ap' (j + 1) → edge_met n ap' ai j place a b ≡ true →
+      is_edge n ap' ai a b ≡ true
   met-edge j place a b inside to m =
       let p = edge-gives j place a b m in
       edge-is a b p.0 (elim p.1 [
@@ -347,7 +349,8 @@ module _ (n : ℕ) (ap' ai : List ℕ) where
                 (or_left (edge_met n ap' ai j place a b) _ x)
             | inr x ↦ elim x.1 [
               | inl y ↦ or_left (with_arc (edge_met n ap' ai j place) (slice_index ai place) j a b) _
-                  (or_right (edge_met n ap' ai j place a b) _ (and_from (eqb a (slice_index ai place)) (eqb b j) (eq-eqb a _ y.0) (eq-eqb b j y.1)))
+                  (or_right (edge_met n ap' ai j place a b) _
+                  (and_from (eqb a (slice_index ai place)) (eqb b j) (eq-eqb a _ y.0) (eq-eqb b j y.1)))
               | inr y ↦ or_right (with_arc (edge_met n ap' ai j place) (slice_index ai place) j a b) _
                   (and_from (eqb a j) (eqb b (slice_index ai place)) (eq-eqb a j y.1) (eq-eqb b _ y.0))
             ]

@@ -13,9 +13,11 @@ module _ (ap' ai : List ℕ) (f : ℕ → ℕ → ℕ) where
   most-none = record { bound = met-none ap' ai (λ i c. f i c ≤ 0); reached = inl refl }
 
   -- a column with no entry
-  pub most-kept : (j most : ℕ) → slice_index ap' j ≡ slice_index ap' (j + 1) → IsMostMet ap' ai j 0 f most → IsMostMet ap' ai (j + 1) 0 f most
+  pub most-kept : (j most : ℕ) → slice_index ap' j ≡ slice_index ap' (j + 1) → IsMostMet ap' ai j 0 f most →
+      IsMostMet ap' ai (j + 1) 0 f most
   most-kept j most none h = record {
-    bound = met-end ap' ai (λ i c. f i c ≤ most) j (slice_index ap' j) (omega (arith, none)) (met-begin ap' ai (λ i c. f i c ≤ most) j h.bound);
+    bound = met-end ap' ai (λ i c. f i c ≤ most) j (slice_index ap' j) (omega (arith, none))
+        (met-begin ap' ai (λ i c. f i c ≤ most) j h.bound);
     reached = elim h.reached [ inl z ↦ inl z | inr r ↦ inr (r.0, r.1, met-ended ap' ai j 0 r.0 r.1 r.2, r.3) ];
   }
 

@@ -1,5 +1,5 @@
 -- How far a pass over the entries of a column form has come, and what it found.
-use Rattle.std.specs.Prelude.{◌≡◌, ◌<◌, ◌≤◌, ◌+◌, ◌⊎◌, ℕ, Bool, true, false, List, length, slice_index, max, min, cond, nat_eq}
+use Rattle.std.specs.Prelude.{◌≡◌, ◌<◌, ◌≤◌, ◌+◌, ◌⊎◌, ℕ, Bool, true, false, List, length, slice_index, max, min, cond, nat_eq, nat_lt}
 use Rattle.std.specs.Prelude.{slice_index_or}
 use Rattle.amd_model.specs.Graph.{Graph}
 use Rattle.amd_report.specs.Shapes.{Connected}
@@ -32,6 +32,10 @@ pub record AreFirsts (ap ai : List ℕ) (j place : ℕ) (firsts : List ℕ) : Ty
   pub low : (i c : ℕ) → MetBeside ap ai j place i c → slice_index firsts i ≤ c
   pub found : (i : ℕ) → i < length firsts → (slice_index firsts i ≡ i)
       ⊎ ((slice_index firsts i < i) × MetBeside ap ai j place i (slice_index firsts i))
+
+-- the first row of a column whose rows rise, where it is before the diagonal, and else the column itself
+abbrev pub first_row : List ℕ → List ℕ → ℕ → ℕ
+first_row ap ai j = cond (nat_lt (slice_index ap j) (slice_index ap (j + 1))) (min (slice_index ai (slice_index ap j)) j) j
 
 -- the rows of a class have one name, that of its first row; each row links to one of its class that is not after it, and
 -- the first row alone to itself

@@ -1,8 +1,8 @@
 // How many components the graph of A + A' has. Each row links to one of its component that is not after it, the first
 // one to itself; an entry joins the components of its row and its column. A search draws links up by one. Two entries
-// of each column are joined first, which mostly gives one class with most of the rows. Its rows are marked, and an entry
-// of two marked rows is then passed over, by marks that fit into a cache where links do not. Source: Tarjan 1975; Tarjan
-// and van Leeuwen 1984; Boyer and Moore 1991 (the class with most rows); Sutton, Ben-Nun and Barak 2018.
+// of each column are joined first, which mostly gives a class with most of the rows. They are marked, and an entry of
+// two marked rows is then passed over: marks fit into a cache where links do not. Source: Tarjan 1975; Tarjan and van
+// Leeuwen 1984; Boyer and Moore 1991 (the class with most rows); Sutton, Ben-Nun and Barak 2018.
 
 ghost use Rattle.std.specs.Prelude.{◌≡◌, ◌<◌, ◌≤◌, ◌+◌, ◌==◌, ℕ, true, false, pos, map, length};
 ghost use Rattle.std.specs.Prelude.{slice_index, slice_index_or, IfOk, OnOk};

@@ -10,7 +10,7 @@ ghost use Rattle.amd_report.specs.Degrees.{IsFacts, mean_degree};
 
 use crate::bandwidths::{Bandwidths, widths_of};
 use crate::components::components;
-use crate::profile::profile;
+use crate::profile::profile_of;
 use crate::signs::{is_mostly_mirrored, signed_degrees};
 use crate::symmetry::mirrored_entries;
 use amd_input::aat::aat;
@@ -126,13 +126,14 @@ fn facts_of_sorted<A: Allocator + Copy>(
         above: count_above(&degrees, threshold),
     };
     drop(degrees);
+    let profile = profile_of(alloc, n, a_p, a_i, info.symmetry)?;
     Ok(Facts {
         info,
         threshold,
         degrees: told,
         mirrored,
         bandwidths: widths_of(n, a_p, a_i),
-        profile: profile(alloc, n, a_p, a_i)?,
+        profile,
         components: components(alloc, n, a_p, a_i)?,
         source,
         duplicates,

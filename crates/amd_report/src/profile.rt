@@ -1,12 +1,14 @@
 // The profile of the pattern of A + A': over the rows the sum of how far before the diagonal the first entry is.
 // Source: George and Liu 1981.
 
-ghost use Rattle.std.specs.Prelude.{◌≡◌, ◌<◌, ◌+◌, ◌-◌, ℕ, pos, map, min, length, slice_index, slice_set, IfOk};
+ghost use Rattle.std.specs.Prelude.{◌≡◌, ◌<◌, ◌+◌, ◌-◌, ℕ, pos, map, min, length, true};
+ghost use Rattle.std.specs.Prelude.{slice_index, slice_set, IfOk};
 ghost use Rattle.amd_model.specs.Below.{sum_below};
-ghost use Rattle.amd_model.specs.Input.Columns.{IsColumnForm};
-ghost use Rattle.amd_model.specs.Input.Pattern.{graph_of};
-ghost use Rattle.amd_report.specs.Passes.{AreFirsts, IsForm};
+ghost use Rattle.amd_model.specs.Input.Columns.{IsColumnForm, IsSorted};
+ghost use Rattle.amd_model.specs.Input.Pattern.{IsSymmetric, graph_of};
+ghost use Rattle.amd_report.specs.Passes.{AreFirsts, IsForm, first_row};
 ghost use Rattle.amd_report.specs.Shapes.{IsProfile};
+ghost use Rattle.amd_report.specs.Signs.{IsRisingForm};
 
 use crate::components::own_links;
 use std::alloc::{AllocError, Allocator};
@@ -63,7 +65,7 @@ fn sum_of(firsts: &[usize]) -> u128
 /// # Errors
 ///
 /// A refused request for memory.
-pub(crate) fn profile<A: Allocator>(
+fn profile<A: Allocator>(
     alloc: A,
     n: usize,
     a_p: &[usize],
@@ -75,4 +77,55 @@ pub(crate) fn profile<A: Allocator>(
     let mut firsts = own_links(alloc, n)?;
     meet_entries(n, a_p, a_i, &mut firsts);
     Ok(sum_of(&firsts))
+}
+
+/// How far before the diagonal the first entry of a column is; 0 where none is before it.
+fn before_diagonal(column: usize, n: usize, a_p: &[usize], a_i: &[usize]) -> usize
+    requires form { IsRisingForm n a_p.now a_i.now }
+    requires inside { column < n }
+    ensures { result ≡ column - first_row a_p.now a_i.now column }
+{
+    let (begin, end) = (a_p[column], a_p[column + 1]);
+    if begin < end {
+        return column.saturating_sub(a_i[begin]);
+    }
+    0
+}
+
+/// The profile of a symmetric matrix with `n` rows and columns: the first neighbour of a row is the first entry of its
+/// column.
+fn symmetric_profile(n: usize, a_p: &[usize], a_i: &[usize]) -> u128
+    requires form { IsColumnForm (pos n) n (map pos a_p.now) (map pos a_i.now) }
+    requires sorted { IsSorted n (map pos a_p.now) (map pos a_i.now) }
+    requires symmetric { IsSymmetric n (map pos a_p.now) (map pos a_i.now) }
+    ensures { IsProfile (graph_of n (map pos a_p.now) (map pos a_i.now)) result }
+{
+    let mut sum = 0;
+    'columns: for column in 0..n {
+        sum += before_diagonal(column, n, a_p, a_i) as u128;
+    }
+    sum
+}
+
+/// The profile of a sorted matrix with `n` rows and columns, of which is known whether it is symmetric.
+///
+/// # Errors
+///
+/// A refused request for memory.
+pub(crate) fn profile_of<A: Allocator>(
+    alloc: A,
+    n: usize,
+    a_p: &[usize],
+    a_i: &[usize],
+    symmetric: bool,
+) -> Result<u128, AllocError>
+    requires form { IsColumnForm (pos n) n (map pos a_p.now) (map pos a_i.now) }
+    requires sorted { IsSorted n (map pos a_p.now) (map pos a_i.now) }
+    requires symmetric { symmetric ≡ true → IsSymmetric n (map pos a_p.now) (map pos a_i.now) }
+    ensures { IfOk result (IsProfile (graph_of n (map pos a_p.now) (map pos a_i.now))) }
+{
+    if symmetric {
+        return Ok(symmetric_profile(n, a_p, a_i));
+    }
+    profile(alloc, n, a_p, a_i)
 }

@@ -3,7 +3,8 @@
 // has the signs of the columns that it was met in, two of 64 for each: a column whose signs it lacks has no mirror, and
 // only another one is searched. Source: Bloom 1970; Amestoy, Davis and Duff 2004 (the forming of A + A').
 
-ghost use Rattle.std.specs.Prelude.{◌≡◌, ◌<◌, ◌≤◌, ◌+◌, ◌^◌, ◌&&◌, nat_lt, map, pos, length, slice_index, slice_set, IfOk, OnOk, SomeIff};
+ghost use Rattle.std.specs.Prelude.{◌≡◌, ◌<◌, ◌≤◌, ◌+◌, ◌^◌, ◌&&◌, nat_lt, map, pos, length, slice_index, slice_set};
+ghost use Rattle.std.specs.Prelude.{IfOk, OnOk, SomeIff};
 ghost use Rattle.amd_model.specs.Below.{count_below, sum_below};
 ghost use Rattle.amd_model.specs.Input.Columns.{IsColumnForm, IsSorted};
 ghost use Rattle.amd_types.specs.Counts.{count_graph, is_before};
@@ -184,7 +185,8 @@ fn degrees_of<A: Allocator + Copy>(
     a_i: &[usize],
 ) -> Result<Vec<usize, A>, AllocError>
     requires { IsRisingForm n a_p.now a_i.now }
-    ensures { IfOk result (λ v. AreCounts (count_graph n a_p.now a_i.now) ((count_graph n a_p.now a_i.now).edge) v.items) }
+    ensures { IfOk result (λ v. AreCounts (count_graph n a_p.now a_i.now) ((count_graph n a_p.now a_i.now).edge)
+        v.items) }
 {
     let mut signs = vec![in alloc; 0; n]?;
     let mut degrees = vec![in alloc; 0; n]?;

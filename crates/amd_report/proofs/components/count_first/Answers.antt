@@ -1,19 +1,12 @@
 -- Each turn counts a row that links to itself.
-use Rattle.std.proofs.Common.{◌≡◌, ◌+◌, ℕ, suc, Bool, true, false, cond, refl, arith, subst, ◌∙◌}
+use Rattle.std.proofs.Common.{◌≡◌, ℕ, Bool, true, false, arith, ◌∙◌}
 use Rattle.std.specs.Prelude.{slice_index, ◌==◌}
 use Rattle.std.proofs.lemmas.Bool.{eq-eqb, ne_eqb}
-use Rattle.amd_model.specs.Below.{count_below, sum_below}
+use Rattle.amd_model.specs.Below.{count_below}
 use Rattle.amd_model.proofs.Counting.Below.{count_most}
+use Rattle.amd_report.proofs.Summing.{count-next, count-none}
 use Rattle.amd_report.proofs.components.count_first.Goals as goal
 use Rattle.amd_report.proofs.components.count_first.Goals.{then-links-row, else-links-row}
-
-count-none : (p : ℕ → Bool) → 0 ≡ count_below 0 p
-unfolding count_below sum_below
-count-none p = refl
-
-count-next : (p : ℕ → Bool) (k : ℕ) → count_below (k + 1) p ≡ cond (p k) 1 0 + count_below k p
-unfolding count_below sum_below
-count-next p k = (let e : k + 1 ≡ suc k = omega arith in rw e refl)
 
 pub rows-init : goal.rows-init
 rows-init c = count-none _
@@ -26,13 +19,9 @@ overflow_add-count c =
 pub rows-preserved : goal.rows-preserved
 rows-preserved c =
     let p : ℕ → Bool = λ v. slice_index c.args.links.now v == v in
-    let next = count-next p c.rows.row in
     let so_far : c.rows.count ≡ count_below c.rows.row p = c.rows.invariant in
     elim c.if-links-row.branch [
-      | then-links-row w ↦ (let e : p c.rows.row ≡ true = eq-eqb _ _ w.if-links-row.true in
-          w.count-is ∙ (let n : count_below (c.rows.row + 1) p ≡ cond true 1 0 + count_below c.rows.row p =
-          subst (λ b. count_below (c.rows.row + 1) p ≡ cond b 1 0 + count_below c.rows.row p) e next in omega (arith, n, so_far)))
-      | else-links-row w ↦ (let e : p c.rows.row ≡ false = ne_eqb _ _ w.if-links-row.false in
-          w.count-is ∙ (let n : count_below (c.rows.row + 1) p ≡ cond false 1 0 + count_below c.rows.row p =
-          subst (λ b. count_below (c.rows.row + 1) p ≡ cond b 1 0 + count_below c.rows.row p) e next in omega (arith, n, so_far)))
+      | then-links-row w ↦ (let n = count-next p c.rows.row true (eq-eqb _ _ w.if-links-row.true) in w.count-is ∙ omega (arith, n, so_far))
+      | else-links-row w ↦ (let n = count-next p c.rows.row false (ne_eqb _ _ w.if-links-row.false) in
+          w.count-is ∙ omega (arith, n, so_far))
     ]

@@ -31,4 +31,5 @@ columns-preserved c =
 pub returns-clause-classes : goal.returns-clause-classes
 returns-clause-classes c g connects h =
     let last : c.columns.column ≡ c.args.n = (let t = c.columns-test.false in let e = c.columns.auto.column-end in omega (arith, t, e)) in
-    subst (λ k. AreMarkedClasses g c.args.a_p.now c.args.a_i.now k 0 c.args.marks.now c.columns.links) last (c.columns.invariant.classes g connects h)
+    subst (λ k. AreMarkedClasses g c.args.a_p.now c.args.a_i.now k 0 c.args.marks.now c.columns.links) last
+    (c.columns.invariant.classes g connects h)

@@ -26,7 +26,8 @@ places-preserved c =
     record {
       size = after ∙ before;
       firsts = firsts-next pointers rows column place c.places.firsts low high (omega (arith, row, before))
-          (omega (arith, inside, before)) c.places.invariant.firsts c.lower.new.firsts (rw (c.max.ensures, c.min.ensures) at c.lower.ensures);
+          (omega (arith, inside, before)) c.places.invariant.firsts c.lower.new.firsts
+          (rw (c.max.ensures, c.min.ensures) at c.lower.ensures);
     }
 
 pub returns-clause-firsts : goal.returns-clause-firsts

@@ -1,16 +1,8 @@
 -- Each turn adds one row.
-use Rattle.std.proofs.Common.{◌≡◌, ◌+◌, ◌-◌, ℕ, suc, refl, arith}
+use Rattle.std.proofs.Common.{◌-◌, arith}
 use Rattle.std.specs.Prelude.{slice_index}
-use Rattle.amd_model.specs.Below.{sum_below}
+use Rattle.amd_report.proofs.Summing.{sum-next, sum-none}
 use Rattle.amd_report.proofs.profile.sum_of.Goals as goal
-
-sum-none : (f : ℕ → ℕ) → 0 ≡ sum_below 0 f
-unfolding sum_below
-sum-none f = refl
-
-sum-next : (f : ℕ → ℕ) (k : ℕ) → sum_below (k + 1) f ≡ f k + sum_below k f
-unfolding sum_below
-sum-next f k = (let e : k + 1 ≡ suc k = omega arith in rw e refl)
 
 pub rows-init : goal.rows-init
 rows-init c = record { sum = sum-none _; small = omega arith }

@@ -1,19 +1,12 @@
 -- Each turn counts a column with an entry on the diagonal.
-use Rattle.std.proofs.Common.{◌≡◌, ◌+◌, ℕ, suc, Bool, true, false, cond, refl, arith, sym, ◌∙◌}
+use Rattle.std.proofs.Common.{◌≡◌, ◌+◌, ℕ, Bool, true, false, arith, sym, ◌∙◌}
 use Rattle.std.specs.Prelude.{slice_index}
-use Rattle.amd_model.specs.Below.{count_below, sum_below}
+use Rattle.amd_model.specs.Below.{count_below}
 use Rattle.amd_model.proofs.Counting.Below.{count_most}
 use Rattle.amd_types.specs.Counts.{is_before}
+use Rattle.amd_report.proofs.Summing.{count-next, count-none}
 use Rattle.amd_report.proofs.signs.count_diagonal.Goals as goal
 use Rattle.amd_report.proofs.signs.count_diagonal.Goals.{then-has_row, else-has_row}
-
-count-none : (p : ℕ → Bool) → 0 ≡ count_below 0 p
-unfolding count_below sum_below
-count-none p = refl
-
-count-next : (p : ℕ → Bool) (k : ℕ) (b : Bool) → p k ≡ b → count_below (k + 1) p ≡ cond b 1 0 + count_below k p
-unfolding count_below sum_below
-count-next p k b h = (let e : k + 1 ≡ suc k = omega arith in rw (e, sym h) refl)
 
 pub columns-init : goal.columns-init
 columns-init c = count-none _

@@ -19,7 +19,8 @@ halves-preserved-then-a_i-middle c =
       to = to;
       less = λ q x y. elim (cases_eq q middle) [
         | inl e ↦ rw e here
-        | inr ne ↦ (let up = c.requires.form.rise c.args.column q middle c.requires.inside x (omega (arith, y, ne)) (omega (arith, some, to)) in
+        | inr ne ↦ (let up = c.requires.form.rise c.args.column q middle c.requires.inside x (omega (arith, y, ne))
+            (omega (arith, some, to)) in
             omega (arith, up, here))
       ];
       more = c.halves.invariant.more;
@@ -57,7 +58,8 @@ returns-then-low-end c =
       | inl l ↦ absurd (let x = c.halves.invariant.less found.0 begin l in omega (arith, x, is))
       | inr l ↦ elim (cases_eq found.0 c.halves.low) [
         | inl e ↦ eq-eqb _ _ (ap (slice_index c.args.a_i.now) (sym e) ∙ is)
-        | inr ne ↦ absurd (let up = c.requires.form.rise c.args.column c.halves.low found.0 c.requires.inside from (omega (arith, l, ne)) end in
+        | inr ne ↦ absurd (let up = c.requires.form.rise c.args.column c.halves.low found.0 c.requires.inside from
+            (omega (arith, l, ne)) end in
             let low = c.halves.invariant.more c.halves.low (omega (arith, past)) within in omega (arith, up, low, is))
       ]
     ])

@@ -1,5 +1,6 @@
 -- An entry on the diagonal or with a mirror gives no edge, and another one gives one.
-use Rattle.std.proofs.Common.{◌≡◌, ◌≢◌, ◌+◌, ◌<◌, ◌≤◌, ◌∙◌, ℕ, Bool, List, length, set, true, false, subst, sym, arith, ltb-true, ltb, ◌&&◌, get_or}
+use Rattle.std.proofs.Common.{◌≡◌, ◌≢◌, ◌+◌, ◌<◌, ◌≤◌, ◌∙◌, ℕ, Bool, List, length, set, true, false}
+use Rattle.std.proofs.Common.{subst, sym, arith, ltb-true, ltb, ◌&&◌, get_or}
 use Rattle.std.specs.Prelude.{slice_index}
 use Rattle.std.proofs.lemmas.Bool.{and_parts}
 use Rattle.std.proofs.lemmas.Grind.{get_or_default_zero}
@@ -7,7 +8,8 @@ use Rattle.amd_types.specs.Counts.{count_graph, is_before}
 use Rattle.amd_edges.specs.Visits.{AreCounts, IsNewEdge}
 use Rattle.amd_input.proofs.Counting.{mark_room, other_room, run_more}
 use Rattle.amd_report.specs.Signs.{IsRisingForm, edge_met, was_met}
-use Rattle.amd_report.proofs.Signing.{edge-new, edges-loop, edges-mirror, edges-next, mirror-met, row-in, signs-before, signs-next, signs-same}
+use Rattle.amd_report.proofs.Signing.{edge-new, edges-loop, edges-mirror, edges-next, mirror-met, row-in}
+use Rattle.amd_report.proofs.Signing.{signs-before, signs-next, signs-same}
 use Rattle.amd_report.proofs.signs.meet_entry.Goals as goal
 
 pub has_mirror-requires-clause-form : goal.has_mirror-requires-clause-form
@@ -105,8 +107,8 @@ overflow_add-result c =
 
 pub returns-clause-signs : goal.returns-clause-signs
 returns-clause-signs c =
-    let inside = row-in (length c.args.degrees.now) c.args.a_p.now c.args.a_i.now c.requires.form c.args.column c.args.place c.requires.inside
-    c.requires.from c.requires.to in
+    let inside = row-in (length c.args.degrees.now) c.args.a_p.now c.args.a_i.now c.requires.form c.args.column c.args.place
+    c.requires.inside c.requires.from c.requires.to in
     rw c.sign.ensures (signs-next c.args.a_p.now c.args.a_i.now c.args.column c.args.place c.args.signs.now
     (rw c.requires.sizes inside) c.requires.signs)
 

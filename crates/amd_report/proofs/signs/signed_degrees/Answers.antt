@@ -17,7 +17,8 @@ pub overflow_sub-outside : goal.overflow_sub-outside
 overflow_sub-outside g c =
     let n : ℕ = c.args.n in
     diagonal_within n (map pos c.args.a_p.now) (map pos c.args.a_i.now) c.requires.form c.requires.sorted c.count_diagonal-diagonals.result
-    (slice_index c.args.a_p.now n) (c.count_diagonal-diagonals.ensures ∙ sym (diagonal-same n c.args.a_p.now c.args.a_i.now c.requires.form))
+    (slice_index c.args.a_p.now n)
+    (c.count_diagonal-diagonals.ensures ∙ sym (diagonal-same n c.args.a_p.now c.args.a_i.now c.requires.form))
     (ap (λ z. slice_index z n) (sym (counts-back c.args.a_p.now)))
 
 pub returns-clause-degrees : goal.returns-clause-degrees
