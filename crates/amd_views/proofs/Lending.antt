@@ -27,6 +27,11 @@ use Rattle.std.proofs.Common.{
   append_assoc,
   append-nil,
   lt-suc_self,
+  le_of_lt,
+  mul-le-mul_right,
+  suc-mul,
+  zero-mul,
+  subst,
 }
 use mathlib.Core.WellFounded.InvImage
 use lib.WfN.{lt-wf_rel}
@@ -37,6 +42,7 @@ use base.Logic.{SProp, ent, sep, emp, id⊢, mono∗}
 use base.Fml.{Fml, Lft, GName, Share, ftrue, fat, flft, fobs, fauth, fbor, fobor, froom}
 use mir.Syntax.{
   Sym,
+  Width,
   Lifetime,
   Ty,
   tcons,
@@ -80,7 +86,7 @@ use mir.Syntax.{
   addr_of,
   aggregate,
 }
-use mir.Val.{Val, vint, vptr}
+use mir.Val.{Val, vint, vptr, bytes}
 use prog.Wp.{Env, Out, Wp, WpFn, Tables, at_return, after_seq, after_block, after_turn}
 use types.Logic.{Logic, sem}
 use types.Kit.{
@@ -176,41 +182,42 @@ use denote.FollowSlice.{heres_id, slice_of}
 use denote.Slice.{MutSlice, Room, slice_name, slice_val, mut_slice_vals}
 use denote.Steps.{nothing}
 use Rattle.std.proofs.VecSteps.Shapes.{after}
-use borrow.Table.Elements.{at_mul, join_app}
+use borrow.Table.Elements.{at, at_mul, join_app}
 use Rattle.amd_views.specs.Views.{Each}
-use Rattle.amd_views.proofs.Rows.{Row, number, struct, field_tys}
+use Rattle.amd_views.proofs.Rows.{Row, number, struct, number_ty, field_tys, few_bytes, struct_size}
 use Rattle.amd_views.proofs.Places.{Left, room_left}
 
 -- ---- the code
 abbrev slice_ty : Lifetime → Ty → Ty
 slice_ty κ τ = ty_struct slice_name (tcons (ty_ref κ mut τ) (tcons (ty_int w64) tnil))
 
-module _ (ν : Sym) where
-  abbrev pub struct_named : Ty
-  struct_named = ty_named (ν, []) field_tys
-
-  abbrev locals : List Local
-  locals = local (slice_ty (named 0) struct_named) value_local ∷ local (slice_ty (named 0) (ty_int w64)) value_local ∷ local (ty_int w64)
-      value_local
-      ∷ local ty_ptr value_local ∷ local (ty_int w64) value_local ∷ local ty_ptr value_local ∷ local (ty_int w64)
-      value_local ∷ local ty_bool value_local
-      ∷ local (ty_int w64) value_local ∷ local (slice_ty erased struct_named) value_local ∷ local ty_ptr value_local ∷ []
-
 abbrev whole_of : ℕ → Opd
 whole_of i = copy (place i [])
 
-abbrev at_pointer : Place
-at_pointer = place 5 (deref (ty_int w64) ∷ [])
+module _ (w : Width) (ν : Sym) where
+  abbrev pub struct_named : Ty
+  struct_named = ty_named (ν, []) (field_tys w)
 
--- one turn of the loop
-abbrev stores : Body
-stores = seq (assign (place 8 []) (op2 (mul unsigned) (whole_of 4) (int w64 8)))
-    (seq (assign (place 5 []) (op2 offset (whole_of 3) (whole_of 8)))
-    (seq (assign (place 6 []) (rv_opd (copy at_pointer))) (assign at_pointer (rv_opd (whole_of 6)))))
+  abbrev locals : List Local
+  locals = local (slice_ty (named 0) struct_named) value_local ∷ local (slice_ty (named 0) (number_ty w)) value_local ∷ local (ty_int w64)
+      value_local
+      ∷ local ty_ptr value_local ∷ local (ty_int w64) value_local ∷ local ty_ptr value_local ∷ local (number_ty w)
+      value_local ∷ local ty_bool value_local
+      ∷ local (ty_int w64) value_local ∷ local (slice_ty erased struct_named) value_local ∷ local ty_ptr value_local ∷ []
 
-abbrev turn : Body
-turn = seq (assign (place 7 []) (op2 (lt unsigned) (whole_of 4) (whole_of 2)))
-    (seq (cond (whole_of 7) skip (exit 1)) (seq (block stores) (assign (place 4 []) (op2 (add unsigned) (whole_of 4) (int w64 1)))))
+module _ (w : Width) where
+  abbrev at_pointer : Place
+  at_pointer = place 5 (deref (number_ty w) ∷ [])
+
+  -- one turn of the loop
+  abbrev stores : Body
+  stores = seq (assign (place 8 []) (op2 (mul unsigned) (whole_of 4) (int w64 (bytes w))))
+      (seq (assign (place 5 []) (op2 offset (whole_of 3) (whole_of 8)))
+      (seq (assign (place 6 []) (rv_opd (copy at_pointer))) (assign at_pointer (rv_opd (whole_of 6)))))
+
+  abbrev turn : Body
+  turn = seq (assign (place 7 []) (op2 (lt unsigned) (whole_of 4) (whole_of 2)))
+      (seq (cond (whole_of 7) skip (exit 1)) (seq (block stores) (assign (place 4 []) (op2 (add unsigned) (whole_of 4) (int w64 1)))))
 
 -- what follows the loop
 abbrev hands_on : Body
@@ -220,33 +227,37 @@ abbrev makes : Body
 makes = seq (block (seq (assign (place 10 []) (rv_opd (whole_of 3))) (assign (place 9 []) (aggregate (whole_of 10 ∷ whole_of 2 ∷ [])))))
     hands_on
 
-abbrev pub lends : Sym → Fn
-lends ν = record {
+abbrev pub lends : Width → Sym → Fn
+lends w ν = record {
   lifetimes = 1;
   outlives = [];
   ty_params = [];
   givens = 0;
   params = 1;
-  locals = locals ν;
+  locals = locals w ν;
   body = seq (assign (place 2 []) (rv_opd (copy (place 1 (field 1 ∷ [])))))
-      (seq (assign (place 3 []) (addr_of (place 1 (field 0 ∷ deref (ty_int w64) ∷ []))))
-      (seq (assign (place 4 []) (rv_opd (int w64 0))) (seq (block (loop turn)) makes)));
+      (seq (assign (place 3 []) (addr_of (place 1 (field 0 ∷ deref (number_ty w) ∷ []))))
+      (seq (assign (place 4 []) (rv_opd (int w64 0))) (seq (block (loop (turn w))) makes)));
 }
 
 -- ---- its walk
-module _ {M : Type 1} {𝓤 : Ura M} (𝓛 : Logic 𝓤) {X : Type 0} (ν : Sym) (I W : Row X) (bits : X → ℕ) (ok : X → Type 0) where
+module _ {M : Type 1} {𝓤 : Ura M} (𝓛 : Logic 𝓤) {X : Type 0} (w : Width) (ν : Sym) (I W : Row X) (bits : X → ℕ) (ok : X → Type 0) where
   open 𝓛 use {H, A}
 
   abbrev N : RattleType
-  N = number I
+  N = number w I
 
   abbrev S : RattleType
-  S = struct ν W
+  S = struct w ν W
+
+  -- how many bytes a number has
+  abbrev s : ℕ
+  s = bytes w
 
   -- what the two types have to show: a number is its bits, these are a struct where one can lie, and a struct is a number
   pub record Turns : Type 1 where
-    pub number_out : (x : X) (b o : ℕ) → ent 𝓤 (sem 𝓛 (part_at N full_share x b o)) (H.at full_share (ty_int w64) b o (vint w64 (bits x)))
-    pub struct_in : (x : X) (b o : ℕ) → ok x → ent 𝓤 (sep 𝓤 (H.at full_share (ty_int w64) b o (vint w64 (bits x))) (Left 𝓛 b o))
+    pub number_out : (x : X) (b o : ℕ) → ent 𝓤 (sem 𝓛 (part_at N full_share x b o)) (H.at full_share (number_ty w) b o (vint w (bits x)))
+    pub struct_in : (x : X) (b o : ℕ) → ok x → ent 𝓤 (sep 𝓤 (H.at full_share (number_ty w) b o (vint w (bits x))) (Left 𝓛 w b o))
         (sem 𝓛 (part_at S full_share x b o))
     pub struct_out : (x : X) (b o : ℕ) → ent 𝓤 (sem 𝓛 (part_at S full_share x b o)) (sem 𝓛 (part_at N full_share x b o))
 
@@ -260,10 +271,18 @@ module _ {M : Type 1} {𝓤 : Ura M} (𝓛 : Logic 𝓤) {X : Type 0} (ν : Sym)
     abbrev Follows : GName → Fml
     Follows δ = follows (Array N 0) (Array S 0) γ δ (λ ws. ws)
 
+    -- the place of the struct of this number, and the place of the next number
+    struct_at : (p i : ℕ) → at p (mem S).size i ≡ i * s + p
+    struct_at p i = at_mul p (mem S).size i ∙ ap (λ (k : ℕ). i * k + p) (struct_size w ν)
+
+    number_at : (p i : ℕ) → i * s + p + s ≡ (i + 1) * s + p
+    number_at p i = omega (arith, suc-mul i s)
+
     -- the structs are numbers again, once the loan is over
     turned_back : (ws : List X) (p : ℕ) → ent 𝓤 (sem 𝓛 (cells (mem S) ws b p)) (sem 𝓛 (cells (mem N) ws b p))
     turned_back [] p = id⊢ 𝓤 _
-    turned_back (w ∷ ws) p = mono∗ 𝓤 (turns.struct_out w b p) (turned_back ws (p + 8))
+    turned_back (y ∷ ws) p = mono∗ 𝓤 (turns.struct_out y b p) (subst (λ (k : ℕ). ent 𝓤 (sem 𝓛 (cells (mem S) ws b (p + k)))
+        (sem 𝓛 (cells (mem N) ws b (p + s)))) (sym (struct_size w ν)) (turned_back ws (p + s)))
 
     put_back : (ws : List X) → ent 𝓤 (sep 𝓤 (sem 𝓛 ((Arr (mem S) (length xs)).own_at ws b o)) (emp 𝓤)) (sem 𝓛 ((Arr (mem N)
         (length xs)).own_at ws b o))
@@ -286,23 +305,26 @@ module _ {M : Type 1} {𝓤 : Ura M} (𝓛 : Logic 𝓤) {X : Type 0} (ν : Sym)
         (sem 𝓛 (Follows δ)))
 
     module _ (rm : Room N (length xs)) (ends : (δ : GName) → ent 𝓤 (Given δ) (Post (slice_val (b, o) (length xs)))) where
+      room : Room S (length xs)
+      room = (rm.0, subst (λ (k : ℕ). length xs * k < 2 ^ 63) (sym (struct_size w ν)) rm.1)
+
       module _ (l : ℕ → ℕ) where
         abbrev En : Env 𝓤 H
-        En = env (lends ν).locals l
+        En = env (lends w ν).locals l
 
         -- the borrow of the numbers, open
         abbrev Open : Item 𝓤
         Open = ‵ (fobor κ q (Borrowed Numbers b o γ)) ⊛ ‵ (fobs γ (Numbers.coded.code xs)) ⊛ ‵ (fauth γ (Numbers.coded.code xs))
 
         abbrev Now : Turned → List (Item 𝓤)
-        Now t = ‵ (cells (mem S) t.0 b o) ∷ ‵ (cells (mem N) t.1 b (length t.0 * 8 + o)) ∷ Open
+        Now t = ‵ (cells (mem S) t.0 b o) ∷ ‵ (cells (mem N) t.1 b (length t.0 * s + o)) ∷ Open
             ∷ holding 𝓛 En ((1, slice_val (b, o) (length xs)) ∷ (2, vint w64 (length xs)) ∷ (3, vptr b o) ∷ (4, vint w64 (length t.0)) ∷ [])
 
         abbrev Once : Turned → Out → SProp 𝓤
         Once t = after_turn 𝓤 H (Below 𝓛 Nearer Now t) (after_block 𝓤 H (after_seq 𝓤 H (Wp 𝓤 H 𝓣.C 𝓣.Λ En makes (at_return 𝓤 H En Post))
             (at_return 𝓤 H En Post)))
 
-        one_turn : (t : Turned) → Sq 𝓛 (Now t) (runs 𝓣.C 𝓣.Λ En turn (any_q (Once t)))
+        one_turn : (t : Turned) → Sq 𝓛 (Now t) (runs 𝓣.C 𝓣.Λ En (turn w) (any_q (Once t)))
         unfolding after_turn
         one_turn (ys, [], e, fit) =
             sets ! (bin ! (get ! refl) (get ! refl) tt) refl (tt, tt) $ first ! $ branches ! (get ! refl)
@@ -322,47 +344,48 @@ module _ {M : Type 1} {𝓤 : Ura M} (𝓛 : Logic 𝓤) {X : Type 0} (ν : Sym)
             (takes_part 𝓛 Numbers (Arr (mem S) (length xs)) (λ ws. ws) κ q b o b o γ (emp 𝓤) put_back ((coded_list N.coded).code xs)
             ((coded_list N.coded).code xs) xs) $ await ! tt $ pick ! (λ δ. split3 ! $
             use2 𝓛 (‵ ((MutSlice (named 0) κ S).own_val (lent δ) (slice_val (b, o) (length xs) ∷ []))) (slice_of 𝓛 S (named 0)
-            κ b o δ xs rm) $
+            κ b o δ xs room) $
             returns ! (look_at ! 0 refl) $ free_all ! refl $ join ! $ by ! (ends δ)))
         one_turn (ys, x ∷ zs, e, fit) =
-            let i : ℕ = length ys in let p : ℕ = i * 8 + o in
+            let i : ℕ = length ys in let p : ℕ = i * s + o in
             sets ! (bin ! (get ! refl) (get ! refl) tt) refl (tt, tt) $ first ! $ branches ! (get ! refl)
             (λ less. let h : i < length xs = ltb→lt i (length xs) less in
-            let bytes : length xs * 8 < 2 ^ 63 = rm.1 in
-            let fi : i + 1 < 2 ^ 64 = omega (arith, h, bytes) in let fp : i * 8 < 2 ^ 64 = omega (arith, h, bytes) in
-            skips ! $ exec ! 𝓣.C 𝓣.Λ En (after 2 turn) (any_q (Once (ys, x ∷ zs, e, fit))) $ first ! $ blocks ! $
+            let few : length xs < 2 ^ 64 = rm.0 in let fi : i + 1 < 2 ^ 64 = omega (arith, h, few) in
+            let bytes : length xs * s < 2 ^ 63 = rm.1 in
+            let fp : i * s < 2 ^ 64 = omega (arith, bytes, mul-le-mul_right s (le_of_lt h)) in
+            skips ! $ exec ! 𝓣.C 𝓣.Λ En (after 2 (turn w)) (any_q (Once (ys, x ∷ zs, e, fit))) $ first ! $ blocks ! $
             -- let at = start.add(i);
-            sets ! (bin ! (get ! refl) (lit ! tt) (record { fits = fp })) refl (tt, record { fits = fp }) $
+            sets ! (bin ! (get ! refl) (lit ! (few_bytes w)) (record { fits = fp })) refl (tt, record { fits = fp }) $
             sets ! (bin ! (get ! refl) (get ! refl) tt) refl (tt, tt) $
             move ! (1 ∷ []) $ fsplit ! $
-            use1 𝓛 (‵ (fat full_share (ty_int w64) b p (vint w64 (bits x)))) (turns.number_out x b p) $ well_typed ! (λ good.
+            use1 𝓛 (‵ (fat full_share (number_ty w) b p (vint w (bits x)))) (turns.number_out x b p) $ well_typed ! (λ good.
             -- let number = *at;
             sets ! (of_opd ! (load ! (through ! refl (stop !)) (look ! 0 refl))) refl good $
-            forget ! 0 refl $ use1 𝓛 (‵ (froom (ty_int w64) b p) ⊛ raw (Left 𝓛 b p)) (room_left 𝓛 b p) $ split ! $
+            forget ! 0 refl $ use1 𝓛 (‵ (froom (number_ty w) b p) ⊛ raw (Left 𝓛 w b p)) (room_left 𝓛 w b p) $ split ! $
             -- *at = number;
             assigns_last ! (of_opd ! (get ! refl)) (through ! refl (stop !)) (init ! 0 refl good) $
             -- i += 1;
-            exec ! 𝓣.C 𝓣.Λ En (after 3 turn) (any_q (Once (ys, x ∷ zs, e, fit))) $
+            exec ! 𝓣.C 𝓣.Λ En (after 3 (turn w)) (any_q (Once (ys, x ∷ zs, e, fit))) $
             sets_last ! (bin ! (get ! refl) (lit ! tt) (record { fits = fi })) refl (tt, record { fits = fi }) $
             use2 𝓛 (‵ ((mem S).own_at x b p)) (turns.struct_in x b p fit.0) $ nothing ! $ move ! (1 ∷ 0 ∷ []) $ fjoin ! $
-            rewrite ! 0 (λ (k : ℕ). ‵ (cells (mem S) (x ∷ []) b k)) (sym (at_mul o 8 i)) refl $ move ! (2 ∷ 0 ∷ []) $
+            rewrite ! 0 (λ (k : ℕ). ‵ (cells (mem S) (x ∷ []) b k)) (sym (struct_at o i)) refl $ move ! (2 ∷ 0 ∷ []) $
             use2 𝓛 (‵ (cells (mem S) (ys ++ x ∷ []) b o)) (join_app 𝓛 (mem S) ys (x ∷ []) b o) $
             let long : length (ys ++ x ∷ []) ≡ i + 1 = length-append ys (x ∷ []) in
-            rewrite ! 1 (λ (k : ℕ). ‵ (cells (mem N) zs b k)) (omega (arith, long)) refl $
+            rewrite ! 1 (λ (k : ℕ). ‵ (cells (mem N) zs b k)) (number_at o i ∙ ap (λ (k : ℕ). k * s + o) (sym long)) refl $
             forget_but ! En (1 ∷ 2 ∷ 3 ∷ 4 ∷ []) refl $ take_at ! 4 $
             rewrite ! 0 (λ (k : ℕ). ‵ (fat full_share (ty_int w64) (l 4) zero (vint w64 k))) (sym long) refl $ give_at ! 4 $
             again ! Nearer Now (ys, x ∷ zs, e, fit) (ys ++ x ∷ [], zs, append_assoc ys (x ∷ []) zs ∙ e, fit.1) (lt-suc_self (length zs))))
             (λ over. let ge = nltb→le (length ys) (length xs) over in let long = length-append ys (x ∷ zs) in let all = ap length e in
             absurd (omega (arith, ge, long, all)))
 
-      start : o ≡ 0 * 8 + o
-      start = omega arith
+      start : o ≡ 0 * s + o
+      start = omega (arith, zero-mul s)
 
       pub walk : Each ok xs → ent 𝓤 (sep 𝓤 (sep 𝓤 (A.lft κ q) (emp 𝓤)) (sem 𝓛 (owns (MutSlice (named 0) κ N ∷ []) (self, tt)
-          (mut_slice_vals self, tt)))) (WpFn 𝓤 H 𝓣.C 𝓣.Λ (lends ν) (slice_val (b, o) (length xs) ∷ []) Post)
+          (mut_slice_vals self, tt)))) (WpFn 𝓤 H 𝓣.C 𝓣.Λ (lends w ν) (slice_val (b, o) (length xs) ∷ []) Post)
       walk fit =
           qed 𝓛 ((‵ (flft κ q) ⊛ ‵ ftrue) ∷ ‵ (owns (MutSlice (named 0) κ N ∷ []) (self, tt) (mut_slice_vals self, tt)) ∷ []) ∵
-          enter ! 𝓣.C 𝓣.Λ (lends ν) (slice_val (b, o) (length xs) ∷ []) _ $
+          enter ! 𝓣.C 𝓣.Λ (lends w ν) (slice_val (b, o) (length xs) ∷ []) _ $
           alloc_all ! (λ l. pass_all ! refl ((tt, (tt, (record { fits = rm.0 }, tt))), tt) $
           -- let len = numbers.len();
           sets ! (of_opd ! (get_in ! (fld ! refl (stop !)) (sub ! 1 refl (whole !)))) refl (tt, record { fits = rm.0 }) $

@@ -1,9 +1,9 @@
 //! Slices of numbers lent as the words and cells of a workspace, with no copy, so that a caller's own lists can be one.
 #![tactic(auto)]
 
-ghost use Rattle.std.specs.Prelude.{◌≡◌, map};
-ghost use Rattle.std.specs.Borrow.{sem, Lends, Array, isize as signed_number, usize as number};
-ghost use Rattle.amd_views.specs.Views.{AreWords, Cells, Words, raised};
+ghost use Rattle.std.specs.Prelude.{◌≡◌, map, pos};
+ghost use Rattle.std.specs.Borrow.{sem, Lends, Array, i32 as narrow_number, isize as signed_number, usize as number};
+ghost use Rattle.amd_views.specs.Views.{AreNarrowWords, AreWords, Cells, NarrowWords, Words, raised};
 
 use amd_words::{Cell, Word};
 use std::slice::from_raw_parts_mut;
@@ -15,6 +15,16 @@ pub fn raise(numbers: &mut [isize])
 {
     for i in 0..numbers.len() {
         numbers[i] = numbers[i].max(-isize::MAX);
+    }
+}
+
+/// Makes each number 0, so that any slice of numbers can be lent as narrow words.
+pub fn clear(numbers: &mut [i32])
+    ensures cleared { numbers.new ≡ map (λ x. pos 0) numbers.old }
+    ensures fits { AreNarrowWords numbers.new }
+{
+    for i in 0..numbers.len() {
+        numbers[i] = 0;
     }
 }
 
@@ -39,6 +49,27 @@ pub fn lend_words(numbers: &mut [isize]) -> &mut [Word<isize>]
         i += 1;
     }
     unsafe { from_raw_parts_mut(start as *mut Word<isize>, len) }
+}
+
+/// The numbers of 32 bits as narrow words, of which none is the least `i32`. Each is stored once more, as in
+/// `lend_words`.
+pub fn lend_narrow(numbers: &mut [i32]) -> &mut [Word<i32>]
+    requires fits { AreNarrowWords numbers.old }
+    ensures* writes_back { sem 𝓛 (Lends (Array narrow_number 0) (Array NarrowWords 0) numbers.entry result (λ ws. ws)) }
+    ensures value { result.now ≡ numbers.old }
+{
+    let len = numbers.len();
+    let start = numbers.as_mut_ptr();
+    let mut i = 0;
+    while i < len {
+        unsafe {
+            let at = start.add(i);
+            let number = *at;
+            *at = number;
+        }
+        i += 1;
+    }
+    unsafe { from_raw_parts_mut(start as *mut Word<i32>, len) }
 }
 
 /// The numbers as cells: what is written to the cells is what they are afterwards. Each is stored once more, as in

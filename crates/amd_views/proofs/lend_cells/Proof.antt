@@ -49,7 +49,7 @@ abbrev ν : Sym
 abbrev stayed : Stays (F.ended).signature.params (F.ended).kept
 stayed = (stay_dropped (mut_slice_of (0 ∷ []) tt (plain (λ _. usize))) no, tt)
 
-lones : Lones (rows_of (field (row_of usize) ∷ []))
+lones : Lones (rows_of (field w64 (row_of usize) ∷ []))
 lones = ((λ x vs p. subst Lone (sym p.0) tt), tt)
 
 -- each number fits
@@ -60,14 +60,14 @@ any (x ∷ xs) = (tt, any xs)
 module _ {M : Type 1} {𝓤 : Ura M} (𝓛 : Logic 𝓤) where
   open 𝓛 use {H}
 
-  turns : Turns 𝓛 ν (row_of usize) (row_of Cells) (λ x. x) (λ x. Unit {0})
+  turns : Turns 𝓛 w64 ν (row_of usize) (row_of Cells) (λ x. x) (λ x. Unit {0})
   turns = record {
     number_out = λ x b o. uint_out 𝓛 full_share w64 x b o;
-    struct_in = λ x b o fit. qed 𝓛 (‵ (fat full_share (ty_int w64) b o (vint w64 x)) ∷ raw (Left 𝓛 b o) ∷ []) ∵ well_typed ! (λ good.
+    struct_in = λ x b o fit. qed 𝓛 (‵ (fat full_share (ty_int w64) b o (vint w64 x)) ∷ raw (Left 𝓛 w64 b o) ∷ []) ∵ well_typed ! (λ good.
         use1 𝓛 (‵ (part_at usize full_share x b o)) (uint_in 𝓛 full_share w64 x b o) $ let small : x < 2 ^ 64 = good.1.fits in
-        join ! $ by ! (struct_in 𝓛 b o (row_of usize) lones (Inside ℕ) (λ a. a.inner) (λ a. a.inner ≤ 18446744073709551615)
+        join ! $ by ! (struct_in 𝓛 w64 b o (row_of usize) lones (Inside ℕ) (λ a. a.inner) (λ a. a.inner ≤ 18446744073709551615)
         (record { inner = x }) (omega (arith, small))));
-    struct_out = λ x b o. struct_out 𝓛 b o (row_of usize) lones (Inside ℕ) (λ a. a.inner) (λ a. a.inner ≤ 18446744073709551615) x;
+    struct_out = λ x b o. struct_out 𝓛 w64 b o (row_of usize) lones (Inside ℕ) (λ a. a.inner) (λ a. a.inner ≤ 18446744073709551615) x;
   }
 
   module _ (at_mem : Memory → SProp 𝓤) (run : Routine → Fun 𝓤) (𝓣 : Tables 𝓤 𝓛.H) (κ : Lft) (q : Share) (b o : ℕ) (γ : GName)
@@ -86,7 +86,7 @@ module _ {M : Type 1} {𝓤 : Ura M} (𝓛 : Logic 𝓤) where
 
     walks : Room usize (length xs) → ent 𝓤 (on_entry 𝓛 F.signature (κ, tt) (q, tt) (self, tt) (mut_slice_vals self, tt))
         (WpFn 𝓤 H 𝓣.C 𝓣.Λ code.function (slice_val (b, o) (length xs) ∷ []) Post)
-    walks rm = walk 𝓛 ν (row_of usize) (row_of Cells) (λ x. x) (λ x. Unit {0}) turns 𝓣 κ q b o γ xs Post rm (λ δ.
+    walks rm = walk 𝓛 w64 ν (row_of usize) (row_of Cells) (λ x. x) (λ x. Unit {0}) turns 𝓣 κ q b o γ xs Post rm (λ δ.
         let given : MutBor (List ℕ) = record { ref_ptr = (b, o); ghost_name = δ; now = xs } in
         qed 𝓛 ((‵ ((MutSlice (named 0) κ Cells).own_val given (slice_val (b, o) (length xs) ∷ [])) ⊛ ‵ (flft κ q)
         ⊛ ‵ (follows (Array usize 0) (Array Cells 0) γ δ (λ ws. ws))) ∷ []) ∵ split3 ! $

@@ -49,7 +49,7 @@ abbrev ν : Sym
 abbrev stayed : Stays (F.ended).signature.params (F.ended).kept
 stayed = (stay_dropped (mut_slice_of (0 ∷ []) tt (plain (λ _. isize))) no, tt)
 
-lones : Lones (rows_of (field (row_of isize) ∷ []))
+lones : Lones (rows_of (field w64 (row_of isize) ∷ []))
 lones = ((λ x vs p. subst Lone (sym p.0) tt), tt)
 
 -- a number that fits a word fits its width
@@ -60,14 +60,14 @@ fits_width (negsuc n) h = omega (arith, h)
 module _ {M : Type 1} {𝓤 : Ura M} (𝓛 : Logic 𝓤) where
   open 𝓛 use {H}
 
-  turns : Turns 𝓛 ν (row_of isize) (row_of Words) (of_z w64) (λ x. nat_abs x ≤ 9223372036854775807)
+  turns : Turns 𝓛 w64 ν (row_of isize) (row_of Words) (of_z w64) (λ x. nat_abs x ≤ 9223372036854775807)
   turns = record {
     number_out = λ x b o. sint_out 𝓛 full_share w64 x b o;
-    struct_in = λ x b o fit. qed 𝓛 (‵ (fat full_share (ty_int w64) b o (vint w64 (of_z w64 x))) ∷ raw (Left 𝓛 b o) ∷ []) ∵
+    struct_in = λ x b o fit. qed 𝓛 (‵ (fat full_share (ty_int w64) b o (vint w64 (of_z w64 x))) ∷ raw (Left 𝓛 w64 b o) ∷ []) ∵
         use1 𝓛 (‵ (part_at isize full_share x b o)) (sint_in 𝓛 full_share w64 x b o (fits_width x fit)) $
-        join ! $ by ! (struct_in 𝓛 b o (row_of isize) lones (Inside ℤ) (λ a. a.inner) (λ a. nat_abs a.inner ≤ 9223372036854775807)
+        join ! $ by ! (struct_in 𝓛 w64 b o (row_of isize) lones (Inside ℤ) (λ a. a.inner) (λ a. nat_abs a.inner ≤ 9223372036854775807)
         (record { inner = x }) fit);
-    struct_out = λ x b o. struct_out 𝓛 b o (row_of isize) lones (Inside ℤ) (λ a. a.inner) (λ a. nat_abs a.inner ≤ 9223372036854775807) x;
+    struct_out = λ x b o. struct_out 𝓛 w64 b o (row_of isize) lones (Inside ℤ) (λ a. a.inner) (λ a. nat_abs a.inner ≤ 9223372036854775807) x;
   }
 
   module _ (at_mem : Memory → SProp 𝓤) (run : Routine → Fun 𝓤) (𝓣 : Tables 𝓤 𝓛.H) (κ : Lft) (q : Share) (b o : ℕ) (γ : GName)
@@ -86,7 +86,7 @@ module _ {M : Type 1} {𝓤 : Ura M} (𝓛 : Logic 𝓤) where
 
     walks : Room isize (length xs) → AreWords xs → ent 𝓤 (on_entry 𝓛 F.signature (κ, tt) (q, tt) (self, tt) (mut_slice_vals self, tt))
         (WpFn 𝓤 H 𝓣.C 𝓣.Λ code.function (slice_val (b, o) (length xs) ∷ []) Post)
-    walks rm fit = walk 𝓛 ν (row_of isize) (row_of Words) (of_z w64) (λ x. nat_abs x ≤ 9223372036854775807)
+    walks rm fit = walk 𝓛 w64 ν (row_of isize) (row_of Words) (of_z w64) (λ x. nat_abs x ≤ 9223372036854775807)
         turns 𝓣 κ q b o γ xs Post rm (λ δ.
         let given : MutBor (List ℤ) = record { ref_ptr = (b, o); ghost_name = δ; now = xs } in
         qed 𝓛 ((‵ ((MutSlice (named 0) κ Words).own_val given (slice_val (b, o) (length xs) ∷ [])) ⊛ ‵ (flft κ q)
