@@ -3,3 +3,5 @@ pub mod Rows
 pub mod Places
 pub mod Lending
 pub mod Raised
+pub mod SignedTurns
+pub mod Lent

@@ -17,7 +17,7 @@ use denote.Struct.Parts.{Struct-left, left_Struct, shape_of}
 use denote.Struct.Struct.{Struct}
 use Rattle.amd_views.proofs.Rows.{Row, number, number_ty, field_tys, field_first, struct_size, struct_aligned, struct_packed}
 
-abbrev struct_ty : Width → Ty
+abbrev pub struct_ty : Width → Ty
 struct_ty w = ty_struct [] (field_tys w)
 
 module _ {X : Type 0} (w : Width) (r : Row X) where

@@ -1,43 +1,30 @@
--- `lend_cells` lends numbers as cells: the walk of `Lending` at their types.
-use Rattle.std.proofs.Common.{refl, sym, subst, ℕ, ◌≤◌, ◌<◌, ◌^◌, List, [], ◌∷◌, length, arith, w64}
+-- `lend_cells` lends numbers as cells: `Lent` at their types.
+use Rattle.std.proofs.Common.{sym, subst, ℕ, ◌≤◌, ◌<◌, ◌^◌, List, [], ◌∷◌, arith, w64}
 use seplogic.Ra.Ura.{Ura}
 use base.Fraction.{full_share}
-use base.Logic.{SProp, ent}
-use base.Fml.{Lft, GName, Share, ftrue, fat, flft}
-use mir.Syntax.{Sym, named, ty_int}
-use mir.Val.{Val, vint}
-use prog.Memory.{Memory}
-use prog.Routine.{Routine}
-use prog.Wp.{WpFn, Tables}
+use base.Logic.{emp, via, fst∗}
+use base.Fml.{fat}
+use mir.Syntax.{Sym, ty_int}
+use mir.Val.{vint}
+use prog.Wp.{Tables}
 use types.Logic.{Logic}
-use contract.Monad.{Fun}
 use contract.Running.{tables, tables_of}
-use sound.WpLaws.{WpFn-mono}
-use types.Kit.{‵, raw, ◌⊛◌, ◌$◌, ◌∵◌, !, qed, by, move, drop, use1, split3, join, fjoin, suffices, frame, done}
+use types.Kit.{‵, raw, ◌$◌, ◌∵◌, !, qed, by, use1, join}
 use types.Run.{well_typed}
 use denote.Plain.{uint_in, uint_out}
-use denote.Exit.{no}
 use denote.Memory.{part_at}
-use denote.Follow.{follows}
-use denote.Array.{Array}
-use denote.Ref.{MutBor}
 use denote.Builtin.{usize}
-use denote.Signature.{plain, mut_slice_of}
-use denote.Slice.{MutSlice, Room, slice_val, mut_slice_vals, mut_slice_Tells}
-use denote.Steps.{nothing}
 use denote.Struct.Members.{Lones, Lone, rows_of}
-use denote.Triple.Clauses.{Clauses}
-use denote.Triple.Entry.{on_entry}
 use denote.Triple.Spec.{triple_of}
 use denote.Triple.Table.{entered}
-use denote.Triple.Walked.{says, Stays, stay_dropped, walk_of, ends_at, walked, Goes-spent_slice, walk_Meets}
 use Rattle.amd_words.specs.contracts.Cell.TheInside as inside
 use Rattle.amd_words.specs.contracts.UsizeUnsigned.TheImpl.{ghosts}
 use Rattle.amd_words.specs.declared.Cell.TheInside.{Inside}
 use Rattle.amd_views.specs.Views.{Each, Cells}
 use Rattle.amd_views.proofs.Rows.{row_of}
 use Rattle.amd_views.proofs.Places.{Left, field, struct_in, struct_out}
-use Rattle.amd_views.proofs.Lending.{Turns, walk}
+use Rattle.amd_views.proofs.Lending.{Turns}
+use Rattle.amd_views.proofs.Lent.{meets}
 use Rattle.amd_views.specs.contracts.lend_cells as F
 use Rattle.amd_views.specs.contracts.lend_cells.Key.{name as #self}
 use Rattle.amd_views.proofs.lend_cells.Statement as stated
@@ -45,9 +32,6 @@ use Rattle.amd_views.proofs.lend_cells.Code as code
 
 abbrev ν : Sym
 ν = (inside.struct usize ghosts).name
-
-abbrev stayed : Stays (F.ended).signature.params (F.ended).kept
-stayed = (stay_dropped (mut_slice_of (0 ∷ []) tt (plain (λ _. usize))) no, tt)
 
 lones : Lones (rows_of (field w64 (row_of usize) ∷ []))
 lones = ((λ x vs p. subst Lone (sym p.0) tt), tt)
@@ -70,38 +54,10 @@ module _ {M : Type 1} {𝓤 : Ura M} (𝓛 : Logic 𝓤) where
     struct_out = λ x b o. struct_out 𝓛 w64 b o (row_of usize) lones (Inside ℕ) (λ a. a.inner) (λ a. a.inner ≤ 18446744073709551615) x;
   }
 
-  module _ (at_mem : Memory → SProp 𝓤) (run : Routine → Fun 𝓤) (𝓣 : Tables 𝓤 𝓛.H) (κ : Lft) (q : Share) (b o : ℕ) (γ : GName)
-      (xs : List ℕ) where
-    abbrev clauses : Clauses 𝓤 F.ended
-    clauses = F.clauses 𝓛 at_mem run
-
-    abbrev self : MutBor (List ℕ)
-    self = record { ref_ptr = (b, o); ghost_name = γ; now = xs }
-
-    abbrev bound : (walk_of 𝓛 F.ended stayed clauses).Ghost
-    bound = (((κ, tt), (q, tt), tt, (self, tt), (mut_slice_vals self, tt)), tt)
-
-    abbrev Post : Val → SProp 𝓤
-    Post = (walk_of 𝓛 F.ended stayed clauses).post bound
-
-    walks : Room usize (length xs) → ent 𝓤 (on_entry 𝓛 F.signature (κ, tt) (q, tt) (self, tt) (mut_slice_vals self, tt))
-        (WpFn 𝓤 H 𝓣.C 𝓣.Λ code.function (slice_val (b, o) (length xs) ∷ []) Post)
-    walks rm = walk 𝓛 w64 ν (row_of usize) (row_of Cells) (λ x. x) (λ x. Unit {0}) turns 𝓣 κ q b o γ xs Post rm (λ δ.
-        let given : MutBor (List ℕ) = record { ref_ptr = (b, o); ghost_name = δ; now = xs } in
-        qed 𝓛 ((‵ ((MutSlice (named 0) κ Cells).own_val given (slice_val (b, o) (length xs) ∷ [])) ⊛ ‵ (flft κ q)
-        ⊛ ‵ (follows (Array usize 0) (Array Cells 0) γ δ (λ ws. ws))) ∷ []) ∵ split3 ! $
-        suffices ! _ (ends_at 𝓛 F.ended stayed clauses bound (slice_val (b, o) (length xs)) given (tt, tt) (tt, tt)) $
-        nothing ! $ nothing ! $ fjoin ! $ join ! $ nothing ! $ move ! (2 ∷ 0 ∷ []) $ join ! $ join ! $ frame ! $ says ! refl $ done !)
-        (any xs)
-
 pub lend_cells_spec : {M : Type 1} → stated.statement M
 unfolding tables_of
 lend_cells_spec 𝓤 𝓛 𝓜 𝓡 wired =
     let 𝓣 : Tables 𝓤 𝓛.H = tables_of 𝓤 𝓛.H 𝓜 (tables 𝓤 𝓛.H 𝓜 𝓡 𝓡.env) in
-    let c = F.clauses 𝓛 𝓜.mem 𝓡.returns in let run = WpFn 𝓤 𝓛.H 𝓣.C 𝓣.Λ code.function in
     entered 𝓤 𝓛.H (triple_of 𝓛 F.signature (F.spec 𝓛 𝓜.mem 𝓡.returns)) 𝓣.C 𝓣.Λ #self code.function (code.unfolded 𝓤 𝓛.H 𝓜 𝓡 wired)
-    (walk_Meets 𝓛 F.ended stayed (Goes-spent_slice 𝓛 1 (0 ∷ []) tt (plain (λ _. usize)), tt) c run (WpFn-mono 𝓤 𝓛.H 𝓛.laws 𝓣 code.function)
-    (walked 𝓛 F.ended stayed c run (λ κs. (mut_slice_vals, tt)) (λ κs. (mut_slice_Tells (named 0) κs.0 usize, tt))
-    (λ κs qs bounds a g are. qed 𝓛 (raw (on_entry 𝓛 F.signature κs qs a (mut_slice_vals a.0, tt)) ∷ ‵ ftrue ∷ []) ∵ move ! (1 ∷ [])
-    $ drop ! $
-    by ! (walks 𝓛 𝓜.mem 𝓡.returns 𝓣 κs.0 qs.0 a.0.ref_ptr.0 a.0.ref_ptr.1 a.0.ghost_name a.0.now are.0.0.1))))
+    (meets 𝓛 w64 ν (row_of usize) (row_of Cells) (λ x. x) (λ x. Unit {0}) (λ xs. emp 𝓤) (λ xs P Q any_of. via 𝓤 P (fst∗ 𝓤 P (emp 𝓤))
+    (any_of (any xs))) (turns 𝓛) 𝓣)
