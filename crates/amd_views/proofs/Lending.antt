@@ -1,5 +1,5 @@
 -- A slice of numbers is lent as one of structs: each number is stored again, where a struct then lies. A walk of the code that
--- both functions have, whatever their types are called.
+-- the functions have, whatever the width of a number is and whatever their types are called.
 use Rattle.std.proofs.Common.{
   ◌≡◌,
   refl,

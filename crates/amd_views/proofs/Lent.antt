@@ -15,7 +15,7 @@ use denote.Exit.{no}
 use denote.Follow.{follows}
 use denote.Array.{Array}
 use denote.Ref.{MutBor}
-use denote.Signature.{Slot, Signature, plain, mut_slice_of}
+use denote.Signature.{Slot, plain, mut_slice_of}
 use denote.Slice.{MutSlice, Room, slice_val, mut_slice_vals, mut_slice_Tells}
 use denote.Steps.{nothing}
 use denote.Triple.Clauses.{Clauses, Ended, closing}
@@ -71,7 +71,8 @@ module _ {M : Type 1} {𝓤 : Ura M} (𝓛 : Logic 𝓤) {X : Type 0} (w : Width
         abbrev Post : Val → SProp 𝓤
         Post = (walk_of 𝓛 (ended N S) (stayed N S) clauses).post bound
 
-        walks : Room N (length xs) → Each ok xs → ent 𝓤 (on_entry 𝓛 (ended N S).signature (κ, tt) (q, tt) (self, tt) (mut_slice_vals self, tt))
+        walks : Room N (length xs) → Each ok xs →
+            ent 𝓤 (on_entry 𝓛 (ended N S).signature (κ, tt) (q, tt) (self, tt) (mut_slice_vals self, tt))
             (WpFn 𝓤 H 𝓣.C 𝓣.Λ (lends w ν) (slice_val (b, o) (length xs) ∷ []) Post)
         walks rm fit = walk 𝓛 w ν I W bits ok turns 𝓣 κ q b o γ xs Post rm (λ δ.
             let given : MutBor (List X) = record { ref_ptr = (b, o); ghost_name = δ; now = xs } in

@@ -5,3 +5,4 @@ pub mod Lending
 pub mod Raised
 pub mod SignedTurns
 pub mod Lent
+pub mod Cleared

@@ -47,7 +47,8 @@ module _ {M : Type 1} {𝓤 : Ura M} (𝓛 : Logic 𝓤) (w : Width) (b o : ℕ)
     abbrev Own : X → List Val → Fml
     Own = Viewed w r A inner holds
 
-    pub struct_out : (z : X) → ent 𝓤 (sem 𝓛 (part_of (struct_ty w ∷ []) Own full_share z b o)) (sem 𝓛 (part_at (number w r) full_share z b o))
+    pub struct_out : (z : X) → ent 𝓤 (sem 𝓛 (part_of (struct_ty w ∷ []) Own full_share z b o))
+        (sem 𝓛 (part_at (number w r) full_share z b o))
     unfolding part_of
     struct_out z = qed 𝓛 (‵ (part_of (struct_ty w ∷ []) Own full_share z b o) ∷ []) ∵ fpick ! (λ vs. fsplit ! $ move ! (1 ∷ [])
         $ fpick ! (λ x. fsplit ! $
@@ -78,6 +79,6 @@ module _ {M : Type 1} {𝓤 : Ura M} (𝓛 : Logic 𝓤) (w : Width) (b o : ℕ)
       use1 𝓛 (‵ (froom (struct_ty w) b o) ⊛ raw (wand 𝓤 (H.room (struct_ty w) b o) (H.room (number_ty w) b o)))
       (𝓛.laws.room_as (number_ty w) (struct_ty w) b o (struct_size w []) (struct_aligned w [])) $ split ! $
       move ! (1 ∷ []) $ drop ! $
-      use1 𝓛 (‵ (fsep (froom (number_ty w) b (o + up (bytes w) zero)) ftrue) ⊛ raw Left) (𝓛.laws.room_apart [] (field_tys w) b o (struct_packed w []))
-      $ split ! $ fsplit ! $
+      use1 𝓛 (‵ (fsep (froom (number_ty w) b (o + up (bytes w) zero)) ftrue) ⊛ raw Left)
+      (𝓛.laws.room_apart [] (field_tys w) b o (struct_packed w [])) $ split ! $ fsplit ! $
       rewrite ! 0 (λ (k : ℕ). ‵ (froom (number_ty w) b k)) starts refl $ keep ! (0 ∷ 2 ∷ []) $ done !

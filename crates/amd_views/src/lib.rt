@@ -1,4 +1,7 @@
 //! Slices of numbers lent as the words and cells of a workspace, with no copy, so that a caller's own lists can be one.
+//!
+//! `lend_words` and `lend_cells` lend numbers of 64 bits, and `lend_narrow` lends those of 32 bits. `raise` and `clear`
+//! make numbers that can be lent.
 #![tactic(auto)]
 
 ghost use Rattle.std.specs.Prelude.{◌≡◌, map, pos};
@@ -18,7 +21,7 @@ pub fn raise(numbers: &mut [isize])
     }
 }
 
-/// Makes each number 0, so that any slice of numbers can be lent as narrow words.
+/// Makes each number 0, so that the numbers can be lent as narrow words.
 pub fn clear(numbers: &mut [i32])
     ensures cleared { numbers.new ≡ map (λ x. pos 0) numbers.old }
     ensures fits { AreNarrowWords numbers.new }

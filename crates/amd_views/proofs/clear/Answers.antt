@@ -2,7 +2,7 @@ use Rattle.std.proofs.Common.{ℤ, pos, ◌<◌, arith, rules, length}
 use Rattle.std.specs.Prelude.{slice_index_or}
 use Rattle.std.proofs.lemmas.List.{get_or_default}
 use Rattle.std.proofs.lemmas.List.Edits.{map_over_more}
-use Rattle.amd_views.proofs.Raised.{cleared_fit}
+use Rattle.amd_views.proofs.Cleared.{cleared_fit}
 use Rattle.amd_views.proofs.clear.Goals as goal
 
 pub loop-i-preserved : goal.loop-i-preserved

@@ -1,6 +1,5 @@
 -- `lend_narrow` lends numbers of 32 bits as narrow words: `Lent` at their types.
-use Rattle.std.proofs.Common.{refl, ℕ, ℤ, ◌≤◌, nat_abs, lit<, w32}
-use base.Logic.{SProp}
+use Rattle.std.proofs.Common.{refl, ℕ, ◌≤◌, nat_abs, lit<, w32}
 use mir.Syntax.{Sym}
 use mir.Val.{of_z}
 use prog.Wp.{Tables}
@@ -32,5 +31,6 @@ unfolding tables_of
 lend_narrow_spec 𝓤 𝓛 𝓜 𝓡 wired =
     let 𝓣 : Tables 𝓤 𝓛.H = tables_of 𝓤 𝓛.H 𝓜 (tables 𝓤 𝓛.H 𝓜 𝓡 𝓡.env) in
     entered 𝓤 𝓛.H (triple_of 𝓛 F.signature (F.spec 𝓛 𝓜.mem 𝓡.returns)) 𝓣.C 𝓣.Λ #self code.function (code.unfolded 𝓤 𝓛.H 𝓜 𝓡 wired)
-    (meets 𝓛 w32 ν (row_of i32) (row_of NarrowWords) (of_z w32) (λ z. nat_abs z ≤ most) (λ zs. fact 𝓤 (AreNarrowWords zs)) (λ zs P Q. needs 𝓤 (AreNarrowWords zs) P)
+    (meets 𝓛 w32 ν (row_of i32) (row_of NarrowWords) (of_z w32) (λ z. nat_abs z ≤ most)
+    (λ zs. fact 𝓤 (AreNarrowWords zs)) (λ zs P Q. needs 𝓤 (AreNarrowWords zs) P)
     (signed_turns w32 most (lit< tt) 𝓛 ν (row_of NarrowWords) refl) 𝓣)

@@ -1,6 +1,5 @@
 -- `lend_words` lends numbers as words: `Lent` at their types.
-use Rattle.std.proofs.Common.{refl, ℕ, ℤ, ◌≤◌, nat_abs, lit<, w64}
-use base.Logic.{SProp}
+use Rattle.std.proofs.Common.{refl, ℕ, ◌≤◌, nat_abs, lit<, w64}
 use mir.Syntax.{Sym}
 use mir.Val.{of_z}
 use prog.Wp.{Tables}
@@ -32,5 +31,6 @@ unfolding tables_of
 lend_words_spec 𝓤 𝓛 𝓜 𝓡 wired =
     let 𝓣 : Tables 𝓤 𝓛.H = tables_of 𝓤 𝓛.H 𝓜 (tables 𝓤 𝓛.H 𝓜 𝓡 𝓡.env) in
     entered 𝓤 𝓛.H (triple_of 𝓛 F.signature (F.spec 𝓛 𝓜.mem 𝓡.returns)) 𝓣.C 𝓣.Λ #self code.function (code.unfolded 𝓤 𝓛.H 𝓜 𝓡 wired)
-    (meets 𝓛 w64 ν (row_of isize) (row_of Words) (of_z w64) (λ z. nat_abs z ≤ most) (λ zs. fact 𝓤 (AreWords zs)) (λ zs P Q. needs 𝓤 (AreWords zs) P)
+    (meets 𝓛 w64 ν (row_of isize) (row_of Words) (of_z w64) (λ z. nat_abs z ≤ most)
+    (λ zs. fact 𝓤 (AreWords zs)) (λ zs P Q. needs 𝓤 (AreWords zs) P)
     (signed_turns w64 most (lit< tt) 𝓛 ν (row_of Words) refl) 𝓣)
