@@ -54,8 +54,8 @@ pub fn lend_words(numbers: &mut [isize]) -> &mut [Word<isize>]
     unsafe { from_raw_parts_mut(start as *mut Word<isize>, len) }
 }
 
-/// The numbers of 32 bits as narrow words, of which none is the least `i32`. Each is stored once more, as in
-/// `lend_words`.
+/// The numbers as narrow words, of which none is the least `i32`: what is written to the words is what they are
+/// afterwards. Each is stored once more, as in `lend_words`.
 pub fn lend_narrow(numbers: &mut [i32]) -> &mut [Word<i32>]
     requires fits { AreNarrowWords numbers.old }
     ensures* writes_back { sem 𝓛 (Lends (Array narrow_number 0) (Array NarrowWords 0) numbers.entry result (λ ws. ws)) }
