@@ -1,4 +1,3 @@
-pub mod SamePairs
 pub mod Orderings
 pub mod OneAnswer
 pub mod OrderedColumns

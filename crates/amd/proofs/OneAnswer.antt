@@ -20,7 +20,7 @@ use Rattle.amd_types.specs.declared.amd.Status.{Status}
 use Rattle.amd_types.specs.declared.amd.Status.TheVariants.{OK, Invalid, OkButJumbled, OutOfMemory}
 use Rattle.amd_engine_law.proofs.EnginesAgree.{inverse_one}
 use Rattle.amd.specs.Answers.{OrdersMatrix, TellsFigures, IsOrdering, IsOrderingHolding, AreDense, AreOneAnswer, ordered_pairs}
-use Rattle.amd.proofs.SamePairs.{graph_same, pairs_same}
+use Rattle.amd_pattern_laws.proofs.SamePairs.{graph_same, pairs_same}
 use Rattle.amd.proofs.Orderings.{HoldTheSame, last_equal, dense_equal, wells_equal}
 use Rattle.amd_edges.proofs.Places.{funext2}
 

@@ -30,7 +30,7 @@ use Rattle.amd.specs.Answers.{ordered_pairs}
 use Rattle.amd_input.specs.Transposes.{IsCleanForm}
 use Rattle.amd_input.specs.PatternFigures.{HasPatternFigures}
 use Rattle.amd_input.specs.Degrees.{AreDegrees}
-use Rattle.amd.proofs.SamePairs.{figures_turned, graph_turned, graph_same, pairs_same, pairs_turned}
+use Rattle.amd_pattern_laws.proofs.SamePairs.{figures_turned, graph_turned, graph_same, pairs_same, pairs_turned}
 use Rattle.amd_edges.proofs.Places.{funext2}
 
 -- an ordering of the transpose is one of the matrix

@@ -6,7 +6,7 @@ use Rattle.amd_model.specs.Below.{sum_below, count_below}
 use Rattle.amd_model.specs.Graph.{degree, degree_sum}
 use Rattle.amd_model.specs.Input.Pattern.{IsTranspose, graph_of, is_pair}
 use Rattle.amd_model.proofs.Counting.Below.{sum_same, count_same}
-use Rattle.amd.proofs.SamePairs.{figures_turned, graph_turned, pairs_turned}
+use Rattle.amd_pattern_laws.proofs.SamePairs.{figures_turned, graph_turned, pairs_turned}
 use Rattle.amd_report.specs.Degrees.{HasShape, IsFacts}
 use Rattle.amd_report.specs.Shapes.{HasComponents, IsMost, IsProfile, above, below, mirrored_count}
 use Rattle.amd_report.specs.declared.facts.Facts.{Facts}
