@@ -3,9 +3,9 @@ use Rattle.std.proofs.Common.{ℕ, ◌≡◌, ◌<◌, ◌⊎◌, inl, inr, sym,
 use Rattle.std.specs.Prelude.{slice_index, unsigned_abs, Option}
 use Rattle.amd_model.specs.Input.Pattern.{graph_of}
 use Rattle.amd_model.proofs.Patterns.DegreeSums.{pattern_graph}
-use Rattle.amd_symbolic.specs.Partitions.{IsPartitionOf, OrderedMatrix, order_of}
-use Rattle.amd_symbolic.proofs.SupernodeRoom.{room-of}
-use Rattle.amd_symbolic.specs.SupernodeLaws.{AreSizesOf, TellSizesOf}
+use Rattle.amd_factor.specs.Partitions.{IsPartitionOf, OrderedMatrix, order_of}
+use Rattle.amd_factor.proofs.Partitions.SupernodeRoom.{room-of}
+use Rattle.amd_factor.specs.SupernodeLaws.{AreSizesOf, TellSizesOf}
 use Rattle.amd_c.specs.Supernodal.{Blocks, PassesPlaces}
 
 -- the sizes of the supernodes, by a partition

@@ -2,7 +2,7 @@
 use Rattle.std.proofs.Common.{ℤ, List, ◌≡◌, ◌∙◌, ap, subst, to_z, of_z, w32}
 use Rattle.std.specs.Prelude.{Result}
 use Rattle.std.proofs.lemmas.List.{map-id}
-use Rattle.amd_symbolic.specs.declared.factor.Fault.{Fault}
+use Rattle.amd_factor.specs.declared.factor.Fault.{Fault}
 use Rattle.amd_calls.specs.Columns.{number_of_end}
 use Rattle.amd_c.specs.Patterns.{Counted, counted, LeavesDegrees, DegreesInto, RowArrays, row_arrays, LeavesRowForm, RowFormInto}
 use Rattle.amd_calls.specs.declared.records.Statistics.{Statistics}

@@ -6,9 +6,9 @@ use Rattle.amd_model.specs.Input.Columns.{IsInput, IsSortedInput}
 use Rattle.amd_input.specs.Degrees.{AreDegrees}
 use Rattle.amd_input.specs.PatternFigures.{HasPatternFigures}
 use Rattle.amd_input.specs.Transposes.{IsCleanTranspose}
-use Rattle.amd_symbolic.specs.declared.factor.Fault.{Fault}
-use Rattle.amd_symbolic.specs.declared.factor.Fault.TheVariants.{NotColumnForm, NotPermutation, RoomTooSmall}
-use Rattle.amd_symbolic.specs.declared.factor.Fault.TheVariants.{OutOfMemory}
+use Rattle.amd_factor.specs.declared.factor.Fault.{Fault}
+use Rattle.amd_factor.specs.declared.factor.Fault.TheVariants.{NotColumnForm, NotPermutation, RoomTooSmall}
+use Rattle.amd_factor.specs.declared.factor.Fault.TheVariants.{OutOfMemory}
 use Rattle.amd_types.specs.Records.{fresh_info}
 use Rattle.amd_types.specs.declared.amd.Info.{Info}
 use Rattle.amd_calls.specs.Columns.{number_of_end}

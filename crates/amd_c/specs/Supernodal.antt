@@ -1,12 +1,12 @@
 -- What the calls for the supernodes of a factor leave in a caller's arrays and record, and which number they answer.
 use Rattle.std.specs.Prelude.{◌≡◌, ◌≢◌, ◌<◌, ◌+◌, ◌⊎◌, ℕ, ℤ, pos, Option, Result, Ok, Err, List, ◌++◌, map, drop}
 use Rattle.std.specs.Prelude.{length}
-use Rattle.amd_symbolic.specs.Counted.{IsCountsFault}
-use Rattle.amd_symbolic.specs.SupernodeLaws.{AreSizesOf}
-use Rattle.amd_symbolic.specs.Supernodes.{IsSupernodesOf}
-use Rattle.amd_symbolic.specs.declared.factor.Fault.{Fault}
-use Rattle.amd_symbolic.specs.declared.factor.Fault.TheVariants.{NotColumnForm, NotPermutation, RoomTooSmall}
-use Rattle.amd_symbolic.specs.declared.factor.Fault.TheVariants.{OutOfMemory}
+use Rattle.amd_factor.specs.Counted.{IsCountsFault}
+use Rattle.amd_factor.specs.SupernodeLaws.{AreSizesOf}
+use Rattle.amd_factor.specs.Supernodes.{IsSupernodesOf}
+use Rattle.amd_factor.specs.declared.factor.Fault.{Fault}
+use Rattle.amd_factor.specs.declared.factor.Fault.TheVariants.{NotColumnForm, NotPermutation, RoomTooSmall}
+use Rattle.amd_factor.specs.declared.factor.Fault.TheVariants.{OutOfMemory}
 use Rattle.amd_calls.specs.Columns.{number_of_end, parent_number}
 use Rattle.amd_calls.specs.declared.records.SupernodeSizes.{SupernodeSizes}
 

@@ -11,7 +11,7 @@ use amd_calls::records::{Statistics, statistics_of};
 use amd_input::aat::aat;
 use amd_input::preprocess::preprocess;
 use amd_input::valid::valid;
-use amd_symbolic::Fault;
+use amd_factor::Fault;
 use amd_types::amd::{Info, Status};
 use amd_types::index::Index;
 use amd_types::internal::to_count;

@@ -3,12 +3,12 @@
 // where there is a fault.
 
 ghost use Rattle.std.specs.Prelude.{◌≡◌, ◌↔◌, IsTrue, map};
-ghost use Rattle.amd_symbolic.specs.Partitions.{OrderedMatrix, ordered_matrix};
+ghost use Rattle.amd_factor.specs.Partitions.{OrderedMatrix, ordered_matrix};
 ghost use Rattle.amd_c.specs.Supernodal.{HasBlockPlaces, LeavesSizes, LeavesSupernodes, TellsSizes, blocks};
 
 use amd_calls::factors::{has_numbers, has_parents, write_first_numbers, write_first_parents};
 use amd_calls::records::SupernodeSizes;
-use amd_symbolic::{Fault, supernode_partition, supernode_sizes, write_rows};
+use amd_factor::{Fault, supernode_partition, supernode_sizes, write_rows};
 use amd_types::index::Index;
 use num_traits::PrimInt;
 use std::alloc::Global;

@@ -2,8 +2,8 @@
 use Rattle.std.proofs.Common.{ℕ, ℤ, List, ◌≡◌, ◌++◌, map, drop, length, refl, sym, ◌∙◌, ap, subst, to_z, of_z, w32}
 use Rattle.std.specs.Prelude.{Result, Ok, Err}
 use Rattle.std.proofs.lemmas.List.{drop-map, map-append, map-id}
-use Rattle.amd_symbolic.specs.declared.factor.Fault.{Fault}
-use Rattle.amd_symbolic.specs.declared.factor.Fault.TheVariants.{NotColumnForm, NotPermutation, RoomTooSmall, OutOfMemory}
+use Rattle.amd_factor.specs.declared.factor.Fault.{Fault}
+use Rattle.amd_factor.specs.declared.factor.Fault.TheVariants.{NotColumnForm, NotPermutation, RoomTooSmall, OutOfMemory}
 use Rattle.amd_calls.specs.Columns.{Arrays, arrays, number_of_end, LeavesColumns, ColumnsInto}
 use Rattle.amd_calls.proofs.Leaving.{values}
 

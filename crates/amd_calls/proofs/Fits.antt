@@ -11,10 +11,10 @@ use Rattle.amd_model.specs.Graph.{Graph}
 use Rattle.amd_model.specs.Quotient.{has}
 use Rattle.amd_model.proofs.Counting.Places.{has_contains}
 use Rattle.amd_model.proofs.Listings.Words.{has_head, has_tail}
-use Rattle.amd_symbolic.specs.Columns.{HoldColumns, first_of}
-use Rattle.amd_symbolic.proofs.Cutting.{at-map}
-use Rattle.amd_symbolic.proofs.FactorOnce.{first_least, tail_up}
-use Rattle.amd_symbolic.proofs.Vectors.{needed_is, pointer_is}
+use Rattle.amd_factor.specs.Columns.{HoldColumns, first_of}
+use Rattle.amd_factor.proofs.Partitions.Cutting.{at-map}
+use Rattle.amd_factor.proofs.Trees.FactorOnce.{first_least, tail_up}
+use Rattle.amd_factor.proofs.Factors.Vectors.{needed_is, pointer_is}
 use Rattle.amd_calls.specs.Columns.{parent_number}
 
 -- a rising list of numbers from low on, below high, is no longer than these are

@@ -7,14 +7,14 @@ use Rattle.std.proofs.lemmas.Int.{ints}
 use Rattle.std.proofs.lemmas.List.{map-id}
 use Rattle.amd_model.specs.Graph.{Graph}
 use Rattle.amd_model.specs.Input.Pattern.{graph_of}
-use Rattle.amd_symbolic.specs.Columns.{HoldFactor, PassesRoom}
-use Rattle.amd_symbolic.specs.Counted.{IsCutNeed}
-use Rattle.amd_symbolic.specs.Factors.{IsFactorOf, IsFault, WritesFactor}
-use Rattle.amd_symbolic.specs.declared.factor.Fault.{Fault}
-use Rattle.amd_symbolic.specs.declared.factor.Fault.TheVariants.{NotColumnForm, NotPermutation, OutOfMemory, RoomTooSmall}
-use Rattle.amd_symbolic.specs.declared.needs.Need.{Need}
-use Rattle.amd_symbolic.proofs.ColumnParts.{no_rows as no_factor}
-use Rattle.amd_symbolic.proofs.WithinParts.{no_rows}
+use Rattle.amd_factor.specs.Columns.{HoldFactor, PassesRoom}
+use Rattle.amd_factor.specs.Counted.{IsCutNeed}
+use Rattle.amd_factor.specs.Factors.{IsFactorOf, IsFault, WritesFactor}
+use Rattle.amd_factor.specs.declared.factor.Fault.{Fault}
+use Rattle.amd_factor.specs.declared.factor.Fault.TheVariants.{NotColumnForm, NotPermutation, OutOfMemory, RoomTooSmall}
+use Rattle.amd_factor.specs.declared.needs.Need.{Need}
+use Rattle.amd_factor.proofs.Calls.ColumnParts.{no_rows as no_factor}
+use Rattle.amd_factor.proofs.Calls.WithinParts.{no_rows}
 use Rattle.amd_calls.specs.Calls.{HasPlaces}
 use Rattle.amd_calls.specs.Columns.{Arrays, HasColumnPlaces, HoldsColumns, arrays, number_of_end}
 use Rattle.amd_calls.specs.Counting.{HoldsCounts, LeavesCounts, Tallies, needs_of, tallies}

@@ -1,10 +1,10 @@
 -- What the calls for the columns of a factor leave in a caller's arrays, and which number they answer.
 use Rattle.std.specs.Prelude.{◌≡◌, ◌≢◌, ◌+◌, ℕ, ℤ, pos, negsuc, Option, None, Some, Result, Ok, Err, List, ◌++◌, map}
 use Rattle.std.specs.Prelude.{drop, length}
-use Rattle.amd_symbolic.specs.Factors.{IsFactorOf, IsFault}
-use Rattle.amd_symbolic.specs.declared.factor.Fault.{Fault}
-use Rattle.amd_symbolic.specs.declared.factor.Fault.TheVariants.{NotColumnForm, NotPermutation, RoomTooSmall}
-use Rattle.amd_symbolic.specs.declared.factor.Fault.TheVariants.{OutOfMemory}
+use Rattle.amd_factor.specs.Factors.{IsFactorOf, IsFault}
+use Rattle.amd_factor.specs.declared.factor.Fault.{Fault}
+use Rattle.amd_factor.specs.declared.factor.Fault.TheVariants.{NotColumnForm, NotPermutation, RoomTooSmall}
+use Rattle.amd_factor.specs.declared.factor.Fault.TheVariants.{OutOfMemory}
 
 -- what stands in a caller's arrays for the pointers, the entries and the parents
 pub record Arrays : Type 0 where

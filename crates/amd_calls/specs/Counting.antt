@@ -2,10 +2,10 @@
 -- answer.
 use Rattle.std.specs.Prelude.{◌≡◌, ◌≢◌, ℕ, ℤ, pos, Option, Result, Ok, Err, List, map}
 use Rattle.amd_model.specs.Figures.{cut}
-use Rattle.amd_symbolic.specs.Counted.{IsCountsFault, IsCountsOf}
-use Rattle.amd_symbolic.specs.declared.factor.Fault.{Fault}
-use Rattle.amd_symbolic.specs.declared.factor.Fault.TheVariants.{NotColumnForm}
-use Rattle.amd_symbolic.specs.declared.needs.Need.{Need}
+use Rattle.amd_factor.specs.Counted.{IsCountsFault, IsCountsOf}
+use Rattle.amd_factor.specs.declared.factor.Fault.{Fault}
+use Rattle.amd_factor.specs.declared.factor.Fault.TheVariants.{NotColumnForm}
+use Rattle.amd_factor.specs.declared.needs.Need.{Need}
 use Rattle.amd_calls.specs.Calls.{HasPlaces}
 use Rattle.amd_calls.specs.Columns.{number_of_end, parent_number}
 use Rattle.amd_calls.specs.declared.records.Needs.{Needs}

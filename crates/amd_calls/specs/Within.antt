@@ -3,11 +3,11 @@
 use Rattle.std.specs.Prelude.{◌≡◌, ◌≢◌, ◌≤◌, ◌+◌, ◌*◌, ℕ, ℤ, pos, List, Result, Ok, Err, length, min, slice_index}
 use Rattle.std.specs.Prelude.{unsigned_abs}
 use Rattle.amd_types.specs.Counts.{counts}
-use Rattle.amd_symbolic.specs.Blocks.{whole_units}
-use Rattle.amd_symbolic.specs.Factors.{IsFault}
-use Rattle.amd_symbolic.specs.declared.factor.Fault.{Fault}
-use Rattle.amd_symbolic.specs.declared.factor.Fault.TheVariants.{NotColumnForm, NotPermutation, RoomTooSmall}
-use Rattle.amd_symbolic.specs.declared.factor.Fault.TheVariants.{OutOfMemory}
+use Rattle.amd_factor.specs.Blocks.{whole_units}
+use Rattle.amd_factor.specs.Factors.{IsFault}
+use Rattle.amd_factor.specs.declared.factor.Fault.{Fault}
+use Rattle.amd_factor.specs.declared.factor.Fault.TheVariants.{NotColumnForm, NotPermutation, RoomTooSmall}
+use Rattle.amd_factor.specs.declared.factor.Fault.TheVariants.{OutOfMemory}
 use Rattle.amd_calls.specs.Columns.{Arrays, HasColumnPlaces, HoldsColumns, number_of_end}
 use Rattle.amd_calls.specs.Counting.{LeavesCounts, Tallies}
 

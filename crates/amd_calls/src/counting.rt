@@ -8,8 +8,8 @@ ghost use Rattle.amd_calls.specs.Counting.{LeavesCounts, needs_of, tallies};
 use crate::factors::{has_numbers, has_parents, write_numbers, write_parents};
 use crate::records::Needs;
 use crate::writing::have_places;
-use amd_symbolic::needs::Need;
-use amd_symbolic::{Fault, counts};
+use amd_factor::needs::Need;
+use amd_factor::{Fault, counts};
 use num_traits::PrimInt;
 use std::alloc::Allocator;
 

@@ -7,7 +7,7 @@ ghost use Rattle.num_traits.specs.Laws.{Checks};
 ghost use Rattle.amd_calls.specs.Columns.{HasColumnPlaces, LeavesColumns, arrays, number_of_end, parent_number};
 
 use crate::signed::SignedIndex;
-use amd_symbolic::Fault;
+use amd_factor::Fault;
 use amd_types::index::Index;
 use amd_types::internal::{from_count, to_count};
 use num_traits::PrimInt;
@@ -152,7 +152,7 @@ pub fn columns_into<I: PrimInt, A: Allocator + Copy>(
     if !have_column_places(n, ptr, parent) {
         return Err(Fault::NotColumnForm);
     }
-    let frame = amd_symbolic::columns_into(alloc, n, a_p, a_i, p, rows)?;
+    let frame = amd_factor::columns_into(alloc, n, a_p, a_i, p, rows)?;
     if !has_numbers::<I>(&frame.ptr) || !has_parents::<I>(&frame.parent) {
         return Err(Fault::OutOfMemory);
     }

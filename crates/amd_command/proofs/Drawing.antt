@@ -6,12 +6,12 @@ use Rattle.std.proofs.lemmas.Bool.{cases_lt}
 use Rattle.std.proofs.lemmas.List.Elements.{Contains-append_cases, Contains-append_left, Contains-append_right}
 use Rattle.std.proofs.lemmas.List.FromFn.{length-range_with_len, get_or-range_with_len}
 use Rattle.amd_model.specs.Factor.{IsFactor}
-use Rattle.amd_symbolic.specs.Neighbours.{HasLater}
-use Rattle.amd_symbolic.specs.Orders.{Order}
-use Rattle.amd_symbolic.specs.Places.{ArePlaces}
-use Rattle.amd_symbolic.specs.Supernodes.{AreRuns, HoldRowsBelow, IsSupernodesOf, Joined, rows_below}
-use Rattle.amd_symbolic.proofs.PlaceNumbers.{counts_of}
-use Rattle.amd_symbolic.proofs.SupernodeFigures.{ends-in, ptr-most}
+use Rattle.amd_factor.specs.Neighbours.{HasLater}
+use Rattle.amd_factor.specs.Orders.{Order}
+use Rattle.amd_factor.specs.Places.{ArePlaces}
+use Rattle.amd_factor.specs.Supernodes.{AreRuns, HoldRowsBelow, IsSupernodesOf, Joined, rows_below}
+use Rattle.amd_factor.proofs.Factors.PlaceNumbers.{counts_of}
+use Rattle.amd_factor.proofs.Partitions.SupernodeFigures.{ends-in, ptr-most}
 use Rattle.amd_types.specs.Counts.{counts}
 use Rattle.amd_report.specs.declared.grids.Grid.{Grid}
 use Rattle.amd_report.specs.Fills.{AreCuts, IsFillOf, ShowsFill}

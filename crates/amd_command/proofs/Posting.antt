@@ -13,7 +13,7 @@ use Rattle.amd_postorder.specs.Trees.{IsElementForest, IsPostorderOf, is_tree_el
 use Rattle.amd_postorder.proofs.ForestListings.{listed_from, roots_siblings, trees_distinct}
 use Rattle.amd_postorder.proofs.TreeNumbers.{ranked}
 use Rattle.amd_command.specs.Postorders.{AreBehind, IsPostorder, forest_of}
-use Rattle.amd_symbolic.specs.Places.{ArePlaces}
+use Rattle.amd_factor.specs.Places.{ArePlaces}
 
 -- the links of the first k columns, and the parents of those stand behind
 pub record AreLinksUpTo (parents : List (Option ℕ)) (k : ℕ) (links : List ℤ) : Type 0 where

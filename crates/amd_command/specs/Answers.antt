@@ -5,8 +5,8 @@ use Rattle.std.specs.Str.Lossy.{utf8_lossy}
 use Rattle.amd.specs.Answers.{IsOrderingHolding}
 use Rattle.amd_types.specs.Statuses.{IsStatusOf}
 use Rattle.amd_types.specs.declared.amd.Info.{Info}
-use Rattle.amd_symbolic.specs.Counted.{IsCountsOf}
-use Rattle.amd_symbolic.specs.declared.needs.Need.{Need}
+use Rattle.amd_factor.specs.Counted.{IsCountsOf}
+use Rattle.amd_factor.specs.declared.needs.Need.{Need}
 use Rattle.amd_market.specs.declared.sources.Source.{Source}
 use Rattle.amd_report.specs.declared.compare.Needs.{Needs}
 use Rattle.amd_report.specs.declared.compare.Comparison.{Comparison}

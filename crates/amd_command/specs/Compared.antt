@@ -3,7 +3,7 @@ use Rattle.std.specs.Prelude.{◌≡◌, ◌/◌, ℕ, ℤ, Bool, true, false, O
 use Rattle.amd.specs.Answers.{IsOrderingHolding}
 use Rattle.amd_types.specs.declared.amd.Control.{Control}
 use Rattle.amd_types.specs.declared.amd.Info.{Info}
-use Rattle.amd_symbolic.specs.declared.needs.Need.{Need}
+use Rattle.amd_factor.specs.declared.needs.Need.{Need}
 use Rattle.amd_market.specs.declared.sources.Source.{Source}
 use Rattle.amd_report.specs.declared.compare.Needs.{Needs}
 use Rattle.amd_report.specs.declared.compare.Comparison.{Comparison}

@@ -5,7 +5,7 @@ use Rattle.amd_model.specs.Input.Pattern.{graph_of}
 use Rattle.amd_report.specs.declared.grids.Grid.{Grid}
 use Rattle.amd_report.specs.Fills.{ShowsFill}
 use Rattle.amd_report.specs.Grids.{IsSquareFor}
-use Rattle.amd_symbolic.specs.Orders.{Order, Permutes}
+use Rattle.amd_factor.specs.Orders.{Order, Permutes}
 
 -- place j is fill in the column of place k: an entry of the factor, whose row no edge joins with that of the column
 abbrev pub IsFactorFill : Order → List (List ℕ) → ℕ → ℕ → Type 0

@@ -1,8 +1,8 @@
 -- Lines that count from 0, and the places of rows.
 use Rattle.std.specs.Prelude.{ℕ, Bool, true, false, List, ◌≡◌, ◌++◌, codes, decimal, flat_map, length, map, pos}
 use Rattle.amd_types.specs.Counts.{counts}
-use Rattle.amd_symbolic.specs.Orders.{Permutes}
-use Rattle.amd_symbolic.specs.Places.{ArePlaces}
+use Rattle.amd_factor.specs.Orders.{Permutes}
+use Rattle.amd_factor.specs.Places.{ArePlaces}
 
 -- a number in a line
 abbrev pub number_line : ℕ → List ℕ

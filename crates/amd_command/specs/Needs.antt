@@ -1,8 +1,8 @@
 -- What the factor needs under an order.
 use Rattle.std.specs.Prelude.{◌≡◌, ℕ, zero, suc, Option, List, [], ◌∷◌, ◌++◌, map, pos}
 use Rattle.amd_report.specs.declared.compare.Needs.{Needs}
-use Rattle.amd_symbolic.specs.Counted.{IsCountsOf}
-use Rattle.amd_symbolic.specs.declared.needs.Need.{Need}
+use Rattle.amd_factor.specs.Counted.{IsCountsOf}
+use Rattle.amd_factor.specs.declared.needs.Need.{Need}
 
 -- what the factor of a matrix needs under the order p
 pub record IsNeedUnder (n : ℕ) (ap ai p : List ℕ) (need : Need) : Type 0 where

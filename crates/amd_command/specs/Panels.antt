@@ -2,8 +2,8 @@
 use Rattle.std.specs.Prelude.{◌≡◌, ◌-◌, ℕ, Bool, true, Option, None, Some, List, [], MatchOption, map, pos}
 use Rattle.std.specs.Option.{is_some}
 use Rattle.amd_types.specs.Counts.{counts}
-use Rattle.amd_symbolic.specs.Places.{ArePlaces}
-use Rattle.amd_symbolic.specs.declared.needs.Need.{Need}
+use Rattle.amd_factor.specs.Places.{ArePlaces}
+use Rattle.amd_factor.specs.declared.needs.Need.{Need}
 use Rattle.amd_report.specs.declared.drawing.Panel.{Panel}
 use Rattle.amd_report.specs.declared.grids.Grid.{Grid}
 use Rattle.amd_report.specs.Grids.{IsSquareFor, ShowsPlaces, entry_places, lines_for}

@@ -2,10 +2,10 @@
 use Rattle.std.specs.Prelude.{◌≡◌, ℕ, Option, List, ◌++◌, codes, length, map, pos}
 use Rattle.amd_report.specs.Patterns.{matrix_text}
 use Rattle.amd_report.specs.Texts.{supernode_lines, tree_lines}
-use Rattle.amd_symbolic.specs.Counted.{IsCountsOf}
-use Rattle.amd_symbolic.specs.Factors.{IsFactorOf}
-use Rattle.amd_symbolic.specs.Supernodes.{IsSupernodesOf}
-use Rattle.amd_symbolic.specs.declared.needs.Need.{Need}
+use Rattle.amd_factor.specs.Counted.{IsCountsOf}
+use Rattle.amd_factor.specs.Factors.{IsFactorOf}
+use Rattle.amd_factor.specs.Supernodes.{IsSupernodesOf}
+use Rattle.amd_factor.specs.declared.needs.Need.{Need}
 
 -- the text is a matrix file with the pattern of the factor under the order p
 pub record TellsFactor (n : ℕ) (ap ai p text : List ℕ) : Type 0 where

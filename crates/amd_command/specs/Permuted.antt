@@ -3,8 +3,8 @@ use Rattle.std.specs.Prelude.{◌≡◌, ◌⊎◌, ℕ, zero, suc, List, [], �
 use Rattle.amd_market.specs.Columns.{HoldsPairs}
 use Rattle.amd_report.specs.Patterns.{column_rows, matrix_text}
 use Rattle.amd_request.specs.Valued.{ListsNothing, PlacesText}
-use Rattle.amd_symbolic.specs.Orders.{Permutes}
-use Rattle.amd_symbolic.specs.Places.{ArePlaces}
+use Rattle.amd_factor.specs.Orders.{Permutes}
+use Rattle.amd_factor.specs.Places.{ArePlaces}
 
 -- a pair for each row of a column: the place of the row, and that of the column
 abbrev pub placed_pairs : List ℕ → ℕ → List ℕ → List (ℕ × ℕ)

@@ -2,8 +2,8 @@
 use Rattle.std.specs.Prelude.{◌≡◌, ◌<◌, ℕ, Bool, Option, None, Some, List, length, map, pos, replicate, slice_index_or}
 use Rattle.amd_model.specs.Listing.{ListsEachRow, ListsTrees, Tree, roots}
 use Rattle.amd_postorder.specs.Trees.{link_of, tree_of}
-use Rattle.amd_symbolic.specs.Counted.{IsCountsOf}
-use Rattle.amd_symbolic.specs.declared.needs.Need.{Need}
+use Rattle.amd_factor.specs.Counted.{IsCountsOf}
+use Rattle.amd_factor.specs.declared.needs.Need.{Need}
 use Rattle.amd_command.specs.Answers.{lines_of}
 
 -- the columns of a factor as elements of one row each, with these parents; all weigh the same

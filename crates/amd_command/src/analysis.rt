@@ -3,8 +3,8 @@
 ghost use Rattle.std.specs.Prelude.{ℤ, List, pos, map, IfOk, IfErr};
 ghost use Rattle.std.specs.Option.{option_copied};
 ghost use Rattle.amd.specs.Answers.{IsOrderingHolding};
-ghost use Rattle.amd_symbolic.specs.Counted.{IsCountsOf};
-ghost use Rattle.amd_symbolic.specs.Factors.{IsFaultHolding};
+ghost use Rattle.amd_factor.specs.Counted.{IsCountsOf};
+ghost use Rattle.amd_symbolic.specs.Faults.{IsFaultHolding};
 
 use amd::{Control, Info};
 use amd_market::reader::Matrix;

@@ -5,7 +5,7 @@ ghost use Rattle.std.specs.Prelude.{◌≡◌, None, false, map, pos, string_byt
 ghost use Rattle.std.specs.Option.{option_copied};
 ghost use Rattle.std.specs.Str.Lossy.{utf8_lossy};
 ghost use Rattle.std.specs.Io.KnownBytes.{Appends};
-ghost use Rattle.amd_symbolic.specs.Supernodes.{IsSupernodesOf};
+ghost use Rattle.amd_factor.specs.Supernodes.{IsSupernodesOf};
 ghost use Rattle.amd_command.specs.Answers.{AreCountsIn, AreNumbers, AreTwoNeeds, IsOrderingOf, lines_of};
 ghost use Rattle.amd_command.specs.Answers.{TellsAnalysis, TellsBounds, TellsColumns, TellsFacts};
 ghost use Rattle.amd_command.specs.Answers.{TellsOrder, order_figures, told_figures};
@@ -37,7 +37,7 @@ use amd_report::tree::{write_supernodes, write_tree};
 use amd_request::causes::Cause;
 use amd_request::inputs::Task;
 use amd_request::request::Options;
-use amd_symbolic::needs::Need;
+use amd_factor::needs::Need;
 use amd_symbolic::{Supernodes, columns, counts, supernodes};
 use std::alloc::Global;
 use std::io;

@@ -3,13 +3,13 @@
 ghost use Rattle.std.specs.Prelude.{pos, map, IfOk, MatchOption};
 ghost use Rattle.amd_model.specs.Input.Columns.{IsInput};
 ghost use Rattle.amd_types.specs.Counts.{counts};
-ghost use Rattle.amd_symbolic.specs.Places.{ArePlaces};
+ghost use Rattle.amd_factor.specs.Places.{ArePlaces};
 ghost use Rattle.amd_command.specs.DrawnFills.{DrawsFill};
 
 use amd_report::fills::fill_grid;
 use amd_report::grids::Grid;
-use amd_symbolic::neighbours::later_lists;
-use amd_symbolic::places::places;
+use amd_factor::neighbours::later_lists;
+use amd_factor::places::places;
 use amd_symbolic::{Fault, supernode_sizes, supernodes};
 use std::alloc::Allocator;
 

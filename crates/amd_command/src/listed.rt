@@ -1,13 +1,13 @@
 // The order of the rows that a list of numbers tells: the row at each place, or the place of each row.
 
 ghost use Rattle.std.specs.Prelude.{map, pos, IfOk};
-ghost use Rattle.amd_symbolic.specs.Places.{ArePlaces};
+ghost use Rattle.amd_factor.specs.Places.{ArePlaces};
 ghost use Rattle.amd_types.specs.Counts.{counts};
 ghost use Rattle.amd_command.specs.Lists.{AreEach, AreRowsListed};
 
 use amd_request::causes::Cause;
 use amd_request::order_faults::order_fault;
-use amd_symbolic::places::places;
+use amd_factor::places::places;
 use std::alloc::Global;
 
 /// The places of numbers below `n`.

@@ -3,11 +3,11 @@
 ghost use Rattle.std.specs.Prelude.{◌≡◌, length, map, pos, IfOk, OnOk};
 ghost use Rattle.std.specs.Io.KnownBytes.{Appends};
 ghost use Rattle.amd_model.specs.Listing.{ListsEachRow};
-ghost use Rattle.amd_symbolic.specs.Places.{ArePlaces};
+ghost use Rattle.amd_factor.specs.Places.{ArePlaces};
 ghost use Rattle.amd_command.specs.Lists.{ArePlacesIn, number_lines};
 
 use amd_request::causes::Cause;
-use amd_symbolic::places::places;
+use amd_factor::places::places;
 use std::alloc::Global;
 use std::io;
 use std::io::Write;

@@ -2,12 +2,12 @@
 // and not written.
 
 ghost use Rattle.std.specs.Prelude.{◌≡◌, pos, map, IfOk, IfErr};
-ghost use Rattle.amd_symbolic.specs.Counted.{IsCountsFault};
+ghost use Rattle.amd_factor.specs.Counted.{IsCountsFault};
 ghost use Rattle.amd_command.specs.Needs.{IsNeedUnder, TellsNeed, standing_rows};
 
 use amd_market::reader::Matrix;
 use amd_report::compare::Needs;
-use amd_symbolic::needs::Need;
+use amd_factor::needs::Need;
 use amd_symbolic::{Fault, counts};
 use std::alloc::{AllocError, Allocator};
 

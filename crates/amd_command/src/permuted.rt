@@ -10,7 +10,7 @@ use amd_market::reader::Matrix;
 use amd_report::pattern::{rows_of, write_matrix};
 use amd_request::causes::Cause;
 use amd_request::valued::text_at_places;
-use amd_symbolic::places::places;
+use amd_factor::places::places;
 use std::alloc::{Allocator, Global};
 
 /// The place of a row.

@@ -18,7 +18,7 @@ use amd_report::entry_cells::entry_grid;
 use amd_report::grids::Grid;
 use amd_report::kinds::kinds_of;
 use amd_request::causes::Cause;
-use amd_symbolic::places::places;
+use amd_factor::places::places;
 use std::alloc::{AllocError, Allocator};
 use std::io::Write;
 

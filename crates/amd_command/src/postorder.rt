@@ -10,7 +10,7 @@ use amd_market::reader::Matrix;
 use amd_postorder::postorder::postorder;
 use amd_request::causes::Cause;
 use amd_symbolic::counts;
-use amd_symbolic::places::places;
+use amd_factor::places::places;
 use amd_types::amd::Status;
 use amd_types::internal::EMPTY;
 use std::alloc::Global;

@@ -5,9 +5,9 @@ use Rattle.std.specs.Prelude.{Option, codes, decimal, slice_index, slice_index_o
 use Rattle.std.specs.Io.KnownBytes.{Appends}
 use Rattle.std.proofs.KnownBytes.{Appends-trans}
 use Rattle.amd_types.specs.declared.amd.Info.{Info}
-use Rattle.amd_symbolic.specs.Factors.{IsFactorOf}
-use Rattle.amd_symbolic.specs.Needs.{TellSizes}
-use Rattle.amd_symbolic.proofs.ColumnSizes.{one-more, size-is, sizes-held}
+use Rattle.amd_factor.specs.Factors.{IsFactorOf}
+use Rattle.amd_factor.specs.Needs.{TellSizes}
+use Rattle.amd_factor.proofs.Factors.ColumnSizes.{one-more, size-is, sizes-held}
 use Rattle.amd_demos.specs.Exact.{exact_line, column_counts, exact_lines, HasExact, TellsExact}
 
 -- the sizes of columns and of one more

@@ -4,7 +4,7 @@ use Rattle.std.specs.Io.KnownBytes.{Appends}
 use Rattle.amd_model.specs.Factor.{IsFactor, needed, needed_front}
 use Rattle.amd_model.specs.Figures.{entries, ldl_steps, lu_steps}
 use Rattle.amd_model.specs.Input.Pattern.{graph_of}
-use Rattle.amd_symbolic.specs.Orders.{Permutes}
+use Rattle.amd_factor.specs.Orders.{Permutes}
 use Rattle.amd_types.specs.declared.amd.Info.{Info}
 
 -- how many entries each column has, with a space in front of each number

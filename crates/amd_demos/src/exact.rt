@@ -5,13 +5,13 @@ ghost use Rattle.std.specs.Prelude.{◌≡◌, ℕ, List, ◌++◌, codes, true,
 ghost use Rattle.std.specs.Io.KnownBytes.{Appends};
 ghost use Rattle.amd_demos.specs.Exact.{exact_line, column_counts, exact_lines, figure_lines, HasExact};
 ghost use Rattle.amd_demos.specs.Lines.{failure_line};
-ghost use Rattle.amd_symbolic.specs.Needs.{IsNeed, TellSizes};
+ghost use Rattle.amd_factor.specs.Needs.{IsNeed, TellSizes};
 
 use crate::matrix::DemoMatrix;
 use crate::outcome::write_failure;
 use amd::Info;
-use amd_symbolic::columns;
-use amd_symbolic::needs::{Need, column_size, need_of};
+use amd_factor::columns;
+use amd_factor::needs::{Need, column_size, need_of};
 use std::alloc::Allocator;
 use std::io;
 use std::io::Write;

@@ -13,14 +13,14 @@ use Rattle.amd_model.specs.State.{Gone, State}
 use Rattle.amd_model.proofs.Counting.Places.{contains_has, has_contains}
 use Rattle.amd_model.proofs.Listings.Words.{has_cases, has_head, has_none, has_tail}
 use Rattle.amd_model.proofs.Patterns.DegreeSums.{pattern_graph}
-use Rattle.amd_symbolic.specs.Columns.{first_of}
+use Rattle.amd_factor.specs.Columns.{first_of}
 use Rattle.amd_symbolic.specs.SupernodeLaws.{ExactBlocksStandInside, IsExactFront, NoneEndsInside}
-use Rattle.amd_symbolic.specs.Supernodes.{HoldSupernodes, Joined}
-use Rattle.amd_symbolic.specs.Trees.{Entry}
-use Rattle.amd_symbolic.proofs.ByChildren.{entry_by_child}
-use Rattle.amd_symbolic.proofs.FactorOnce.{first_least, rising_same, tail_up}
-use Rattle.amd_symbolic.proofs.Once.{order_once}
-use Rattle.amd_symbolic.proofs.Standing.{first_parent}
+use Rattle.amd_factor.specs.Supernodes.{HoldSupernodes, Joined}
+use Rattle.amd_factor.specs.Trees.{Entry}
+use Rattle.amd_factor.proofs.Trees.ByChildren.{entry_by_child}
+use Rattle.amd_factor.proofs.Trees.FactorOnce.{first_least, rising_same, tail_up}
+use Rattle.amd_factor.proofs.Trees.Once.{order_once}
+use Rattle.amd_factor.proofs.Factors.Standing.{first_parent}
 
 -- a rising list that has its least number m as an entry begins with it
 begins-with : (xs : List ℕ) (m : ℕ) → IsStrictlyIncreasing xs → has xs m ≡ true → ((j : ℕ) → has xs j ≡ true → m ≤ j) →

@@ -6,19 +6,20 @@ use Rattle.amd_model.specs.Below.{sum_below}
 use Rattle.amd_model.specs.Factor.{IsFactor, needed, needed_front}
 use Rattle.amd_model.specs.Figures.{entries, cut, ldl_steps, lu_steps}
 use Rattle.amd_model.specs.Input.Pattern.{graph_of}
-use Rattle.amd_symbolic.specs.Columns.{HoldFactor, PassesRoom}
-use Rattle.amd_symbolic.specs.Orders.{Permutes}
-use Rattle.amd_symbolic.proofs.FactorOnce.{factor_once, needs_once}
+use Rattle.amd_factor.specs.Columns.{HoldFactor, PassesRoom}
+use Rattle.amd_factor.specs.Orders.{Permutes}
+use Rattle.amd_factor.proofs.Trees.FactorOnce.{factor_once, needs_once}
 use Rattle.amd_types.specs.declared.amd.Info.{Info}
 use Rattle.amd_types.specs.declared.amd.Status.{Status}
 use Rattle.amd_types.specs.declared.amd.Status.TheVariants.{OK, Invalid, OkButJumbled, OutOfMemory}
 use Rattle.amd.specs.Answers.{IsInputHolding, IsOrderingHolding, IsRefusalHolding, OrdersMatrix}
-use Rattle.amd_symbolic.specs.Factors.{IsFaultHolding}
-use Rattle.amd_symbolic.specs.Laws.{FiguresBound, FiguresReserve, column_size}
-use Rattle.amd_symbolic.specs.declared.factor.Fault.{Fault}
-use Rattle.amd_symbolic.specs.declared.factor.Fault.TheVariants as fault
-use Rattle.amd_symbolic.proofs.Once.{order_once}
-use Rattle.amd_symbolic.proofs.Vectors.{front_most, needed_is, pointer_is, size_is}
+use Rattle.amd_symbolic.specs.Faults.{IsFaultHolding}
+use Rattle.amd_factor.specs.Laws.{column_size}
+use Rattle.amd_symbolic.specs.Laws.{FiguresBound, FiguresReserve}
+use Rattle.amd_factor.specs.declared.factor.Fault.{Fault}
+use Rattle.amd_factor.specs.declared.factor.Fault.TheVariants as fault
+use Rattle.amd_factor.proofs.Trees.Once.{order_once}
+use Rattle.amd_factor.proofs.Factors.Vectors.{front_most, needed_is, pointer_is, size_is}
 
 needs_none : (columns : List (List ℕ)) → length columns ≡ 0 → needed entries columns ≡ 0
 needs_none [] e = refl

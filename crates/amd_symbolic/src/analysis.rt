@@ -2,10 +2,12 @@
 
 ghost use Rattle.std.specs.Prelude.{◌≡◌, ◌≢◌, ℤ, Bool, Option, List, Some, map, IfOk, IfErr};
 ghost use Rattle.amd.specs.Answers.{IsOrdering, IsOrderingHolding};
-ghost use Rattle.amd_symbolic.specs.Factors.{IsAnalysisFault, IsFactorOf, IsFaultHolding};
+ghost use Rattle.amd_factor.specs.Factors.{IsFactorOf};
+ghost use Rattle.amd_symbolic.specs.Faults.{IsAnalysisFault, IsFaultHolding};
 
-use crate::factor::{Factor, Fault, matrix_columns};
 use amd::{Control, Info, Status, order, order_holding};
+use amd_factor::factor::matrix_columns;
+use amd_factor::{Factor, Fault};
 use amd_types::index::Index;
 use num_traits::PrimInt;
 use std::alloc::Allocator;
@@ -52,7 +54,7 @@ pub(crate) fn fault_of(refusal: Status) -> Fault
 /// Orders as [`amd::order`] does; returns the permutation `p`, its inverse, the record, and the factor under `p`.
 ///
 /// The input is a column form as that of [`amd::order`]. The permutation and its inverse have `n` numbers each. The
-/// factor is that of [`columns`] with this order and `info.lnz` as room, which is never too small: it has `n + 1`
+/// factor is that of [`amd_factor::columns`] with this order and `info.lnz` as room, which is never too small: it has `n + 1`
 /// pointers, `ptr[n]` entries, at most `info.lnz`, and `n` parents.
 ///
 /// For `n = 0` the result is two empty vectors, `Info::new(0)` and a factor of which `ptr` is `[0]`, whatever the
@@ -94,7 +96,7 @@ pub fn analyze<I: PrimInt, A: Allocator + Copy>(
 /// they are as there, whatever the pointers and the marks are.
 ///
 /// Room for `info.lnz` entries is reserved, which counts all rows held last as one full block. Where they are many it
-/// is far more than the factor has: [`crate::analyze_counts_holding`] counts first, and [`crate::columns_into`] then
+/// is far more than the factor has: [`crate::analyze_counts_holding`] counts first, and [`amd_factor::columns_into`] then
 /// takes just so many places.
 ///
 /// # Errors

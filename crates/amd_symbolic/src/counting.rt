@@ -1,107 +1,17 @@
-// How many entries each column of a factor has, and what the factor needs, without its columns: the input is tested as
-// for `columns`, the lists of earlier and of later neighbours are made, and `counted` counts. Source: Liu 1986;
-// Gilbert, Ng and Peyton 1994; AMD user guide (the figures of `Info`).
+// An ordering and the counts of the factor under it in one call, without the columns.
 
-ghost use Rattle.std.specs.Prelude.{◌≡◌, pos, map, List, ℤ, Bool, Option, Some, IfOk, IfErr};
-ghost use Rattle.amd_model.specs.Input.Columns.{IsColumnForm};
-ghost use Rattle.amd_model.specs.Input.Pattern.{graph_of};
-ghost use Rattle.amd_symbolic.specs.Orders.{Order};
-ghost use Rattle.amd_types.specs.Counts.{counts as counts_of};
+ghost use Rattle.std.specs.Prelude.{◌≡◌, map, List, ℤ, Bool, Option, Some, IfOk, IfErr};
 ghost use Rattle.amd.specs.Answers.{IsOrdering, IsOrderingHolding};
-ghost use Rattle.amd_symbolic.specs.Counted.{IsCountsFault, IsCountsOf};
-ghost use Rattle.amd_symbolic.specs.Factors.{IsAnalysisFault, IsFaultHolding};
+ghost use Rattle.amd_factor.specs.Counted.{IsCountsOf};
+ghost use Rattle.amd_symbolic.specs.Faults.{IsAnalysisFault, IsFaultHolding};
 
 use crate::analysis::fault_of;
-use crate::counted::{Counts, empty_counts, written_counts};
-use crate::entrance::rows_of;
-use crate::factor::{Fault, fault_for};
-use crate::ordering::ordered_lists;
 use amd::{Control, Info, order, order_holding};
+use amd_factor::counting::matrix_counts;
+use amd_factor::{Counts, Fault};
 use amd_types::index::Index;
 use num_traits::PrimInt;
 use std::alloc::Allocator;
-
-/// The counts of a column form with `size` rows and columns.
-fn form_counts<I: Index, A: Allocator + Copy>(
-    alloc: A,
-    size: usize,
-    a_p: &[I],
-    a_i: &[I],
-    p: &[I],
-) -> Result<Counts<A>, Fault>
-    ghost o: { Order }
-    requires form { IsColumnForm (pos size) size (map I.value a_p.now) (map I.value a_i.now) }
-    requires graph { o.graph ≡ graph_of size (map I.value a_p.now) (map I.value a_i.now) }
-    requires rows { o.rows ≡ counts_of (map I.value p.now) }
-    ensures counts { IfOk result (λ c. IsCountsOf (pos size) (map I.value a_p.now) (map I.value a_i.now)
-        (map I.value p.now) c.sizes.items c.parent.items c.need) }
-    ensures fault { IfErr result (λ e. IsCountsFault (pos size) (map I.value a_p.now) (map I.value a_i.now)
-        (map I.value p.now) e) }
-{
-    let mut lists = ordered_lists(alloc, size, a_p, a_i, p)?;
-    Ok(written_counts(alloc, &mut lists.starts, &mut lists.neighbours)?)
-}
-
-/// The counts of a matrix with `n` rows, as [`counts`].
-pub(crate) fn matrix_counts<I: Index, A: Allocator + Copy>(
-    alloc: A,
-    n: I,
-    a_p: &[I],
-    a_i: &[I],
-    p: &[I],
-) -> Result<Counts<A>, Fault>
-    ensures counts { IfOk result (λ c. IsCountsOf (I.value n) (map I.value a_p.now) (map I.value a_i.now)
-        (map I.value p.now) c.sizes.items c.parent.items c.need) }
-    ensures fault { IfErr result (λ e. IsCountsFault (I.value n) (map I.value a_p.now) (map I.value a_i.now)
-        (map I.value p.now) e) }
-{
-    let size = match rows_of(n, a_p, a_i, p) {
-        Ok(size) => size,
-        Err(unfit) => return Err(fault_for(unfit)),
-    };
-    if size == 0 {
-        return Ok(empty_counts(alloc));
-    }
-    form_counts(alloc, size, a_p, a_i, p)
-}
-
-/// How many entries each column of the factor of a square matrix has under an order of its rows, by the pattern of
-/// `A + A'`; the parents, and what the factor needs.
-///
-/// The columns are those of [`crate::columns`], and so are the input and the order. The result has `n` sizes and `n`
-/// parents; the sum of the sizes is the room that `columns` needs. For `n = 0` the pointers and row indices are not
-/// looked at, and `p` must be empty.
-///
-/// No entry is written: beside the lists of neighbours, a few numbers a row are taken, all of them before the first
-/// count. The steps are as many as there are rows and entries of the matrix, times at most the logarithm of the number
-/// of rows.
-///
-/// # Errors
-///
-/// The first of these:
-///
-/// * `NotColumnForm` exactly where `n` is not 0 and the input is no column form; no memory is asked before.
-/// * `NotPermutation` where `p` does not list each number below `n`, once.
-///
-/// `OutOfMemory` where an allocation was refused. It may come in place of the second. No other fault.
-///
-/// Source: Rose, Tarjan and Lueker 1976; Liu 1986; Gilbert, Ng and Peyton 1994.
-pub fn counts<I: PrimInt, A: Allocator + Copy>(
-    alloc: A,
-    n: I,
-    a_p: &[I],
-    a_i: &[I],
-    p: &[I],
-) -> Result<Counts<A>, Fault>
-    // A number of a primitive type is always in range.
-    requires fits { I.fits (I.value n) }
-    ensures counts { IfOk result (λ c. IsCountsOf (I.value n) (map I.value a_p.now) (map I.value a_i.now)
-        (map I.value p.now) c.sizes.items c.parent.items c.need) }
-    ensures fault { IfErr result (λ e. IsCountsFault (I.value n) (map I.value a_p.now) (map I.value a_i.now)
-        (map I.value p.now) e) }
-{
-    matrix_counts(alloc, n, a_p, a_i, p)
-}
 
 /// The counts under the order that an ordering gave.
 fn ordered_counts<I: Index, A: Allocator + Copy>(

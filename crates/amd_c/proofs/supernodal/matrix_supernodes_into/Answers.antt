@@ -3,8 +3,8 @@ use Rattle.std.proofs.Common.{◌≡◌, ◌<◌, ◌⊎◌, ◌++◌, drop, tak
 use Rattle.std.specs.Prelude.{slice_index}
 use Rattle.std.proofs.lemmas.List.{length-map}
 use Rattle.amd_types.specs.Counts.{counts}
-use Rattle.amd_symbolic.proofs.PartitionEnds.{partition_of, rows_end}
-use Rattle.amd_symbolic.proofs.TypedRows.{count-length}
+use Rattle.amd_factor.proofs.Partitions.PartitionEnds.{partition_of, rows_end}
+use Rattle.amd_factor.proofs.Partitions.TypedRows.{count-length}
 use Rattle.amd_calls.specs.Columns.{parent_number}
 use Rattle.amd_c.specs.Supernodal.{HasBlockPlaces}
 use Rattle.amd_calls.proofs.ColumnsLeft.{front_values}

@@ -1,5 +1,5 @@
 use Rattle.std.proofs.Common.{map}
-use Rattle.amd_symbolic.specs.Partitions.{ordered_matrix}
+use Rattle.amd_factor.specs.Partitions.{ordered_matrix}
 use Rattle.amd_c.proofs.supernodal.supernodes_and_sizes_into.Given as goal
 
 abbrev pub ghost-matrix_supernodes_into : goal.ghost-matrix_supernodes_into

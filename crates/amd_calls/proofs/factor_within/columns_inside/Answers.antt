@@ -1,7 +1,7 @@
 use Rattle.std.proofs.Common.{ℤ, List, ◌≡◌, ◌++◌, drop, length, map, pos, subst, ◌∙◌}
 use Rattle.amd_types.specs.Counts.{counts}
-use Rattle.amd_symbolic.specs.Orders.{Permutes}
-use Rattle.amd_symbolic.proofs.ColumnParts.{factor_of}
+use Rattle.amd_factor.specs.Orders.{Permutes}
+use Rattle.amd_factor.proofs.Calls.ColumnParts.{factor_of}
 use Rattle.amd_calls.proofs.factor_within.columns_inside.Goals as goal
 
 pub returns-in-Some-clause-factor : goal.returns-in-Some-clause-factor

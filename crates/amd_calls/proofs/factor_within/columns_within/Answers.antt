@@ -4,7 +4,7 @@ use Rattle.std.proofs.lemmas.List.{length-map}
 use Rattle.amd_edges.proofs.Forms.{pointer_fits}
 use Rattle.amd_model.specs.Input.Columns.{IsColumnForm}
 use Rattle.amd_types.proofs.Fitting.{fits_below}
-use Rattle.amd_symbolic.specs.Factors.{IsFault, WritesFactor}
+use Rattle.amd_factor.specs.Factors.{IsFault, WritesFactor}
 use Rattle.amd_calls.proofs.Fits.{parents-fit, pointers-fit}
 use Rattle.amd_calls.proofs.WithinLeft.{no-columns, not-written, too-many}
 use Rattle.amd_calls.proofs.factor_within.columns_within.Goals as goal

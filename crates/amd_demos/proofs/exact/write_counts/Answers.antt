@@ -3,7 +3,7 @@ use Rattle.std.proofs.Common.{arith, subst}
 use Rattle.std.specs.Io.KnownBytes.{Appends}
 use Rattle.amd_texts.proofs.Written.{Appends-then}
 use Rattle.amd_demos.specs.Exact.{column_counts}
-use Rattle.amd_symbolic.proofs.ColumnSizes.{all-columns, sizes-ascend}
+use Rattle.amd_factor.proofs.Factors.ColumnSizes.{all-columns, sizes-ascend}
 use Rattle.amd_demos.proofs.Sizes.{counts-next}
 use Rattle.amd_demos.proofs.exact.write_counts.Goals as goal
 

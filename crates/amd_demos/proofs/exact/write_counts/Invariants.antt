@@ -1,6 +1,6 @@
 use Rattle.std.proofs.Common.{ℕ, List, take}
 use Rattle.std.specs.Io.KnownBytes.{Appends}
-use Rattle.amd_symbolic.specs.Needs.{TellSizes}
+use Rattle.amd_factor.specs.Needs.{TellSizes}
 use Rattle.amd_demos.specs.Exact.{column_counts}
 use Rattle.amd_demos.proofs.exact.write_counts.Given as goal
 

@@ -1,6 +1,6 @@
 use Rattle.std.proofs.Common.{ℤ, List, map}
-use Rattle.amd_symbolic.specs.declared.factor.Fault.TheVariants.{NotColumnForm, NotPermutation, RoomTooSmall}
-use Rattle.amd_symbolic.specs.Factors.{IsFault}
+use Rattle.amd_factor.specs.declared.factor.Fault.TheVariants.{NotColumnForm, NotPermutation, RoomTooSmall}
+use Rattle.amd_factor.specs.Factors.{IsFault}
 use Rattle.amd_symbolic.proofs.Reserved.{never_small, permutes}
 use Rattle.amd_symbolic.proofs.analysis.reserved_columns.Goals as goal
 

@@ -1,8 +1,8 @@
 use Rattle.std.proofs.Common.{ℤ, List, Some, ◌≡◌, map, rules}
 use Rattle.std.specs.Prelude.{IfErr}
-use Rattle.amd_symbolic.specs.declared.factor.Fault.TheVariants.{OutOfMemory}
-use Rattle.amd_symbolic.specs.Factors.{IsFaultHolding}
-use Rattle.amd_symbolic.proofs.Faults.{memory_of}
+use Rattle.amd_factor.specs.declared.factor.Fault.TheVariants.{OutOfMemory}
+use Rattle.amd_symbolic.specs.Faults.{IsFaultHolding}
+use Rattle.amd_factor.proofs.Calls.Faults.{memory_of}
 use Rattle.amd_symbolic.proofs.Reserved.{fault_for, input_of, lent_order}
 use Rattle.amd_symbolic.proofs.counting.analyze_counts_holding.Goals as goal
 

@@ -1,6 +1,6 @@
 use Rattle.std.proofs.Common.{ℤ, List, map}
-use Rattle.amd_symbolic.specs.declared.factor.Fault.TheVariants.{NotColumnForm, NotPermutation, RoomTooSmall}
-use Rattle.amd_symbolic.specs.Counted.{IsCountsFault}
+use Rattle.amd_factor.specs.declared.factor.Fault.TheVariants.{NotColumnForm, NotPermutation, RoomTooSmall}
+use Rattle.amd_factor.specs.Counted.{IsCountsFault}
 use Rattle.amd_symbolic.proofs.Reserved.{permutes}
 use Rattle.amd_symbolic.proofs.counting.ordered_counts.Goals as goal
 

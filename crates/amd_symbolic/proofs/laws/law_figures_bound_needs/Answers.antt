@@ -1,4 +1,4 @@
-use Rattle.amd_symbolic.proofs.CountParts.{figures_bound_needs}
+use Rattle.amd_symbolic.proofs.NeedsBound.{figures_bound_needs}
 use Rattle.amd_symbolic.proofs.laws.law_figures_bound_needs.Goals as goal
 
 pub returns : goal.returns

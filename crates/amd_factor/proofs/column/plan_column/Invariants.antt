@@ -1,0 +1,17 @@
+use Rattle.std.specs.Prelude.{slice_range}
+use Rattle.std.proofs.Common.{[], map}
+use Rattle.amd_types.specs.Counts.{counts}
+use Rattle.amd_factor.proofs.column.plan_column.Given as goal
+
+abbrev pub ghost-greatest_child : goal.ghost-greatest_child
+ghost-greatest_child g a = record { order = g.o; place = a.k; inherited = [] }
+
+abbrev pub ghost-inherited : goal.ghost-inherited
+ghost-inherited g a = record { order = g.o; place = a.k; inherited = [] }
+
+abbrev pub ghost-new_rows : goal.ghost-new_rows
+ghost-new_rows g a = record {
+  order = g.o;
+  place = a.k;
+  inherited = slice_range (counts (map g.N.Index.value a.rows.now)) a.from a.to;
+}

@@ -1,0 +1,68 @@
+use Rattle.std.proofs.Common.{ℕ, ℤ, List, ◌≡◌, ◌∙◌, sym, subst, arith, length, map, take, take_all}
+use Rattle.std.specs.Prelude.{slice_index}
+use Rattle.std.proofs.lemmas.List.{length-take-le}
+use Rattle.std.proofs.lemmas.Grind.{common_steps}
+use Rattle.amd_types.specs.Counts.{counts}
+use Rattle.amd_factor.specs.Gathering.{HoldBefore}
+use Rattle.amd_factor.specs.Numbers.{AreNonNegative}
+use Rattle.amd_factor.specs.Orders.{Order}
+use Rattle.amd_factor.proofs.Factors.Fronts.{passes}
+use Rattle.amd_factor.proofs.fill.add_column.Goals as goal
+
+-- where the columns before a place are all of the rows, they stand in the rows as they are read
+module _ {N : Type 0} (value : N → ℤ) (o : Order) (k : ℕ) (ptr : List ℕ) (items now : List N) (full : slice_index ptr k ≡ length items)
+    (is : now ≡ items) where
+  whole : take (slice_index ptr k) items ≡ now
+  whole = take_all (slice_index ptr k) items (omega (arith, full)) ∙ sym is
+
+  numbers_now : AreNonNegative (map value (take (slice_index ptr k) items)) → AreNonNegative (map value now)
+  numbers_now = subst (λ xs. AreNonNegative (map value xs)) whole
+
+  columns_now : HoldBefore o k ptr (counts (map value (take (slice_index ptr k) items))) → HoldBefore o k ptr (counts (map value now))
+  columns_now = subst (λ xs. HoldBefore o k ptr (counts (map value xs))) whole
+
+pub plan_column-plan-requires : goal.plan_column-plan-requires
+plan_column-plan-requires g c κs inside = (
+  inside,
+  (
+    c.requires.1.1.0,
+    (
+      c.requires.1.1.1.0,
+      (
+        c.requires.1.1.1.1.1.0,
+        (
+          c.requires.1.1.1.1.1.1.0.filled.links,
+          (
+            numbers_now g.N.Index.value g.o c.args.k c.args.ptr.now c.args.rows.now.items c.deref.result.now
+                c.requires.1.1.1.1.1.1.1.1.0 c.deref.ensures.value c.requires.1.1.1.1.1.1.0.numbers,
+            (
+              columns_now g.N.Index.value g.o c.args.k c.args.ptr.now c.args.rows.now.items c.deref.result.now
+                  c.requires.1.1.1.1.1.1.1.1.0 c.deref.ensures.value c.requires.1.1.1.1.1.1.0.filled.columns,
+              (c.requires.1.1.1.1.1.1.0.filled.marks, c.requires.1.1.1.1.1.1.1.0),
+            ),
+          ),
+        ),
+      ),
+    ),
+  ),
+)
+
+pub returns-then-room-begin-clause-filled : goal.returns-then-room-begin-clause-filled
+returns-then-room-begin-clause-filled g c =
+    let full = c.requires.1.1.1.1.1.1.1.1.0 in let plan = c.plan_column-plan.result in
+    let columns = columns_now g.N.Index.value g.o c.args.k c.args.ptr.now c.args.rows.now.items c.deref.result.now full
+    c.deref.ensures.value c.requires.1.1.1.1.1.1.0.filled.columns in
+    let count = length-take-le plan.count c.plan_column-plan.new.fresh c.plan_column-plan.ensures.count in
+    let begin = c.len-begin.ensures in let more = c.if-room-begin.true in let within = c.requires.1.1.1.1.1.1.1.1.1.0 in
+    passes g.o c.requires.1.1.0 c.args.k c.args.ptr.now (counts (map g.N.Index.value c.deref.result.now))
+    (take plan.count c.plan_column-plan.new.fresh) plan.from plan.to c.args.room c.requires.1.1.1.0 columns
+    c.plan_column-plan.ensures.plans (omega (arith, count, begin, more, within, full))
+
+pub returns-clause-within : goal.returns-clause-within
+returns-clause-within g c = grind (arith, common_steps)
+
+pub returns-clause-full : goal.returns-clause-full
+returns-clause-full g c = grind (arith, common_steps)
+
+pub returns-clause-filled : goal.returns-clause-filled
+returns-clause-filled g c = grind (arith, common_steps)

@@ -1,0 +1,46 @@
+use Rattle.std.proofs.Common.{◌+◌, ◌∙◌, arith, length}
+use Rattle.std.specs.Prelude.{slice_index}
+use Rattle.amd_factor.proofs.Factors.Fronts.{drop_further, front_written}
+use Rattle.amd_factor.proofs.fill.fill_into.Goals as goal
+
+pub add_column_into-requires : goal.add_column_into-requires
+add_column_into-requires g c κs inside =
+    let q = c.requires.1 in
+    let i = c.columns.invariant in let r = i.filled.filled.parents.room in let t = c.columns-test.true in (
+      inside,
+      (
+        q.1.0,
+        (
+          omega (arith, r, t),
+          (
+            q.1.1.0,
+            (
+              q.1.1.1.each c.columns.k (omega (arith, r, t)),
+              (i.filled, c.columns.auto.fresh ∙ q.0.fresh),
+            ),
+          ),
+        ),
+      ),
+    )
+
+pub columns-preserved : goal.columns-preserved
+columns-preserved g c =
+    let i = c.columns.invariant in let e = c.in-Some.ensures in record {
+      filled = e.filled;
+      room = c.add_column_into.auto.rows ∙ i.room;
+      rest = e.rest.1 ∙ drop_further (slice_index c.columns.ptr c.columns.k) (slice_index c.add_column_into.new.ptr (c.columns.k + 1))
+          c.columns.rows c.args.rows.now e.rest.0 i.rest;
+    }
+
+pub returns : goal.returns
+returns g c =
+    let q = c.requires.1 in
+    let i = c.columns.invariant in
+    let r = i.filled.filled.parents.room in let t = c.columns-test.false in
+    let end = c.columns.auto.k-end in
+    let from = q.0.parents in
+    record {
+      factor = front_written g.N.Index.value g.o q.1.0 c.columns.k (length c.columns.parent) c.columns.ptr c.columns.rows
+          c.columns.parent c.columns.link c.columns.marked.column c.columns.marked.stamp c.columns.mark i.filled
+          (omega (arith, t, end, from)) (omega (arith, t, end, from, r)) c.args.rows.now i.rest;
+    }

@@ -1,0 +1,10 @@
+use Rattle.amd_factor.proofs.lent.lent_sizes.Given as goal
+
+abbrev pub ghost-lay_turned : goal.ghost-lay_turned
+ghost-lay_turned g a = g.o
+
+abbrev pub ghost-list_turned : goal.ghost-list_turned
+ghost-list_turned g a = g.o
+
+abbrev pub ghost-count_by_meetings : goal.ghost-count_by_meetings
+ghost-count_by_meetings g a = g.o

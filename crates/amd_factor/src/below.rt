@@ -1,0 +1,161 @@
+// The rows below the block of each supernode, row by row: each row climbs from the supernodes of its earlier neighbours
+// up to those that have it, or to its own, and so the rows of each come in ascending order. Source: Liu 1990; Liu, Ng
+// and Peyton 1993. The rows are written as numbers of the caller's type.
+
+ghost use Rattle.std.specs.Prelude.{ℕ, ◌≡◌, ◌<◌, ◌+◌, ◌-◌, length, map, pos, slice_index};
+ghost use Rattle.amd_model.specs.Graph.{IsGraph};
+ghost use Rattle.amd_types.specs.Counts.{counts};
+ghost use Rattle.amd_factor.specs.Neighbours.{AreEarlier, HasEarlier};
+ghost use Rattle.amd_factor.specs.Numbers.{AreNonNegative};
+ghost use Rattle.amd_factor.specs.Partitions.{Climbs, IsCut, IsMarkedBy, MarkedBefore, Partition};
+ghost use Rattle.amd_factor.specs.Partitions.{WrittenTo};
+ghost use Rattle.amd_factor.specs.Supernodes.{HoldSupernodes};
+
+use amd_types::internal::from_count;
+use amd_types::index::Index;
+
+/// Writes 0 into each place.
+fn clear<I: Index>(numbers: &mut [I])
+    ensures room { length numbers.new ≡ length numbers.old }
+    ensures told { AreNonNegative (map I.value numbers.new) }
+{
+    let zero = I::zero();
+    'numbers: for k in 0..numbers.len() {
+        numbers[k] = zero;
+    }
+}
+
+/// Puts the row `j`, which is that number, behind the rows of supernode `s`, marks that, and returns the parent of `s`.
+fn put_row<I: Index>(
+    j: usize,
+    number: I,
+    s: usize,
+    parent: &[Option<usize>],
+    next: &mut [usize],
+    mark: &mut [usize],
+    rows: &mut [I],
+) -> usize
+    ghost b: { Partition }
+    requires laws { IsGraph b.order.graph }
+    requires place { j < length b.owner }
+    requires number { I.value number ≡ pos j }
+    requires parents { parent.now ≡ b.parent }
+    requires climbs { Climbs b j s next.old mark.old (counts (map I.value rows.old)) }
+    requires new { ¬ (IsMarkedBy mark.old j s) }
+    requires told { AreNonNegative (map I.value rows.old) }
+    ensures told { AreNonNegative (map I.value rows.new) }
+    ensures climbs { Climbs b j result next.new mark.new (counts (map I.value rows.new)) }
+    ensures higher { s < result }
+    ensures marked { IsMarkedBy mark.new j s }
+    ensures others { (t : ℕ) → ¬ (t ≡ s) → slice_index mark.new t ≡ slice_index mark.old t }
+{
+    mark[s] = j + 1;
+    rows[next[s]] = number;
+    next[s] += 1;
+    parent[s].unwrap()
+}
+
+/// Puts the row `j` in supernode `from` and in those over it, up to one that has its mark.
+fn climb<I: Index>(
+    j: usize,
+    number: I,
+    from: usize,
+    parent: &[Option<usize>],
+    next: &mut [usize],
+    mark: &mut [usize],
+    rows: &mut [I],
+)
+    ghost b: { Partition }
+    requires laws { IsGraph b.order.graph }
+    requires place { j < length b.owner }
+    requires parents { parent.now ≡ b.parent }
+    requires number { I.value number ≡ pos j }
+    requires climbs { Climbs b j from next.old mark.old (counts (map I.value rows.old)) }
+    requires told { AreNonNegative (map I.value rows.old) }
+    ensures told { AreNonNegative (map I.value rows.new) }
+    ensures climbs { Climbs b j (slice_index b.owner j) next.new mark.new (counts (map I.value rows.new)) }
+    ensures marked { IsMarkedBy mark.new j from }
+    ensures kept { (t : ℕ) → IsMarkedBy mark.old j t → IsMarkedBy mark.new j t }
+{
+    let mut s = from;
+    'up: while mark[s] != j + 1 {
+        s = put_row(j, number, s, parent, next, mark, rows);
+    }
+}
+
+/// Puts the row `j` in each supernode below whose block it is.
+fn add_row<I: Index>(
+    j: usize,
+    number: I,
+    earlier: &[usize],
+    owner: &[usize],
+    parent: &[Option<usize>],
+    next: &mut [usize],
+    mark: &mut [usize],
+    rows: &mut [I],
+)
+    ghost b: { Partition }
+    requires laws { IsGraph b.order.graph }
+    requires place { j < length b.owner }
+    requires number { I.value number ≡ pos j }
+    requires owners { owner.now ≡ b.owner }
+    requires parents { parent.now ≡ b.parent }
+    requires earlier { AreEarlier b.order j earlier.now }
+    requires written { WrittenTo b j next.old (counts (map I.value rows.old)) }
+    requires marks { MarkedBefore b j mark.old }
+    requires told { AreNonNegative (map I.value rows.old) }
+    ensures told { AreNonNegative (map I.value rows.new) }
+    ensures written { WrittenTo b (j + 1) next.new (counts (map I.value rows.new)) }
+    ensures marks { MarkedBefore b (j + 1) mark.new }
+{
+    mark[owner[j]] = j + 1;
+    'earlier: for &i in earlier {
+        climb(j, number, owner[i], parent, next, mark, rows);
+    }
+}
+
+/// Writes the rows below the block of each supernode.
+///
+/// `earlier[starts[j]..starts[j + 1]]` names the places before `j` whose rows an edge joins with that at place `j`.
+/// `first` and `ptr` say where each supernode and its rows begin, and where the last ones end; `owner` holds the
+/// supernode of each place, and `parent` the parent of each supernode. `next` and `mark`, which are for the work alone,
+/// have as many places as there are supernodes.
+///
+/// No memory is asked for. The steps are as many as there are earlier neighbours, rows below the blocks, and places.
+pub fn fill_rows<I: Index>(
+    starts: &[usize],
+    earlier: &[usize],
+    first: &[usize],
+    owner: &[usize],
+    ptr: &[usize],
+    parent: &[Option<usize>],
+    next: &mut [usize],
+    mark: &mut [usize],
+    rows: &mut [I],
+)
+    ghost b: { Partition }
+    requires laws { IsGraph b.order.graph }
+    requires cut { IsCut b }
+    requires firsts { first.now ≡ b.first }
+    requires owners { owner.now ≡ b.owner }
+    requires pointers { ptr.now ≡ b.ptr }
+    requires parents { parent.now ≡ b.parent }
+    requires earlier { HasEarlier b.order starts.now earlier.now }
+    requires nexts { length next.old + 1 ≡ length b.first }
+    requires marks { length mark.old + 1 ≡ length b.first }
+    requires room { length rows.old ≡ slice_index b.ptr (length b.first - 1) }
+    requires fits { I.fits (pos (length b.owner)) }
+    ensures told { AreNonNegative (map I.value rows.new) }
+    ensures rows { HoldSupernodes b.order.graph b.order.rows b.first b.ptr (counts (map I.value rows.new)) b.parent }
+{
+    next.copy_from_slice(&ptr[..first.len() - 1]);
+    mark.fill(0);
+    clear(rows);
+    'rows: for j in 0..owner.len() {
+        let Some(number) = from_count(j) else {
+            unreachable!()
+        };
+        let neighbours = &earlier[starts[j]..starts[j + 1]];
+        add_row(j, number, neighbours, owner, parent, next, mark, rows);
+    }
+}

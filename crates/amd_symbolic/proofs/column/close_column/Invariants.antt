@@ -1,4 +1,0 @@
-use Rattle.amd_symbolic.proofs.column.close_column.Given as goal
-
-abbrev pub ghost-link_child : goal.ghost-link_child
-ghost-link_child g a = g.o

@@ -1,8 +1,0 @@
-use Rattle.std.proofs.Common.{◌∙◌}
-use Rattle.amd_symbolic.proofs.counted.written_counts.Goals as goal
-
-pub returns : goal.returns
-returns g c = record {
-  holds = c.in_ok-sized.ensures;
-  needs = c.need_of_sizes-need.ensures _ (c.deref.ensures.value ∙ c.in_ok-sized.ensures.sizes_are);
-}

@@ -1,7 +1,0 @@
-use Rattle.amd_symbolic.proofs.fill.add_column.Given as goal
-
-abbrev pub ghost-plan_column : goal.ghost-plan_column
-ghost-plan_column g a = g.o
-
-abbrev pub ghost-finish_column : goal.ghost-finish_column
-ghost-finish_column g a = g.o

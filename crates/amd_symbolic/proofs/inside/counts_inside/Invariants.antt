@@ -1,4 +1,0 @@
-use Rattle.amd_symbolic.proofs.inside.counts_inside.Given as goal
-
-abbrev pub ghost-lent_sizes : goal.ghost-lent_sizes
-ghost-lent_sizes g a = g.o

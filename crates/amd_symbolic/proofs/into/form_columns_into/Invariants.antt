@@ -1,4 +1,0 @@
-use Rattle.amd_symbolic.proofs.into.form_columns_into.Given as goal
-
-abbrev pub ghost-written_into : goal.ghost-written_into
-ghost-written_into g a = g.o

@@ -1,5 +1,0 @@
-use Rattle.amd_symbolic.proofs.CountParts.{counts_tell_factor}
-use Rattle.amd_symbolic.proofs.laws.law_counts_tell_factor.Goals as goal
-
-pub returns : goal.returns
-returns c = counts_tell_factor

@@ -1,4 +1,0 @@
-use Rattle.amd_symbolic.proofs.meeting.meet.Given as goal
-
-abbrev pub ghost-find : goal.ghost-find
-ghost-find g a = g.at

@@ -1,5 +1,0 @@
-use Rattle.amd_symbolic.specs.Partitions.{SumEnds}
-use Rattle.amd_symbolic.proofs.partition.sum_ends.Given as goal
-
-abbrev pub invariant-places : goal.invariant-places
-invariant-places l = SumEnds l.owner l.sizes l.k l.total

@@ -1,5 +1,0 @@
-use Rattle.amd_symbolic.proofs.Runs.{Begun}
-use Rattle.amd_symbolic.proofs.partition.write_first.Given as goal
-
-abbrev pub invariant-places : goal.invariant-places
-invariant-places l = record { begun : Begun l.owner l.k l.first }

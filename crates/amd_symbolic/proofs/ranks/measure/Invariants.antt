@@ -1,5 +1,0 @@
-use Rattle.amd_symbolic.proofs.Ranking.{Measuring}
-use Rattle.amd_symbolic.proofs.ranks.measure.Given as goal
-
-abbrev pub invariant-places : goal.invariant-places
-invariant-places l = Measuring l.up l.size l.k

@@ -1,8 +1,0 @@
-use Rattle.amd_symbolic.proofs.Ranking.{Ranking}
-use Rattle.amd_symbolic.proofs.ranks.rank_places.Given as goal
-
-abbrev pub invariant-places : goal.invariant-places
-invariant-places l = Ranking l.up l.size l.next l.rank l.k
-
-abbrev pub decreases-places : goal.decreases-places
-decreases-places l = l.k

@@ -1,7 +1,0 @@
-use Rattle.std.proofs.Common.{map}
-use Rattle.amd_symbolic.specs.Partitions.{ordered_matrix}
-use Rattle.amd_symbolic.proofs.supernodal.supernodes.Given as goal
-
-abbrev pub ghost-matrix_supernodes : goal.ghost-matrix_supernodes
-ghost-matrix_supernodes g a = ordered_matrix (g.I.Number.value a.n) (map g.I.Number.value a.a_p.now) (map g.I.Number.value a.a_i.now)
-    (map g.I.Number.value a.p.now)

@@ -1,5 +1,0 @@
-use Rattle.amd_symbolic.proofs.Onto.{Placed}
-use Rattle.amd_symbolic.proofs.sweep.place_by_rank.Given as goal
-
-abbrev pub invariant-places : goal.invariant-places
-invariant-places g l = Placed g.s l.k l.order

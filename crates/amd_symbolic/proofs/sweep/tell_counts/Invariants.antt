@@ -1,7 +1,0 @@
-use Rattle.std.proofs.Common.{ℕ, ◌<◌, length}
-use Rattle.std.specs.Prelude.{slice_index}
-use Rattle.amd_symbolic.specs.Meetings.{CountsTargets, Taken}
-use Rattle.amd_symbolic.proofs.sweep.tell_counts.Given as goal
-
-abbrev pub invariant-columns : goal.invariant-columns
-invariant-columns g l = (k : ℕ) → k < l.k → CountsTargets g.s (Taken g.s (length g.s.up)) k (slice_index l.counts k)

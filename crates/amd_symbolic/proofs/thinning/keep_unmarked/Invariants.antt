@@ -1,9 +1,0 @@
-use Rattle.std.proofs.Common.{◌≤◌}
-use Rattle.amd_symbolic.specs.Thinning.{Keeps}
-use Rattle.amd_symbolic.proofs.thinning.keep_unmarked.Given as goal
-
-abbrev pub invariant-places : goal.invariant-places
-invariant-places l = record {
-  from : l.begin ≤ l.place;
-  keeps : Keeps l.begin l.place l.first l.next l.stamp l.mark l.fn.lists l.lists;
-}

@@ -1,7 +1,0 @@
-use Rattle.amd_symbolic.proofs.ThinRows.{Thinning}
-use Rattle.amd_symbolic.proofs.thinning.thin_lists.Given as goal
-
-abbrev pub invariant-rows : goal.invariant-rows
-invariant-rows g l = record {
-  thinning : Thinning g.o l.fn.starts l.fn.lists l.starts l.lists l.mark l.i l.begin l.first;
-}
