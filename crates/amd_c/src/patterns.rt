@@ -8,10 +8,10 @@ ghost use Rattle.amd_model.specs.Input.Columns.{IsInput};
 
 use amd_calls::factors::{has_numbers, write_numbers};
 use amd_calls::records::{Statistics, statistics_of};
+use amd_factor::Fault;
 use amd_input::aat::aat;
 use amd_input::preprocess::preprocess;
 use amd_input::valid::valid;
-use amd_factor::Fault;
 use amd_types::amd::{Info, Status};
 use amd_types::index::Index;
 use amd_types::internal::to_count;

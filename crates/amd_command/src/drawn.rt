@@ -6,10 +6,10 @@ ghost use Rattle.amd_types.specs.Counts.{counts};
 ghost use Rattle.amd_factor.specs.Places.{ArePlaces};
 ghost use Rattle.amd_command.specs.DrawnFills.{DrawsFill};
 
-use amd_report::fills::fill_grid;
-use amd_report::grids::Grid;
 use amd_factor::neighbours::later_lists;
 use amd_factor::places::places;
+use amd_report::fills::fill_grid;
+use amd_report::grids::Grid;
 use amd_symbolic::{Fault, supernode_sizes, supernodes};
 use std::alloc::Allocator;
 

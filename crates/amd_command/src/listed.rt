@@ -5,9 +5,9 @@ ghost use Rattle.amd_factor.specs.Places.{ArePlaces};
 ghost use Rattle.amd_types.specs.Counts.{counts};
 ghost use Rattle.amd_command.specs.Lists.{AreEach, AreRowsListed};
 
+use amd_factor::places::places;
 use amd_request::causes::Cause;
 use amd_request::order_faults::order_fault;
-use amd_factor::places::places;
 use std::alloc::Global;
 
 /// The places of numbers below `n`.

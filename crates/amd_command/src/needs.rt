@@ -5,9 +5,9 @@ ghost use Rattle.std.specs.Prelude.{◌≡◌, pos, map, IfOk, IfErr};
 ghost use Rattle.amd_factor.specs.Counted.{IsCountsFault};
 ghost use Rattle.amd_command.specs.Needs.{IsNeedUnder, TellsNeed, standing_rows};
 
+use amd_factor::needs::Need;
 use amd_market::reader::Matrix;
 use amd_report::compare::Needs;
-use amd_factor::needs::Need;
 use amd_symbolic::{Fault, counts};
 use std::alloc::{AllocError, Allocator};
 

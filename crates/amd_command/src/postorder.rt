@@ -6,11 +6,11 @@ ghost use Rattle.amd_postorder.specs.Trees.{IsPostorderOf, link_of};
 ghost use Rattle.amd_command.specs.Postorders.{AreBehind, IsPostorder, IsPostorderUnder, forest_of};
 
 use crate::faults::cause_of;
+use amd_factor::places::places;
 use amd_market::reader::Matrix;
 use amd_postorder::postorder::postorder;
 use amd_request::causes::Cause;
 use amd_symbolic::counts;
-use amd_factor::places::places;
 use amd_types::amd::Status;
 use amd_types::internal::EMPTY;
 use std::alloc::Global;

@@ -8,8 +8,8 @@ ghost use Rattle.amd_types.specs.Counts.{counts};
 ghost use Rattle.amd_factor.specs.Arcs.{IsNext, arcs_before};
 ghost use Rattle.amd_factor.specs.Places.{ArePlaces};
 
-use amd_types::internal::count_at;
 use amd_types::index::Index;
+use amd_types::internal::count_at;
 
 /// What takes the arcs of an order of `n` rows, one at a time, and writes two lists of numbers by them. What holds of
 /// it and of the lists speaks of `n`, of all arcs that it is to take, and of those that it took, the last one first.

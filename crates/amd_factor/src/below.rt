@@ -11,8 +11,8 @@ ghost use Rattle.amd_factor.specs.Partitions.{Climbs, IsCut, IsMarkedBy, MarkedB
 ghost use Rattle.amd_factor.specs.Partitions.{WrittenTo};
 ghost use Rattle.amd_factor.specs.Supernodes.{HoldSupernodes};
 
-use amd_types::internal::from_count;
 use amd_types::index::Index;
+use amd_types::internal::from_count;
 
 /// Writes 0 into each place.
 fn clear<I: Index>(numbers: &mut [I])

@@ -6,8 +6,8 @@ ghost use Rattle.amd_model.specs.Input.Columns.{IsColumnForm};
 ghost use Rattle.amd_factor.specs.Unfit.{IsUnfit};
 
 use crate::forms::is_form;
-use amd_types::internal::to_count;
 use amd_types::index::Index;
+use amd_types::internal::to_count;
 
 /// Why a matrix and an order are not fit for a factor.
 #[derive(Clone, Copy, Drop)]

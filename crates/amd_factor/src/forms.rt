@@ -5,8 +5,8 @@
 ghost use Rattle.std.specs.Prelude.{◌≡◌, ◌<◌, ◌≤◌, ◌+◌, ◌≤ℤ◌, ◌<ℤ◌, ℕ, pos, true, false, length, map};
 ghost use Rattle.amd_model.specs.Input.Columns.{IsColumnForm, IsRow, at};
 
-use amd_types::internal::{is_below, is_negative, to_count, value_at};
 use amd_types::index::Index;
+use amd_types::internal::{is_below, is_negative, to_count, value_at};
 
 /// Whether the pointers up to that at place `size` never descend.
 fn ascend<I: Index>(a_p: &[I], size: usize) -> bool

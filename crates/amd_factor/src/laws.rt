@@ -1,5 +1,5 @@
-// Laws of the factor as paths define it, and on the contracts of `columns` and `counts`, each the contract of a function
-// with an empty body. Source: Liu 1986 and 1990.
+// Laws of the factor as paths define it, and on the contracts of `columns` and `counts`, each the contract of a
+// function with an empty body. Source: Liu 1986 and 1990.
 
 ghost use Rattle.amd_factor.specs.Counted.{CountsReserve, CountsTellFactor};
 ghost use Rattle.amd_factor.specs.Laws.{ParentsTellTree, RowsTellSubtrees, ThereIsOneFactor};

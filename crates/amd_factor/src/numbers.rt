@@ -4,8 +4,8 @@ ghost use Rattle.std.specs.Prelude.{ℕ, ◌≡◌, ◌<◌, ◌^◌, length, ma
 ghost use Rattle.amd_types.specs.Counts.{counts};
 ghost use Rattle.amd_factor.specs.Numbers.{AreNonNegative};
 
-use amd_types::internal::{count_at, from_count};
 use amd_types::index::Index;
+use amd_types::internal::{count_at, from_count};
 
 /// The place that the number at `k` is, which is below the length of `numbers`.
 #[inline]

@@ -5,8 +5,8 @@ ghost use Rattle.amd_factor.specs.Orders.{Permutes};
 ghost use Rattle.amd_types.specs.Counts.{counts};
 ghost use Rattle.amd_factor.specs.Places.{ArePlaces};
 
-use amd_types::internal::{to_count, value_at};
 use amd_types::index::Index;
+use amd_types::internal::{to_count, value_at};
 use std::alloc::{AllocError, Allocator};
 
 /// Writes the place of each row in the list `p`, and returns whether that lists each number below the number of places,

@@ -16,9 +16,9 @@ use crate::entrance::rows_of;
 use crate::inside::{columns_inside, counts_inside};
 use crate::needs::Need;
 use crate::refusal::{Refusal, refusal_for};
-use amd_types::internal::count_at;
 use amd_lent::{Lodged, Piece};
 use amd_types::index::Index;
+use amd_types::internal::count_at;
 use num_traits::PrimInt;
 use std::alloc::{AllocError, Allocator};
 

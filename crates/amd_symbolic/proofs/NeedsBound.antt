@@ -1,5 +1,5 @@
 -- The record of an ordering bounds what the factor under its order needs.
-use Rattle.std.proofs.Common.{ℕ, ℤ, zero, suc, pos, negsuc, Bool, ◌≡◌, ◌<◌, ◌≤◌, refl, ◌∙◌, subst, arith, List, [], ◌∷◌, length}
+use Rattle.std.proofs.Common.{ℕ, ℤ, zero, suc, pos, negsuc, Bool, ◌≡◌, ◌≤◌, refl, ◌∙◌, subst, arith, List, [], ◌∷◌, length}
 use Rattle.std.specs.Prelude.{Option}
 use Rattle.amd_model.specs.Factor.{IsFactor, needed_front}
 use Rattle.amd_model.specs.Input.Pattern.{graph_of}

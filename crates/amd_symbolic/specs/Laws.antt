@@ -1,5 +1,5 @@
 -- The record of an ordering bounds the factor under its order, and what that needs.
-use Rattle.std.specs.Prelude.{ℕ, ℤ, Bool, ◌≡◌, ◌<◌, ◌≤◌, ◌+◌, List, Option, length, unsigned_abs}
+use Rattle.std.specs.Prelude.{ℕ, ℤ, Bool, ◌<◌, ◌≤◌, ◌+◌, List, Option, length, unsigned_abs}
 use Rattle.amd_model.specs.Below.{sum_below}
 use Rattle.amd_model.specs.Figures.{ldl_steps, lu_steps}
 use Rattle.amd_types.specs.declared.amd.Info.{Info}

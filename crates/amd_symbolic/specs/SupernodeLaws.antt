@@ -1,5 +1,5 @@
--- How the supernodes of a factor lie to the blocks of the assembly tree of an ordering. Source: Liu, Ng and Peyton 1993;
--- Amestoy, Davis and Duff 2004.
+-- How the supernodes of a factor lie to the blocks of the assembly tree of an ordering. Source: Liu, Ng and Peyton
+-- 1993; Amestoy, Davis and Duff 2004.
 use Rattle.std.specs.Prelude.{ℕ, ℤ, Bool, true, pos, ◌≡◌, ◌<◌, ◌+◌, ◌⊎◌, List, Option, length, slice_index}
 use Rattle.amd_model.specs.Graph.{Graph}
 use Rattle.amd_model.specs.Input.Pattern.{graph_of}

@@ -54,7 +54,7 @@ pub(crate) fn fault_of(refusal: Status) -> Fault
 /// Orders as [`amd::order`] does; returns the permutation `p`, its inverse, the record, and the factor under `p`.
 ///
 /// The input is a column form as that of [`amd::order`]. The permutation and its inverse have `n` numbers each. The
-/// factor is that of [`amd_factor::columns`] with this order and `info.lnz` as room, which is never too small: it has `n + 1`
+/// factor is that of [`columns`] with this order and `info.lnz` as room, which is never too small: it has `n + 1`
 /// pointers, `ptr[n]` entries, at most `info.lnz`, and `n` parents.
 ///
 /// For `n = 0` the result is two empty vectors, `Info::new(0)` and a factor of which `ptr` is `[0]`, whatever the
@@ -96,7 +96,7 @@ pub fn analyze<I: PrimInt, A: Allocator + Copy>(
 /// they are as there, whatever the pointers and the marks are.
 ///
 /// Room for `info.lnz` entries is reserved, which counts all rows held last as one full block. Where they are many it
-/// is far more than the factor has: [`crate::analyze_counts_holding`] counts first, and [`amd_factor::columns_into`] then
+/// is far more than the factor has: [`crate::analyze_counts_holding`] counts first, and [`crate::columns_into`] then
 /// takes just so many places.
 ///
 /// # Errors

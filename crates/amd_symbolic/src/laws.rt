@@ -1,11 +1,11 @@
-// Laws on the contracts of `analyze`, `analyze_counts` and their kin, each the contract of a function with an empty body.
-// Those of the factor under any order are the laws of `amd_factor`.
+// Laws of an ordering and the factor under it, each the contract of a function with an empty body. Those of the factor
+// under any order are the laws of `amd_factor`.
 
 ghost use Rattle.amd_symbolic.specs.Laws.{FiguresBoundNeeds, FiguresReserve};
 
 pub use amd_factor::laws::{
-    law_columns_by_children, law_counts_reserve, law_counts_tell_factor, law_one_factor, law_parents, law_rows,
-    law_rows_are_subtrees,
+    law_columns_by_children, law_counts_reserve, law_counts_tell_factor, law_one_factor,
+    law_parents, law_rows, law_rows_are_subtrees,
 };
 
 /// The record of an ordering bounds the factor under its order: the number of entries is at most `lnz` and `n_div`, the

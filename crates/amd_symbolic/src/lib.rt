@@ -19,12 +19,13 @@ pub mod counting;
 pub mod laws;
 pub mod supernode_laws;
 
-pub use amd_factor::{Counts, Factor, FactorWorkspace, Fault, Frame, Partitioned, Refusal, SupernodeSizes, Supernodes};
-pub use amd_factor::{columns, columns_into, counts, expand, factor_bytes};
-pub use amd_factor::{supernode_partition, supernode_sizes, supernodes, write_rows};
+pub use amd_factor::{
+    Counts, Factor, FactorWorkspace, Fault, Frame, Partitioned, Refusal, SupernodeSizes,
+    Supernodes, arcs, below, blocks, children, column, columns, columns_into, counted, counts,
+    entrance, expand, expanding, factor, factor_bytes, fill, forms, gathering, inside, into, lent,
+    meeting, merge, needs, neighbours, numbers, ordering, partition, places, ranks, refusal, room,
+    sizes, supernodal, supernode_partition, supernode_sizes, supernodes, sweep, thinning, tree,
+    turning, workspace, write_rows,
+};
 pub use analysis::{analyze, analyze_holding};
 pub use counting::{analyze_counts, analyze_counts_holding};
-
-pub use amd_factor::{arcs, below, blocks, children, column, counted, entrance, expanding, factor, fill, forms, gathering};
-pub use amd_factor::{inside, into, lent, meeting, merge, needs, neighbours, numbers, ordering, partition, places, ranks};
-pub use amd_factor::{refusal, room, sizes, supernodal, sweep, thinning, tree, turning, workspace};

@@ -1,5 +1,5 @@
-// A law on the supernodes of the factor under an ordering: the contract of a function with an empty body. Source: Liu, Ng
-// and Peyton 1993; Amestoy, Davis and Duff 2004.
+// A law on the supernodes of the factor under an ordering: the contract of a function with an empty body. Source: Liu,
+// Ng and Peyton 1993; Amestoy, Davis and Duff 2004.
 
 ghost use Rattle.amd_symbolic.specs.SupernodeLaws.{ExactBlocksStandInside};
 

@@ -1,14 +1,13 @@
 -- What the parts of `counts` owe each other, and what its counts tell of the columns.
-use Rattle.std.proofs.Common.{ℕ, ℤ, zero, suc, pos, negsuc, Bool, ◌≡◌, ◌<◌, ◌≤◌, refl, sym, ◌∙◌, ap, subst, arith, List, [], ◌∷◌}
+use Rattle.std.proofs.Common.{ℕ, ℤ, pos, ◌≡◌, ◌<◌, refl, sym, ◌∙◌, ap, subst, arith, List, []}
 use Rattle.std.proofs.Common.{length, map}
 use Rattle.std.specs.Prelude.{slice_index_or, sum, unsigned_abs, Option}
-use Rattle.amd_model.specs.Factor.{IsFactor, needed, needed_front}
+use Rattle.amd_model.specs.Factor.{IsFactor, needed}
 use Rattle.amd_model.specs.Figures.{entries}
 use Rattle.amd_model.specs.Graph.{Graph}
 use Rattle.amd_model.specs.Input.Pattern.{graph_of}
 use Rattle.amd_factor.specs.Sizes.{HoldSizes}
 use Rattle.amd_factor.specs.Columns.{first_of}
-use Rattle.amd_factor.specs.Orders.{Permutes}
 use Rattle.amd_factor.proofs.Trees.FactorOnce.{factor_once, needs_once}
 use Rattle.amd_factor.specs.Counted.{CountsReserve, CountsTellFactor, IsCountsOf, IsCutNeed}
 use Rattle.amd_factor.specs.declared.needs.Need.{Need}
