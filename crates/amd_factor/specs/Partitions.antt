@@ -6,9 +6,9 @@ use Rattle.amd_model.specs.Factor.{IsFactor}
 use Rattle.amd_model.specs.Input.Columns.{IsInput}
 use Rattle.amd_model.specs.Input.Pattern.{graph_of}
 use Rattle.amd_types.specs.Counts.{counts}
-use Rattle.amd_factor.specs.Neighbours.{HasEarlier}
 use Rattle.amd_factor.specs.Orders.{Order, Permutes}
 use Rattle.amd_factor.specs.Supernodes.{AreRuns, Joined, TellsOver}
+use Rattle.amd_factor.specs.Thinning.{HasThinned}
 
 -- the numbers of entries of columns, and their parents: a column that has one has an entry, and its parent is behind it
 pub record HaveParents (sizes : List ℕ) (parent : List (Option ℕ)) : Type 0 where
@@ -164,11 +164,11 @@ abbrev pub order_of : OrderedMatrix → Order
 order_of m = record { graph = graph_of (unsigned_abs m.size) m.pointers m.indices; rows = counts m.list }
 
 -- the supernodes of the factor of a matrix under the order that its list tells, but for the rows below the blocks, and
--- the lists of the earlier neighbours; where there are rows the matrix is a column form
+-- lists of earlier neighbours, thinned or whole; where there are rows the matrix is a column form
 pub record IsPartitionOf (m : OrderedMatrix) (first owner ptr : List ℕ) (parent : List (Option ℕ))
     (starts earlier : List ℕ) : Type 0 where
   pub form : m.size ≢ pos 0 → IsInput m.size m.size m.pointers m.indices
   pub size : m.size ≡ pos (length owner)
   pub permutes : Permutes (unsigned_abs m.size) m.list (counts m.list)
-  pub near : HasEarlier (order_of m) starts earlier
+  pub near : HasThinned (order_of m) starts earlier
   pub cut : IsCut (record { order = order_of m; first = first; owner = owner; ptr = ptr; parent = parent })

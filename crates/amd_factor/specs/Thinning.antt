@@ -1,6 +1,6 @@
 -- An order with fewer arcs, whose columns have as many entries. Source: Liu 1986.
 use Rattle.std.specs.Prelude.{ℕ, true, ◌≡◌, ◌<◌, ◌≤◌, ◌+◌, ◌⊎◌, List, Option, None, Some, length, slice_index, slice_index_or}
-use Rattle.std.specs.Prelude.{slice_range}
+use Rattle.std.specs.Prelude.{slice_range, Contains}
 use Rattle.std.specs.List.{range_with_len}
 use Rattle.amd_model.specs.Quotient.{has}
 use Rattle.amd_factor.specs.Orders.{Order}
@@ -16,6 +16,19 @@ pub record Thins (o t : Order) : Type 0 where
   pub places : length t.rows ≡ length o.rows
   pub among : (j i : ℕ) → j < i → i < length o.rows → Joined t j i → Joined o j i
   pub covered : (j i : ℕ) → j < i → i < length o.rows → Joined o j i → (b : ℕ) × Over o.graph o.rows b j × Joined t b i
+
+-- the list names earlier neighbours of place j alone, and one that each earlier neighbour is or stands over
+pub record AreThinned (o : Order) (j : ℕ) (earlier : List ℕ) : Type 0 where
+  pub among : (i : ℕ) → Contains earlier i → (i < j) × Joined o i j
+  pub covered : (i : ℕ) → i < j → Joined o i j → (b : ℕ) × Contains earlier b × Over o.graph o.rows b i
+
+-- such neighbours of place j stand in the list from place starts[j] on, before starts[j + 1]
+pub record HasThinned (o : Order) (starts earlier : List ℕ) : Type 0 where
+  pub room : length starts ≡ length o.rows + 1
+  pub ascending : (j : ℕ) → j < length o.rows → slice_index starts j ≤ slice_index starts (j + 1)
+  pub within : (j : ℕ) → j < length o.rows → slice_index starts (j + 1) ≤ length earlier
+  pub each : (j : ℕ) → j < length o.rows → AreThinned o j
+      (slice_range earlier (slice_index starts j) (slice_index starts (j + 1)))
 
 -- the order of n rows, each at its own place, whose earlier neighbours the lists name
 abbrev pub order_of_lists : ℕ → List ℕ → List ℕ → Order

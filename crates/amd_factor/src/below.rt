@@ -5,11 +5,11 @@
 ghost use Rattle.std.specs.Prelude.{ℕ, ◌≡◌, ◌<◌, ◌+◌, ◌-◌, length, map, pos, slice_index};
 ghost use Rattle.amd_model.specs.Graph.{IsGraph};
 ghost use Rattle.amd_types.specs.Counts.{counts};
-ghost use Rattle.amd_factor.specs.Neighbours.{AreEarlier, HasEarlier};
 ghost use Rattle.amd_factor.specs.Numbers.{AreNonNegative};
 ghost use Rattle.amd_factor.specs.Partitions.{Climbs, IsCut, IsMarkedBy, MarkedBefore, Partition};
 ghost use Rattle.amd_factor.specs.Partitions.{WrittenTo};
 ghost use Rattle.amd_factor.specs.Supernodes.{HoldSupernodes};
+ghost use Rattle.amd_factor.specs.Thinning.{AreThinned, HasThinned};
 
 use amd_types::index::Index;
 use amd_types::internal::from_count;
@@ -100,7 +100,7 @@ fn add_row<I: Index>(
     requires number { I.value number ≡ pos j }
     requires owners { owner.now ≡ b.owner }
     requires parents { parent.now ≡ b.parent }
-    requires earlier { AreEarlier b.order j earlier.now }
+    requires earlier { AreThinned b.order j earlier.now }
     requires written { WrittenTo b j next.old (counts (map I.value rows.old)) }
     requires marks { MarkedBefore b j mark.old }
     requires told { AreNonNegative (map I.value rows.old) }
@@ -116,7 +116,9 @@ fn add_row<I: Index>(
 
 /// Writes the rows below the block of each supernode.
 ///
-/// `earlier[starts[j]..starts[j + 1]]` names the places before `j` whose rows an edge joins with that at place `j`.
+/// `earlier[starts[j]..starts[j + 1]]` names the places before `j` whose rows an edge joins with that at place `j`. It
+/// may leave out a place that stands over one that it names, since a climb from there comes by.
+///
 /// `first` and `ptr` say where each supernode and its rows begin, and where the last ones end; `owner` holds the
 /// supernode of each place, and `parent` the parent of each supernode. `next` and `mark`, which are for the work alone,
 /// have as many places as there are supernodes.
@@ -140,7 +142,7 @@ pub fn fill_rows<I: Index>(
     requires owners { owner.now ≡ b.owner }
     requires pointers { ptr.now ≡ b.ptr }
     requires parents { parent.now ≡ b.parent }
-    requires earlier { HasEarlier b.order starts.now earlier.now }
+    requires earlier { HasThinned b.order starts.now earlier.now }
     requires nexts { length next.old + 1 ≡ length b.first }
     requires marks { length mark.old + 1 ≡ length b.first }
     requires room { length rows.old ≡ slice_index b.ptr (length b.first - 1) }

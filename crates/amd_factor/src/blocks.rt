@@ -39,7 +39,7 @@ pub struct Supernodes<A: Allocator> {
 pub struct Partitioned<A: Allocator> {
     /// Where each supernode and its rows begin, and its parent, as in [`Supernodes`]; and the supernode of each place.
     pub cut: Cut<A>,
-    /// The earlier neighbours of each place.
+    /// The earlier neighbours of each place, but for some that stand over others.
     pub lists: NeighbourLists<A>,
     /// For the work alone: a place for each supernode.
     pub next: Vec<usize, A>,

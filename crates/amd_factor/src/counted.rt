@@ -7,12 +7,12 @@ ghost use Rattle.amd_factor.specs.Neighbours.{HasEarlier};
 ghost use Rattle.amd_factor.specs.Orders.{Order};
 ghost use Rattle.amd_factor.specs.Counted.{IsCutNeed, TellCounts, wide_cut};
 ghost use Rattle.amd_factor.specs.Sizes.{HoldSizes};
-ghost use Rattle.amd_factor.specs.Thinning.{Thins};
+ghost use Rattle.amd_factor.specs.Thinning.{HasThinned, Thins};
 ghost use Rattle.amd_factor.specs.Walks.{TellParents};
 
 use crate::needs::Need;
 use crate::neighbours::turned_lists;
-use crate::sizes::{count_by_meetings, count_by_tree};
+use crate::sizes::count_by_tree;
 use crate::thinning::thin_lists;
 use crate::tree::elimination_tree;
 use std::alloc::{AllocError, Allocator};
@@ -95,41 +95,6 @@ fn work_words(columns: usize) -> Option<usize>
     columns.checked_mul(8)?.checked_add(5)
 }
 
-/// Takes all memory, and counts by the lists of earlier neighbours.
-///
-/// # Errors
-///
-/// A refused request for memory.
-pub fn written_sizes<A: Allocator + Copy>(
-    alloc: A,
-    starts: &[usize],
-    earlier: &[usize],
-) -> Result<Sized<A>, AllocError>
-    ghost o: { Order }
-    requires laws { IsGraph o.graph }
-    requires earlier { HasEarlier o starts.now earlier.now }
-    ensures { IfOk result (λ c. HoldSizes o.graph o.rows c.sizes.items c.parent.items) }
-{
-    let later = turned_lists(alloc, starts, earlier)?;
-    let columns = starts.len() - 1;
-    let mut sizes = vec![in alloc; 0; columns]?;
-    let mut parent = vec![in alloc; None; columns]?;
-    let Some(words) = work_words(columns) else {
-        return Err(AllocError);
-    };
-    let mut work = vec![in alloc; 0; words]?;
-    count_by_meetings(
-        starts,
-        earlier,
-        &later.starts,
-        &later.neighbours,
-        &mut parent,
-        &mut sizes,
-        &mut work,
-    );
-    Ok(Sized { sizes, parent })
-}
-
 /// The number of entries of each column, by lists of earlier neighbours and the parents. `work` is for the work alone.
 ///
 /// # Errors
@@ -156,12 +121,12 @@ fn tree_sizes<A: Allocator + Copy>(
     Ok(sizes)
 }
 
-/// Takes all memory, and counts by the lists of earlier neighbours, which are thinned out first.
+/// Takes all memory, and counts by the lists of earlier neighbours, which are thinned out first. They stay so.
 ///
 /// # Errors
 ///
 /// A refused request for memory.
-fn thinned_sizes<A: Allocator + Copy>(
+pub fn thinned_sizes<A: Allocator + Copy>(
     alloc: A,
     starts: &mut [usize],
     earlier: &mut [usize],
@@ -169,7 +134,8 @@ fn thinned_sizes<A: Allocator + Copy>(
     ghost o: { Order }
     requires laws { IsGraph o.graph }
     requires earlier { HasEarlier o starts.old earlier.old }
-    ensures { IfOk result (λ c. HoldSizes o.graph o.rows c.sizes.items c.parent.items) }
+    ensures sizes { IfOk result (λ c. HoldSizes o.graph o.rows c.sizes.items c.parent.items) }
+    ensures lists { IfOk result (λ c. HasThinned o starts.new earlier.new) }
 {
     let columns = starts.len() - 1;
     let mut parent = vec![in alloc; None; columns]?;

@@ -11,7 +11,7 @@ ghost use Rattle.amd_factor.specs.Partitions.{IsPartitionOf, OrderedMatrix, orde
 ghost use Rattle.amd_factor.specs.Supernodes.{IsSupernodesOf};
 
 use crate::blocks::{Partitioned, Supernodes, write_rows};
-use crate::counted::written_sizes;
+use crate::counted::thinned_sizes;
 use crate::entrance::rows_of;
 use crate::factor::{Fault, fault_for};
 use crate::neighbours::NeighbourLists;
@@ -41,9 +41,9 @@ fn form_partition<I: Index, A: Allocator + Copy>(
     ensures fault { IfErr result (λ e. IsCountsFault (pos size) (map I.value a_p.now) (map I.value a_i.now)
         (map I.value p.now) e) }
 {
-    let lists = ordered_lists(alloc, size, a_p, a_i, p)?;
+    let mut lists = ordered_lists(alloc, size, a_p, a_i, p)?;
     let cut = {
-        let sized = written_sizes(alloc, &lists.starts, &lists.neighbours)?;
+        let sized = thinned_sizes(alloc, &mut lists.starts, &mut lists.neighbours)?;
         cut_places(alloc, &sized.sizes, &sized.parent)?
     };
     let next = vec![in alloc; 0; cut.parent.len()]?;

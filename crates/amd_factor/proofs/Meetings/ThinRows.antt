@@ -7,15 +7,17 @@ use Rattle.std.proofs.lemmas.List.{length-set, get_or-set_same, get_or-set_other
 use Rattle.std.proofs.lemmas.List.Edits.{length-between, get_or-between}
 use Rattle.std.proofs.lemmas.List.Elements.{Contains-get_or}
 use Rattle.std.proofs.lemmas.List.FromFn.{get_or-range_with_len, length-range_with_len}
+use Rattle.amd_model.specs.Graph.{IsGraph}
 use Rattle.amd_model.specs.Quotient.{has}
 use Rattle.amd_model.proofs.Counting.Places.{contains_has, has_contains}
 use Rattle.amd_factor.specs.Neighbours.{HasEarlier}
 use Rattle.amd_factor.specs.Orders.{Order}
-use Rattle.amd_factor.specs.Thinning.{IsThinned, Joined, Keeps, Thins, order_of_lists}
+use Rattle.amd_factor.specs.Thinning.{AreThinned, HasThinned, IsThinned, Joined, Keeps, Thins, order_of_lists}
 use Rattle.amd_factor.specs.Trees.{IsParent, Over, itself, up}
 use Rattle.amd_factor.specs.Walks.{TellParents, TellsParentSoFar}
 use Rattle.amd_factor.proofs.Trees.Ancestry.{over-trans}
 use Rattle.amd_factor.proofs.Factors.NewRows.{place_in}
+use Rattle.amd_factor.proofs.Trees.TreePaths.{over_most}
 
 -- one place more is moved, or left out, since it has the mark
 module _ (begin first stamp : ℕ) (mark old now : List ℕ) (place next : ℕ) (low : first ≤ begin) (from : begin ≤ place)
@@ -323,3 +325,25 @@ module _ (o : Order) (starts0 lists0 : List ℕ) (parent : List (Option ℕ)) (e
           )
           );
     }
+
+-- a place in a thinned list is an earlier neighbour
+pub thin-neighbour : (o : Order) (j : ℕ) (earlier : List ℕ) (s : ℕ) → AreThinned o j earlier → s < length earlier →
+    (slice_index earlier s < j) × Joined o (slice_index earlier s) j
+thin-neighbour o j earlier s are l = are.among (slice_index earlier s) (Contains-get_or earlier s 0 l)
+
+-- the lists of an order that has fewer arcs are thinned lists of the other
+pub has-thinned : (o t : Order) → IsGraph o.graph → Thins o t → (starts earlier : List ℕ) → HasEarlier t starts earlier →
+    HasThinned o starts earlier
+has-thinned o t laws thins starts earlier h = record {
+  room = h.room ∙ ap (λ m. m + 1) thins.places;
+  ascending = λ j l. h.ascending j (inside j l);
+  within = λ j l. h.within j (inside j l);
+  each = λ j l. record {
+    among = λ i c. (let r = (h.each j (inside j l) i).0 c in (r.0, thins.among i j r.0 l r.1));
+    covered = λ i m e. (let b = thins.covered i j m l e in let most = over_most o.graph o.rows laws b.1 in
+        (b.0, (h.each j (inside j l) b.0).1 (omega (arith, most, m), b.2), b.1));
+  };
+}
+  where
+    inside : (j : ℕ) → j < length o.rows → j < length t.rows
+    inside j l = let e = thins.places in omega (arith, l, e)

@@ -9,12 +9,11 @@ use Rattle.amd_model.specs.Graph.{IsGraph}
 use Rattle.amd_factor.specs.Partitions.{Climbs, HasRow, IsMarkedBy, IsPartition, MarkedBefore, Partition, Written, WrittenTo}
 use Rattle.amd_factor.specs.Partitions.{last_column, last_of}
 use Rattle.amd_factor.proofs.Partitions.Prefixes.{room_at, written_next, written_other, written_skip}
-use Rattle.amd_factor.proofs.Partitions.SupernodeTree.{OverIt, entry-of, goes-on, in-column, last-in, over-it, owned-by, owner-up}
-use Rattle.amd_factor.proofs.Partitions.SupernodeTree.{parent-of}
-use Rattle.amd_factor.proofs.Trees.Ancestry.{parents-same}
+use Rattle.amd_factor.proofs.Partitions.SupernodeTree.{OverIt, entry-of, goes-on, in-column, last-in, over-it, owned-by, owner-up, parent-of}
+use Rattle.amd_factor.proofs.Trees.Ancestry.{over-trans, parents-same}
 use Rattle.amd_factor.proofs.Factors.NewRows.{place_in}
 use Rattle.amd_factor.proofs.Trees.TreePaths.{entry_in_subtree, over_most}
-use Rattle.amd_factor.specs.Neighbours.{AreEarlier}
+use Rattle.amd_factor.specs.Thinning.{AreThinned}
 use Rattle.amd_factor.specs.Trees.{Entry, IsParent, Over, itself, up}
 
 -- the rows of the supernodes have their room one after another
@@ -230,7 +229,7 @@ module _ (b : Partition) (j : ℕ) (next rows : List ℕ) (n : j < length b.owne
 
   -- at the end of the row each of its supernodes has it
   module _ (laws : IsGraph b.order.graph) (mark : List ℕ) (c : Climbs b j (slice_index b.owner j) next mark rows) (earlier : List ℕ)
-      (are : AreEarlier b.order j earlier)
+      (are : AreThinned b.order j earlier)
       (met : (s : ℕ) → s < length earlier → IsMarkedBy mark j (slice_index b.owner (slice_index earlier s))) where
     abbrev cut-h : IsPartition b c.cut.columns
     cut-h = c.cut.partition
@@ -281,11 +280,12 @@ module _ (b : Partition) (j : ℕ) (next rows : List ℕ) (n : j < length b.owne
         let m = last-in b c.cut.columns cut-h t l in let m0 = m.0 in let m1 = m.1 in let m2 = m.2 in
         let e = entry-of b c.cut.columns cut-h (last_of b.first t) j (omega (arith, m1, m2)) has in
         let s = entry_in_subtree b.order.graph b.order.rows laws (last_of b.first t) j e in
-        let at = place_in earlier s.0 ((are s.0).1 (s.1, s.2)) in
-        let first : IsMarkedBy mark j (slice_index b.owner s.0) = subst (λ x. IsMarkedBy mark j (slice_index b.owner x))
+        let named = are.covered s.0 s.1 s.2 in
+        let at = place_in earlier named.0 named.1 in
+        let first : IsMarkedBy mark j (slice_index b.owner named.0) = subst (λ x. IsMarkedBy mark j (slice_index b.owner x))
         at.2 (met at.0 at.1) in
         subst (IsMarkedBy mark j) (owned-by b c.cut.columns cut-h t (last_of b.first t) l m0 (omega (arith, m1)))
-        (met-over s.3 e.0 first)
+        (met-over (over-trans b.order.graph b.order.rows named.2 s.3) e.0 first)
 
     pub climbs-end : WrittenTo b (j + 1) next rows
     climbs-end = record {

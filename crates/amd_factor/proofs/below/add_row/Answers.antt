@@ -3,9 +3,9 @@ use Rattle.std.specs.Prelude.{slice_index}
 use Rattle.std.proofs.lemmas.Bool.{cases_eq}
 use Rattle.amd_types.specs.Counts.{counts}
 use Rattle.amd_factor.specs.Partitions.{Climbs, IsMarkedBy}
-use Rattle.amd_factor.proofs.Trees.Ancestry.{neighbour}
 use Rattle.amd_factor.proofs.Partitions.RowClimbs.{climbs-begin, climbs-end, climbs-from}
 use Rattle.amd_factor.proofs.Partitions.SupernodeTree.{begins}
+use Rattle.amd_factor.proofs.Meetings.ThinRows.{thin-neighbour}
 use Rattle.amd_factor.proofs.below.add_row.Goals as goal
 
 pub earlier-init : goal.earlier-init
@@ -21,19 +21,19 @@ earlier-init g c =
 
 pub offset_bounds-owner-i : goal.offset_bounds-owner-i
 offset_bounds-owner-i g c =
-    let e = (neighbour g.b.order c.args.j c.args.earlier.now c.earlier.i-index c.requires.1.1.1.1.1.1.0 c.earlier-test.true).0 in
+    let e = (thin-neighbour g.b.order c.args.j c.args.earlier.now c.earlier.i-index c.requires.1.1.1.1.1.1.0 c.earlier-test.true).0 in
     let j = c.requires.1.1.0 in let o = ap length c.requires.1.1.1.1.0 in omega (arith, e, j, o)
 
 pub bounds-owner-i : goal.bounds-owner-i
 bounds-owner-i g c =
-    let e = (neighbour g.b.order c.args.j c.args.earlier.now c.earlier.i-index c.requires.1.1.1.1.1.1.0 c.earlier-test.true).0 in
+    let e = (thin-neighbour g.b.order c.args.j c.args.earlier.now c.earlier.i-index c.requires.1.1.1.1.1.1.0 c.earlier-test.true).0 in
     let j = c.requires.1.1.0 in let o = ap length c.requires.1.1.1.1.0 in omega (arith, e, j, o)
 
 pub climb-requires : goal.climb-requires
 climb-requires g c κs within =
     let i = c.earlier.invariant.climbs in
     let rows = counts (map g.I.Index.value c.earlier.rows) in
-    let e = neighbour g.b.order c.args.j c.args.earlier.now c.earlier.i-index c.requires.1.1.1.1.1.1.0 c.earlier-test.true in
+    let e = thin-neighbour g.b.order c.args.j c.args.earlier.now c.earlier.i-index c.requires.1.1.1.1.1.1.0 c.earlier-test.true in
     let place = slice_index c.args.earlier.now c.earlier.i-index in (
       within,
       (

@@ -1,10 +1,11 @@
-use Rattle.std.proofs.Common.{ℕ, ℤ, pos, ◌≡◌, ◌∙◌, List, Option, map, ap, sym, subst}
+use Rattle.std.proofs.Common.{ℕ, ℤ, pos, ◌≡◌, ◌∙◌, List, Option, length, map, ap, sym, rules, subst}
+use Rattle.std.proofs.lemmas.List.{take_at}
 use Rattle.amd_model.specs.Input.Columns.{IsColumnForm}
 use Rattle.amd_model.specs.Input.Pattern.{graph_of}
 use Rattle.amd_types.specs.Counts.{counts}
-use Rattle.amd_factor.specs.Neighbours.{HasEarlier}
 use Rattle.amd_factor.specs.Orders.{Order, Permutes}
 use Rattle.amd_factor.specs.Partitions.{IsCut, IsPartitionOf, ordered_matrix}
+use Rattle.amd_factor.specs.Thinning.{HasThinned}
 use Rattle.amd_factor.proofs.Calls.ColumnParts.{laws, earlier_of}
 use Rattle.amd_factor.proofs.Partitions.SupernodeTree.{places}
 use Rattle.amd_factor.proofs.supernodal.form_partition.Goals as goal
@@ -12,7 +13,7 @@ use Rattle.amd_factor.proofs.supernodal.form_partition.Goals as goal
 -- a cut of an order, said of the matrix that the order is of
 partition_of : (n : ℕ) (ap' ai p : List ℤ) (o : Order) → o.graph ≡ graph_of n ap' ai → o.rows ≡ counts p →
     (first owner ptr : List ℕ) (parent : List (Option ℕ)) (starts earlier : List ℕ) → IsColumnForm (pos n) n ap' ai →
-    Permutes n p (counts p) → HasEarlier (record { graph = graph_of n ap' ai; rows = counts p }) starts earlier →
+    Permutes n p (counts p) → HasThinned o starts earlier →
     IsCut (record { order = o; first = first; owner = owner; ptr = ptr; parent = parent }) →
     IsPartitionOf (ordered_matrix (pos n) ap' ai p) first owner ptr parent starts earlier
 partition_of n ap' ai p o graph rows first owner ptr parent starts earlier form permutes near cut =
@@ -32,30 +33,35 @@ partition_of n ap' ai p o graph rows first owner ptr parent starts earlier form 
       form = λ _. form;
       size = ap pos (sym (places _ all.columns all.partition ∙ permutes.each.places));
       permutes = permutes;
-      near = near;
+      near = subst (λ g. HasThinned (record { graph = g; rows = counts p }) starts earlier) graph
+          (subst (λ r. HasThinned (record { graph = o.graph; rows = r }) starts earlier) rows near);
       cut = all;
     }
 
 pub ordered_lists-requires : goal.ordered_lists-requires
 ordered_lists-requires g c = record { form = c.requires.1.1.0 }
 
-pub written_sizes-requires : goal.written_sizes-requires
-written_sizes-requires g c κs within =
+pub thinned_sizes-requires : goal.thinned_sizes-requires
+thinned_sizes-requires g c κs within =
     let a_p : List ℤ = map g.I.Index.value c.args.a_p.now in
     let a_i : List ℤ = map g.I.Index.value c.args.a_i.now in
     let p : List ℤ = map g.I.Index.value c.args.p.now in (
       within,
       (
         laws c.args.size a_p a_i p g.o c.requires.1.1.1.0 c.requires.1.1.1.1,
-        earlier_of c.args.size a_p a_i p g.o c.requires.1.1.1.0 c.requires.1.1.1.1 c.deref.result.now c.deref-2.result.now
-            (rw (c.deref.ensures.value, c.deref-2.ensures.value) c.in_ok-lists.ensures.lists),
+        earlier_of c.args.size a_p a_i p g.o c.requires.1.1.1.0 c.requires.1.1.1.1 c.deref_mut.result.now c.deref_mut-2.result.now
+            (rw (c.deref_mut.ensures.value, c.deref_mut-2.ensures.value) c.in_ok-lists.ensures.lists),
       ),
     )
 
 pub cut_places-requires : goal.cut_places-requires
-cut_places-requires g c κs within = (within, rw (c.deref-3.ensures.value, c.deref-4.ensures.value) c.in_ok-sized.ensures)
+cut_places-requires g c κs within = (within, rw (c.deref.ensures.value, c.deref-2.ensures.value) c.in_ok-sized.ensures.sizes)
 
 pub returns-clause-partition : goal.returns-clause-partition
 returns-clause-partition g c = partition_of c.args.size (map g.I.Index.value c.args.a_p.now) (map g.I.Index.value c.args.a_i.now)
     (map g.I.Index.value c.args.p.now) g.o c.requires.1.1.1.0 c.requires.1.1.1.1 _ _ _ _ _ _ c.requires.1.1.0
-    c.in_ok-lists.ensures.permutes c.in_ok-lists.ensures.lists c.in_ok-cut.ensures
+    c.in_ok-lists.ensures.permutes (
+    let starts : length c.thinned_sizes.new.starts ≡ c.in_ok-lists.lists.starts.len = search rules in
+    let earlier : length c.thinned_sizes.new.earlier ≡ c.in_ok-lists.lists.neighbours.len = search rules in
+    rw (take_at c.thinned_sizes.new.starts _ _ starts, take_at c.thinned_sizes.new.earlier _ _ earlier) c.in_ok-sized.ensures.lists
+    ) c.in_ok-cut.ensures
