@@ -7,7 +7,6 @@ use Rattle.amd_model.specs.Below.{count_below}
 use Rattle.amd_model.specs.Graph.{Graph}
 use Rattle.amd_model.specs.Input.Columns.{IsColumnForm}
 use Rattle.amd_model.specs.Input.Pattern.{graph_of}
-use Rattle.amd_edges.proofs.Places.{funext}
 use Rattle.amd_report.specs.Passes.{AreClasses, AreMarkedClasses, AreNames, Connects, HaveOneName, joined_names}
 use Rattle.amd_report.specs.Shapes.{Connected, HasComponents}
 use Rattle.amd_report.specs.Shapes.Connected.{alone, joined, back, onward}
@@ -125,13 +124,6 @@ module _ (g : Graph) (ap' ai : List ℕ) where
           };
           marked = λ v w a b. ap (λ z. cond (eqb z (max (name i) (name j))) (min (name i) (name j)) z) (h.marked v w a b);
         }
-
--- to join two classes with one name changes no name
-pub joined-same : (name : ℕ → ℕ) (i j : ℕ) → name i ≡ name j → joined_names name i j ≡ name
-joined-same name i j same = funext _ _ (λ v. elim (cases_eq (name v) (max (name i) (name j))) [
-  | inl e ↦ (let least : min (name i) (name j) ≡ name v = omega (arith, e, same) in rw (eq-eqb (name v) (max (name i) (name j)) e) least)
-  | inr n ↦ rw (ne_eqb (name v) (max (name i) (name j)) n) refl
-])
 
 module _ (n : ℕ) (ap' ai : List ℕ) (form : IsColumnForm (pos n) n (map pos ap') (map pos ai)) where
   graph : Graph

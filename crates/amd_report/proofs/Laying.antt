@@ -4,22 +4,13 @@ use Rattle.std.proofs.Common.{subst, arith, List, length, set}
 use Rattle.std.specs.Prelude.{slice_index, ◌⊎◌, Option}
 use Rattle.std.proofs.lemmas.Bool.{cases_eq, eq-eqb, ne_eqb}
 use Rattle.std.proofs.lemmas.List.{length-set, get_or-set_same, get_or-set_other}
-use Rattle.amd_model.specs.Below.{sum_below}
 use Rattle.amd_model.proofs.Counting.Below.{sum_same}
 use Rattle.amd_report.specs.Layouts.{AddsUnder, AreApart, AreLaid, AreWidths, GoesToParents, GoesUp, IsLayout, own, under}
-
--- a sum with one term more
-sum-next : (f : ℕ → ℕ) (k : ℕ) → sum_below (k + 1) f ≡ f k + sum_below k f
-unfolding sum_below
-sum-next f k = ap (λ n. sum_below n f) (let e : k + 1 ≡ suc k = omega arith in e)
-
-sum-none : (f : ℕ → ℕ) → sum_below 0 f ≡ 0
-unfolding sum_below
-sum-none f = refl
+use Rattle.amd_report.proofs.Summing.{sum-next, sum-none}
 
 -- those that go up to q, with one more
 pub under-none : (up width : List ℕ) (q : ℕ) → under up width q 0 ≡ 0
-under-none up width q = sum-none (λ s. cond (slice_index up s == q) (slice_index width s) 0)
+under-none up width q = sym (sum-none (λ s. cond (slice_index up s == q) (slice_index width s) 0))
 
 pub under-same : (up width : List ℕ) (q k : ℕ) → slice_index up k ≡ q →
     under up width q (k + 1) ≡ slice_index width k + under up width q k

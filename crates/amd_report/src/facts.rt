@@ -1,19 +1,16 @@
 // What a matrix is: its figures, the degrees of its rows, the shape of its pattern, and how many duplicates its file
 // had.
 
-ghost use Rattle.std.specs.Prelude.{◌≡◌, ◌-◌, ℕ, List, pos, map, max, fold, count_by, nat_lt, length, IfOk, OnOk};
-ghost use Rattle.amd_model.specs.Input.Columns.{IsColumnForm, IsInput, IsJumbledInput, IsSorted, IsSortedInput};
+ghost use Rattle.std.specs.Prelude.{◌≡◌, ◌-◌, ℕ, List, pos, map, max, fold, count_by, nat_lt, length, IfOk};
+ghost use Rattle.amd_model.specs.Input.Columns.{IsInput, IsJumbledInput, IsSortedInput};
 ghost use Rattle.amd_types.specs.Statuses.{IsStatusOf};
-ghost use Rattle.amd_input.specs.Degrees.{AreDegrees};
-ghost use Rattle.amd_input.specs.PatternFigures.{HasPatternFigures};
 ghost use Rattle.amd_report.specs.Degrees.{IsFacts, mean_degree};
 
 use crate::bandwidths::{Bandwidths, widths_of};
 use crate::components::components;
 use crate::profile::profile_of;
-use crate::signs::{is_mostly_mirrored, signed_degrees};
+use crate::signs::sorted_degrees;
 use crate::symmetry::mirrored_entries;
-use amd_input::aat::aat;
 use amd_input::preprocess::preprocess;
 use amd_input::valid::valid;
 use amd_market::reader::Matrix;
@@ -77,26 +74,6 @@ fn count_above(numbers: &[usize], limit: usize) -> usize
     numbers.iter().filter(|number| **number > limit).count()
 }
 
-/// The sum of the degrees and the degree of each row of a sorted matrix; writes the figures of its pattern.
-fn degrees_of<A: Allocator + Copy>(
-    alloc: A,
-    n: usize,
-    a_p: &[usize],
-    a_i: &[usize],
-    info: &mut Info,
-) -> Result<(usize, Vec<usize, A>), Status>
-    requires form { IsColumnForm (pos n) n (map pos a_p.now) (map pos a_i.now) }
-    requires sorted { IsSorted n (map pos a_p.now) (map pos a_i.now) }
-    ensures degrees { IfOk result (λ a. AreDegrees n (map pos a_p.now) (map pos a_i.now) a.0 a.1.items) }
-    ensures figures { OnOk result (HasPatternFigures n (map pos a_p.now) (map pos a_i.now) info.new) }
-    ensures status { OnOk result (info.new.status ≡ info.old.status) }
-{
-    if is_mostly_mirrored(n, a_p, a_i) {
-        return aat(alloc, n, a_p, a_i, info);
-    }
-    signed_degrees(alloc, n, a_p, a_i, info)
-}
-
 /// What a matrix is whose columns are sorted, and whose file says this and had so many duplicates, which were dropped.
 fn facts_of_sorted<A: Allocator + Copy>(
     alloc: A,
@@ -115,7 +92,7 @@ fn facts_of_sorted<A: Allocator + Copy>(
     ensures source { IfOk result (λ f. f.source ≡ source) }
 {
     let mut info = Info::new(n);
-    let (sum, degrees) = degrees_of(alloc, n, a_p, a_i, &mut info)?;
+    let (sum, degrees) = sorted_degrees(alloc, n, a_p, a_i, &mut info)?;
     let mirrored = mirrored_entries(&info);
     let threshold = dense_threshold(n, control);
     let some = count_above(&degrees, 0);

@@ -1,7 +1,8 @@
-// The degrees of the rows of a matrix in which few entries have a mirror. The columns are met in turn. An entry below
-// the diagonal gives an edge, and so does one above it without a mirror, which would stand in an earlier column. A row
-// has the signs of the columns that it was met in, two of 64 for each: a column whose signs it lacks has no mirror, and
-// only another one is searched. Source: Bloom 1970; Amestoy, Davis and Duff 2004 (the forming of A + A').
+// The degrees of the rows of a sorted matrix: by `aat` where most entries have a mirror. Else the columns are met in
+// turn. An entry below the diagonal gives an edge, and so does one above it without a mirror, which would stand in an
+// earlier column. A row has the signs of the columns that it was met in, two of 64 for each: a column whose signs it
+// lacks has no mirror, and only another one is searched. Source: Bloom 1970; Amestoy, Davis and Duff 2004 (the forming
+// of A + A').
 
 ghost use Rattle.std.specs.Prelude.{◌≡◌, ◌<◌, ◌≤◌, ◌+◌, ◌^◌, ◌&&◌, nat_lt, map, pos, length, slice_index, slice_set};
 ghost use Rattle.std.specs.Prelude.{IfOk, OnOk, SomeIff};
@@ -13,6 +14,7 @@ ghost use Rattle.amd_input.specs.Degrees.{AreDegrees};
 ghost use Rattle.amd_input.specs.PatternFigures.{HasPatternFigures};
 ghost use Rattle.amd_report.specs.Signs.{HaveSigns, IsRisingForm, edge_met, signs_after, signs_of};
 
+use amd_input::aat::aat;
 use amd_types::amd::{Info, Status};
 use std::alloc::{AllocError, Allocator};
 
@@ -194,13 +196,12 @@ fn degrees_of<A: Allocator + Copy>(
     Ok(degrees)
 }
 
-/// The sum of the degrees and the degree of each row of a sorted matrix, as `aat` has them, and with its figures: this
-/// one is faster where few entries have a mirror.
+/// The sum of the degrees and the degree of each row of a sorted matrix; writes the figures of its pattern.
 ///
 /// # Errors
 ///
 /// `OutOfMemory` where an allocation was refused.
-pub(crate) fn signed_degrees<A: Allocator + Copy>(
+pub(crate) fn sorted_degrees<A: Allocator + Copy>(
     alloc: A,
     n: usize,
     a_p: &[usize],
@@ -213,6 +214,9 @@ pub(crate) fn signed_degrees<A: Allocator + Copy>(
     ensures figures { OnOk result (HasPatternFigures n (map pos a_p.now) (map pos a_i.now) info.new) }
     ensures status { OnOk result (info.new.status ≡ info.old.status) }
 {
+    if is_mostly_mirrored(n, a_p, a_i) {
+        return aat(alloc, n, a_p, a_i, info);
+    }
     let degrees = degrees_of(alloc, n, a_p, a_i)?;
     let Some(sum) = sum_of(&degrees) else {
         return Err(Status::OutOfMemory);
@@ -242,7 +246,7 @@ fn lacks_mirror(column: usize, n: usize, a_p: &[usize], a_i: &[usize]) -> bool
 }
 
 /// Whether most of the entries have a mirror, judged by one of each of a thousand columns.
-pub(crate) fn is_mostly_mirrored(n: usize, a_p: &[usize], a_i: &[usize]) -> bool
+fn is_mostly_mirrored(n: usize, a_p: &[usize], a_i: &[usize]) -> bool
     requires form { IsColumnForm (pos n) n (map pos a_p.now) (map pos a_i.now) }
     requires sorted { IsSorted n (map pos a_p.now) (map pos a_i.now) }
 {

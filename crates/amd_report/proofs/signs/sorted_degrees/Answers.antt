@@ -5,7 +5,7 @@ use Rattle.amd_model.specs.Below.{sum_below}
 use Rattle.amd_edges.specs.Visits.{AreCounts}
 use Rattle.amd_input.proofs.PatternLemmas.{degrees_are, diagonal_within, figures_are}
 use Rattle.amd_report.proofs.Passing.{counts-back, diagonal-same, form-rising, graph-same}
-use Rattle.amd_report.proofs.signs.signed_degrees.Goals as goal
+use Rattle.amd_report.proofs.signs.sorted_degrees.Goals as goal
 
 pub degrees_of-requires : goal.degrees_of-requires
 degrees_of-requires g c = form-rising c.args.n c.args.a_p.now c.args.a_i.now c.requires.form c.requires.sorted
