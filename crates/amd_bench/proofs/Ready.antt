@@ -1,5 +1,4 @@
--- A matrix whose columns are sorted is ready for an engine once its degrees are counted: what `amd_1` asks for, of the matrix, of these
--- degrees under another name, and of the words of its workspace.
+-- A matrix whose columns are sorted is ready for an engine once its degrees are counted, and the words of its workspace.
 use Rattle.std.proofs.Common.{ℕ, ℤ, Bool, List, map, zero, suc, pos, negsuc, ◌≡◌, ◌≢◌, ◌+◌, ◌/◌, ◌<◌, ◌≤◌, length, ap, subst, sym, arith}
 use Rattle.std.specs.Prelude.{unsigned_abs}
 use Rattle.amd_model.specs.Input.Columns.{IsColumnForm, IsSorted, IsInput, IsSortedInput}
@@ -7,10 +6,11 @@ use Rattle.amd_model.specs.Input.Pattern.{graph_of}
 use Rattle.amd_edges.specs.Visits.{AreCounts, start_of}
 use Rattle.amd_input.specs.Degrees.{AreDegrees}
 use Rattle.amd.proofs.CountedDegrees.{counts_of, sums_are}
+use Rattle.amd_bench.specs.Ready.{IsReady}
 use Rattle.amd_input.proofs.PatternLemmas.{input_form, input_sorted}
 
 -- there is a degree for each row
-pub size_of : (z : ℤ) (a_p a_i : List ℤ) (numbers : List ℕ) → IsInput z z a_p a_i → length numbers ≡ unsigned_abs z →
+size_of : (z : ℤ) (a_p a_i : List ℤ) (numbers : List ℕ) → IsInput z z a_p a_i → length numbers ≡ unsigned_abs z →
     z ≡ pos (length numbers)
 size_of (pos n) a_p a_i numbers form size = ap pos (sym size)
 size_of (negsuc n) a_p a_i numbers form size = absurd form
@@ -24,18 +24,10 @@ room_of : (n : ℕ) (a_p a_i : List ℤ) (total words : ℕ) (numbers : List ℕ
     words ≡ total + total / 5 + n → start_of (graph_of n a_p a_i) n + n ≤ words
 room_of n a_p a_i total words numbers degrees is = (let sums = sums_are n a_p a_i total numbers degrees in omega (arith, sums, is))
 
--- what an engine asks for
-pub record IsReady (z : ℤ) (a_p a_i : List ℤ) (words : ℕ) (numbers : List ℕ) : Type 0 where
-  pub size : z ≡ pos (length numbers)
-  pub some : 0 < length numbers
-  pub form : IsColumnForm (pos (length numbers)) (length numbers) a_p a_i
-  pub sorted : IsSorted (length numbers) a_p a_i
-  pub degrees : AreCounts (graph_of (length numbers) a_p a_i) ((graph_of (length numbers) a_p a_i).edge) numbers
-  pub room : start_of (graph_of (length numbers) a_p a_i) (length numbers) + length numbers ≤ words
-
-ready_itself : (z : ℤ) (a_p a_i : List ℤ) (total words : ℕ) (numbers : List ℕ) → IsInput z z a_p a_i → IsSortedInput z a_p a_i → z ≢ pos 0 →
+-- and so the matrix is ready
+pub ready : (z : ℤ) (a_p a_i : List ℤ) (total words : ℕ) (numbers : List ℕ) → IsInput z z a_p a_i → IsSortedInput z a_p a_i → z ≢ pos 0 →
     AreDegrees (unsigned_abs z) a_p a_i total numbers → words ≡ total + total / 5 + unsigned_abs z → IsReady z a_p a_i words numbers
-ready_itself z a_p a_i total words numbers form sorted some degrees is =
+ready z a_p a_i total words numbers form sorted some degrees is =
     let n : ℕ = unsigned_abs z in
     let long : length numbers ≡ n = degrees.size in
     let size = size_of z a_p a_i numbers form long in
@@ -48,10 +40,3 @@ ready_itself z a_p a_i total words numbers form sorted some degrees is =
           (counts_of n a_p a_i total numbers degrees);
       room = subst (λ m. start_of (graph_of m a_p a_i) m + m ≤ words) (sym long) (room_of n a_p a_i total words numbers degrees is);
     }
-
-pub ready : (z : ℤ) (a_p a_i : List ℤ) (total words count : ℕ) (numbers lent : List ℕ) → IsInput z z a_p a_i → IsSortedInput z a_p a_i →
-    z ≢ pos 0 → AreDegrees (unsigned_abs z) a_p a_i total numbers → words ≡ total + total / 5 + count → count ≡ unsigned_abs z →
-    lent ≡ numbers → IsReady z a_p a_i words lent
-ready z a_p a_i total words count numbers lent form sorted some degrees is counted same =
-    subst (IsReady z a_p a_i words) (sym same)
-    (ready_itself z a_p a_i total words numbers form sorted some degrees (subst (λ m. words ≡ total + total / 5 + m) counted is))

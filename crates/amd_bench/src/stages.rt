@@ -2,16 +2,15 @@
 // the columns are jumbled, `aat`, the laying of the workspace (`lay`), the other lists of the elimination (`lists`),
 // its rounds (`rounds`), and the listing of what they left (`listing`). Words are as wide as those of `order`.
 
-ghost use Rattle.std.specs.Prelude.{◌≡◌, ◌≢◌, ◌<◌, ◌≤◌, ◌+◌, ◌/◌, ◌^◌, ℕ, List, pos, map, length};
+ghost use Rattle.std.specs.Prelude.{◌≡◌, ◌≢◌, ◌<◌, ◌≤◌, ◌+◌, ◌/◌, ◌^◌, ℕ, IfOk, List, pos, map, length};
 ghost use Rattle.std.specs.Option.{SomeIff};
 ghost use Rattle.amd_model.specs.Graph.{Graph};
-ghost use Rattle.amd_model.specs.Input.Columns.{IsColumnForm, IsInput, IsSorted, IsSortedInput};
-ghost use Rattle.amd_model.specs.Input.Pattern.{graph_of};
-ghost use Rattle.amd_edges.specs.Visits.{AreCounts, start_of};
+ghost use Rattle.amd_model.specs.Input.Columns.{IsInput, IsSortedInput};
 ghost use Rattle.amd_rounds.specs.Laid.{AreWideEnough};
 ghost use Rattle.amd_workspace.specs.Laying.{IsLaidOut};
 ghost use Rattle.amd_workspace.specs.Lists.{HasRoom};
 ghost use Rattle.amd_engine.specs.InPlace.{AreOver, LaysGraph};
+ghost use Rattle.amd_bench.specs.Ready.{IsReady};
 
 use amd::aat::aat;
 use amd::preprocess::preprocess;
@@ -123,8 +122,8 @@ fn list_order<I: Index, S: Signed, P: Signed, U: Unsigned>(
     finish(told, head, w, p, p_inv, &mut Info::new(0));
 }
 
-/// Eliminates in the lists of `size` rows that are laid in the memory, in a workspace that grows up to `room` words, and
-/// lists the rows.
+/// Eliminates in the lists of `size` rows that are laid in the memory, and lists the rows. The workspace grows up to
+/// `room` words.
 fn time_rounds<R: time::Clock + Alloc<A = Global>, I: Index, S: Signed, P: Signed, U: Unsigned>(
     rt: &R,
     clock: &mut Clock,
@@ -195,15 +194,7 @@ fn time_elimination<
     room: usize,
 ) -> Result<Vec<I>>
     requires fits { I.fits (I.value n) }
-    requires size { I.value n ≡ pos (length degrees.now) }
-    requires some { 0 < length degrees.now }
-    requires form { IsColumnForm (pos (length degrees.now)) (length degrees.now) (map I.value a_p.now)
-        (map I.value a_i.now) }
-    requires sorted { IsSorted (length degrees.now) (map I.value a_p.now) (map I.value a_i.now) }
-    requires degrees { AreCounts (graph_of (length degrees.now) (map I.value a_p.now) (map I.value a_i.now))
-        ((graph_of (length degrees.now) (map I.value a_p.now) (map I.value a_i.now)).edge) degrees.now }
-    requires room { start_of (graph_of (length degrees.now) (map I.value a_p.now) (map I.value a_i.now))
-        (length degrees.now) + length degrees.now ≤ room }
+    requires ready { IsReady (I.value n) (map I.value a_p.now) (map I.value a_i.now) room degrees.now }
     requires narrow { AreWideEnough S.MOST P.MOST U.MOST (length degrees.now) room }
 {
     let size = degrees.len();
@@ -216,27 +207,48 @@ fn time_elimination<
     time_rounds(rt, clock, n, size, &mut memory, free, room)
 }
 
-/// Eliminates and lists as `time_elimination`, in words as wide as `order` takes them.
-fn time_widths<R: time::Clock + Alloc<A = Global>, I: PrimInt>(
+/// The degrees of the rows of a matrix whose columns are sorted, and how many words the workspace may have.
+fn measured<R: time::Clock + Alloc<A = Global>, I: PrimInt>(
     rt: &R,
     clock: &mut Clock,
     n: I,
     a_p: &[I],
     a_i: &[I],
-    degrees: &[usize],
-    room: usize,
+) -> Result<(Vec<usize>, usize)>
+    requires fits { I.fits (I.value n) }
+    requires some { I.value n ≢ pos 0 }
+    requires form { IsInput (I.value n) (I.value n) (map I.value a_p.now) (map I.value a_i.now) }
+    requires sorted { IsSortedInput (I.value n) (map I.value a_p.now) (map I.value a_i.now) }
+    ensures ready { IfOk result (λ a. IsReady (I.value n) (map I.value a_p.now) (map I.value a_i.now) a.1 a.0.items) }
+    ensures room { IfOk result (λ a. a.1 < 2 ^ 63) }
+{
+    let count = known_count(n);
+    let mut info = Info::new(count);
+    let Ok((nzaat, degrees)) = aat(rt.alloc(), n, a_p, a_i, &mut info) else {
+        bail!("out of memory");
+    };
+    clock.end(rt, "aat");
+    let Some(room) = workspace_words(nzaat, count) else {
+        bail!("out of memory");
+    };
+    Ok((degrees, room))
+}
+
+/// Orders a matrix whose columns are sorted, in words as wide as `order` takes them.
+fn time_sorted<R: time::Clock + Alloc<A = Global>, I: PrimInt>(
+    rt: &R,
+    clock: &mut Clock,
+    n: I,
+    a_p: &[I],
+    a_i: &[I],
 ) -> Result<Vec<I>>
     requires fits { I.fits (I.value n) }
-    requires size { I.value n ≡ pos (length degrees.now) }
-    requires some { 0 < length degrees.now }
-    requires form { IsColumnForm (pos (length degrees.now)) (length degrees.now) (map I.value a_p.now)
-        (map I.value a_i.now) }
-    requires sorted { IsSorted (length degrees.now) (map I.value a_p.now) (map I.value a_i.now) }
-    requires degrees { AreCounts (graph_of (length degrees.now) (map I.value a_p.now) (map I.value a_i.now))
-        ((graph_of (length degrees.now) (map I.value a_p.now) (map I.value a_i.now)).edge) degrees.now }
-    requires room { (start_of (graph_of (length degrees.now) (map I.value a_p.now) (map I.value a_i.now))
-        (length degrees.now) + length degrees.now ≤ room) × (room < 2 ^ 63) }
+    requires some { I.value n ≢ pos 0 }
+    requires form { IsInput (I.value n) (I.value n) (map I.value a_p.now) (map I.value a_i.now) }
+    requires sorted { IsSortedInput (I.value n) (map I.value a_p.now) (map I.value a_i.now) }
 {
+    let (counted, room) = measured(rt, clock, n, a_p, a_i)?;
+    let degrees = counted.as_slice();
     let size = degrees.len();
     if holds::<i32, i32, u32>(size, room, 2) {
         return time_elimination::<R, I, i32, i32, u32>(rt, clock, n, a_p, a_i, degrees, room);
@@ -251,31 +263,6 @@ fn time_widths<R: time::Clock + Alloc<A = Global>, I: PrimInt>(
         return time_elimination::<R, I, isize, isize, usize>(rt, clock, n, a_p, a_i, degrees, room);
     }
     bail!("out of memory")
-}
-
-/// Orders a matrix whose columns are sorted.
-fn time_sorted<R: time::Clock + Alloc<A = Global>, I: PrimInt>(
-    rt: &R,
-    clock: &mut Clock,
-    n: I,
-    a_p: &[I],
-    a_i: &[I],
-) -> Result<Vec<I>>
-    requires fits { I.fits (I.value n) }
-    requires some { I.value n ≢ pos 0 }
-    requires form { IsInput (I.value n) (I.value n) (map I.value a_p.now) (map I.value a_i.now) }
-    requires sorted { IsSortedInput (I.value n) (map I.value a_p.now) (map I.value a_i.now) }
-{
-    let count = known_count(n);
-    let mut info = Info::new(count);
-    let Ok((nzaat, degrees)) = aat(rt.alloc(), n, a_p, a_i, &mut info) else {
-        bail!("out of memory");
-    };
-    clock.end(rt, "aat");
-    let Some(room) = workspace_words(nzaat, count) else {
-        bail!("out of memory");
-    };
-    time_widths(rt, clock, n, a_p, a_i, &degrees, room)
 }
 
 /// Orders a matrix by the default control.

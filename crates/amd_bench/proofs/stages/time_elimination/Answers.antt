@@ -8,20 +8,20 @@ use Rattle.amd_bench.proofs.stages.time_elimination.Goals as goal
 
 pub count_at-requires-clause-fits : goal.count_at-requires-clause-fits
 count_at-requires-clause-fits g c = (pointer_read g.I.Index.value c.args.a_p.now c.args.a_i.now (length c.args.degrees.now)
-    c.requires.form (length c.args.degrees.now) (omega arith) (omega (arith, c.well_formed))).1
+    c.requires.ready.form (length c.args.degrees.now) (omega arith) (omega (arith, c.well_formed))).1
 
 pub memory_for-requires : goal.memory_for-requires
 memory_for-requires g c = let n : ℕ = length c.args.degrees.now in let wide = c.requires.narrow.3 in record {
   fits = degrees_fit n (map g.I.Index.value c.args.a_p.now) (map g.I.Index.value c.args.a_i.now) c.args.degrees.now g.U.Unsigned.MOST
-      c.requires.degrees (omega (arith, wide));
+      c.requires.ready.degrees (omega (arith, wide));
 }
 
 pub lay-free-requires-clause-degrees : goal.lay-free-requires-clause-degrees
-lay-free-requires-clause-degrees g c = rw c.in_ok-memory.ensures.degrees c.requires.degrees
+lay-free-requires-clause-degrees g c = rw c.in_ok-memory.ensures.degrees c.requires.ready.degrees
 
 pub time_rounds-requires-clause-size : goal.time_rounds-requires-clause-size
 time_rounds-requires-clause-size g c =
-    (c.requires.size, ap length (c.lay-free.ensures.degrees ∙ c.in_ok-memory.ensures.degrees))
+    (c.requires.ready.size, ap length (c.lay-free.ensures.degrees ∙ c.in_ok-memory.ensures.degrees))
 
 pub time_rounds-requires-clause-graph : goal.time_rounds-requires-clause-graph
 time_rounds-requires-clause-graph g c =
@@ -30,7 +30,7 @@ time_rounds-requires-clause-graph g c =
     let n : ℕ = length c.args.degrees.now in let e = c.lay-free.ensures in (
       graph_of n a_p a_i,
       starting_list n (is_pair n a_p a_i),
-      lays_pattern n a_p a_i c.args.degrees.now _ _ _ c.requires.degrees (e.degrees ∙ c.in_ok-memory.ensures.degrees) e.lists,
+      lays_pattern n a_p a_i c.args.degrees.now _ _ _ c.requires.ready.degrees (e.degrees ∙ c.in_ok-memory.ensures.degrees) e.lists,
     )
 
 pub time_rounds-requires-clause-room : goal.time_rounds-requires-clause-room

@@ -1,0 +1,2 @@
+-- What a matrix has once it is ready for an elimination.
+pub mod Ready
