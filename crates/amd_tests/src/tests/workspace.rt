@@ -1,5 +1,5 @@
-// Orderings in a workspace that was made once. Each answer is that of `order` and `order_holding`, whatever the workspace
-// ordered before; what is no input or does not fit is refused, and changes nothing; and behind the making of the
+// Orderings in a workspace that was made once. Each answer is that of `order` and `order_holding`, whatever the
+// workspace ordered before. What is no input or does not fit is refused, and changes nothing. Behind the making of the
 // workspace no call asks for memory, seen by an allocator that counts. The refusals are those of the definitions.
 
 use crate::checks::check_chosen;
@@ -32,7 +32,7 @@ fn is_same_record(one: &Info, other: &Info) -> bool {
     left == right && one.symmetry == other.symmetry && one.status == other.status
 }
 
-/// Asserts that a workspace gives the answer of `order` for a matrix.
+/// Asserts that a workspace gives the answer of `order` for a matrix, or with marks that of `order_holding`.
 fn check_order<A: Allocator + Copy>(
     rt: &impl Abort,
     alloc: Global,
@@ -40,25 +40,29 @@ fn check_order<A: Allocator + Copy>(
     control: &Control,
     a_p: &[i64],
     a_i: &[i64],
+    hold: Option<&[bool]>,
 ) -> Result<(), AllocError> {
     let size = a_p.len().saturating_sub(1);
     let n = i64::try_from(size).unwrap_or(0);
     let mut r = vec![in alloc; UNTOUCHED; size]?;
     let mut r_inv = vec![in alloc; UNTOUCHED; size]?;
-    let Ok((p, p_inv, info)) = order(alloc, n, a_p, a_i, control) else {
+    let answer = match hold {
+        Some(hold) => order_holding(alloc, n, a_p, a_i, control, hold),
+        None => order(alloc, n, a_p, a_i, control),
+    };
+    let Ok((p, p_inv, info)) = answer else {
         panic!(rt; "no answer");
     };
-    let Ok(other) = workspace.order(n, a_p, a_i, control, &mut r, &mut r_inv) else {
+    let again = match hold {
+        Some(hold) => workspace.order_holding(n, a_p, a_i, control, hold, &mut r, &mut r_inv),
+        None => workspace.order(n, a_p, a_i, control, &mut r, &mut r_inv),
+    };
+    let Ok(other) = again else {
         panic!(rt; "no answer in a workspace");
     };
     let is_ordered = r.as_slice() == p.as_slice() && r_inv.as_slice() == p_inv.as_slice();
-    check_chosen(
-        rt,
-        is_ordered && is_same_record(&other, &info),
-        control,
-        a_p,
-        a_i,
-    );
+    let is_same = is_ordered && is_same_record(&other, &info);
+    check_chosen(rt, is_same, control, a_p, a_i);
     Ok(())
 }
 
@@ -72,39 +76,7 @@ fn drawn_marks(alloc: Global, seed: u64, size: usize) -> Result<Vec<bool>, Alloc
     Ok(marks)
 }
 
-/// Asserts that a workspace gives the answer of `order_holding` for a matrix with drawn rows held.
-fn check_holding<A: Allocator + Copy>(
-    rt: &impl Abort,
-    alloc: Global,
-    workspace: &mut Workspace<A>,
-    seed: u64,
-    control: &Control,
-    a_p: &[i64],
-    a_i: &[i64],
-) -> Result<(), AllocError> {
-    let size = a_p.len().saturating_sub(1);
-    let n = i64::try_from(size).unwrap_or(0);
-    let hold = drawn_marks(alloc, seed, size)?;
-    let mut r = vec![in alloc; UNTOUCHED; size]?;
-    let mut r_inv = vec![in alloc; UNTOUCHED; size]?;
-    let Ok((p, p_inv, info)) = order_holding(alloc, n, a_p, a_i, control, &hold) else {
-        panic!(rt; "no answer");
-    };
-    let Ok(other) = workspace.order_holding(n, a_p, a_i, control, &hold, &mut r, &mut r_inv) else {
-        panic!(rt; "no answer in a workspace");
-    };
-    let is_ordered = r.as_slice() == p.as_slice() && r_inv.as_slice() == p_inv.as_slice();
-    check_chosen(
-        rt,
-        is_ordered && is_same_record(&other, &info),
-        control,
-        a_p,
-        a_i,
-    );
-    Ok(())
-}
-
-/// Orders a drawn matrix of a family in the workspace, with one of the choices.
+/// Orders a drawn matrix of a family in the workspace, with one of the choices, and again with drawn rows held.
 fn check_seed<A: Allocator + Copy>(
     rt: &impl Abort,
     alloc: Global,
@@ -117,8 +89,9 @@ fn check_seed<A: Allocator + Copy>(
     let Some(control) = CHOICES.get(usize::try_from(seed % 6).unwrap_or(0)) else {
         panic!(rt; "six choices");
     };
-    check_order(rt, alloc, workspace, control, &a_p, &a_i)?;
-    check_holding(rt, alloc, workspace, number, control, &a_p, &a_i)
+    let hold = drawn_marks(alloc, number, a_p.len().saturating_sub(1))?;
+    check_order(rt, alloc, workspace, control, &a_p, &a_i, None)?;
+    check_order(rt, alloc, workspace, control, &a_p, &a_i, Some(&hold))
 }
 
 /// Sizes from 1 to 40 rows follow each other, jumbled and sorted ones, in one workspace that asks for no memory.
@@ -152,7 +125,7 @@ fn families_in_workspaces_that_they_fit(rt: HostRuntime) -> Result<(), Fail> {
             let (_, a_p, a_i) = member(alloc, family, size)?;
             let mut workspace = Workspace::new(alloc, a_p.len().saturating_sub(1), a_i.len())?;
             for control in &CHOICES {
-                check_order(&rt, alloc, &mut workspace, control, &a_p, &a_i)?;
+                check_order(&rt, alloc, &mut workspace, control, &a_p, &a_i, None)?;
             }
         }
     }
@@ -183,7 +156,7 @@ fn refusal_of(
     };
     check!(rt; p.iter().all(|&row| row == UNTOUCHED));
     check!(rt; p_inv.iter().all(|&row| row == UNTOUCHED));
-    check_order(rt, alloc, &mut workspace, &control, &[0, 1, 1], &[1])?;
+    check_order(rt, alloc, &mut workspace, &control, &[0, 1, 1], &[1], None)?;
     Ok(Some(refusal))
 }
 
@@ -241,7 +214,17 @@ fn makes(rt: &impl Abort, alloc: Global, heap: &Refusing<Global>) -> bool {
     let Ok(mut workspace) = Workspace::new(heap, 4, 4) else {
         return false;
     };
-    check!(rt; check_order(rt, alloc, &mut workspace, &Control::default(), &CYCLE_P, &CYCLE_I).is_ok());
+    let control = Control::default();
+    let checked = check_order(
+        rt,
+        alloc,
+        &mut workspace,
+        &control,
+        &CYCLE_P,
+        &CYCLE_I,
+        None,
+    );
+    check!(rt; checked.is_ok());
     true
 }
 
@@ -265,8 +248,8 @@ fn a_workspace_of_too_many_words(rt: HostRuntime) {
     check!(&rt; heap.requests() == 0);
 }
 
-/// The bytes in a block: for 5 rows and 14 entries four for each of 3 * 16 + 12 * 8 + 4 words, and for 2^30 entries eight
-/// for each of 3 * 2^30 + 4; none where they are no number of 64 bits.
+/// The bytes in a block. For 5 rows and 14 entries: four for each of 3 * 16 + 12 * 8 + 4 words. For 2^30 entries: eight
+/// for each of 3 * 2^30 + 4. None where they are no number of 64 bits.
 #[test]
 fn bytes_of_a_block(rt: HostRuntime) {
     check!(&rt; workspace_bytes(5, 14) == Some(592));
