@@ -1,7 +1,6 @@
 -- What an ordering in a lent block leaves, and the same in the integers of C, whose values are themselves.
-use Rattle.std.proofs.Common.{ℕ, ℤ, List, pos, ◌≡◌, ◌≢◌, Bool, refl, ◌∙◌, subst, to_z, of_z, w32}
+use Rattle.std.proofs.Common.{ℕ, ℤ, List, pos, ◌≡◌, ◌≢◌, Bool, refl, to_z, of_z, w32}
 use Rattle.std.specs.Prelude.{Option}
-use Rattle.std.proofs.lemmas.List.{map-id}
 use Rattle.amd_types.specs.declared.amd.Info.{Info}
 use Rattle.amd_types.specs.declared.amd.Status.{Status}
 use Rattle.amd_types.specs.declared.amd.Status.TheVariants.{OK, Invalid, OkButJumbled, OutOfMemory}
@@ -11,7 +10,7 @@ use Rattle.amd.specs.Within.{IsCall, IsIntoRefusal}
 use Rattle.amd_calls.specs.declared.records.Parameters.{Parameters}
 use Rattle.amd_calls.specs.declared.records.Statistics.{Statistics}
 use Rattle.amd_calls.specs.Calls.{HasPlaces, Leaves, Memory, OrdersWithin, Refuses, TellsBlock, memory}
-use Rattle.amd_calls.proofs.Leaving.{answer_is, leaves_values, not_without_memory, values}
+use Rattle.amd_calls.proofs.Leaving.{answer_is, leaves_values, matrix_of_values, not_without_memory, values}
 
 -- places for n rows make a call, where its input is one
 called : (hold : Option (List Bool)) (n : ℤ) (ap' ai p q : List ℤ) → HasPlaces n p q → (n ≢ pos 0 → IsInputHolding hold n ap' ai) →
@@ -64,9 +63,9 @@ pub orders_within : (hold : Option (List Bool)) (m n : ℤ) (choice : Parameters
     (memory (values r) (values s) after) number →
     OrdersWithin hold n choice a_p a_i size (memory p q before) (memory r s after) (to_z w32 (of_z w32 number))
 orders_within hold m n choice a_p a_i size p q r s before after number same o =
-    let one = subst (λ x. TellsBlock x (values a_p) size o.status) same o.block in record {
+    record {
       status = o.status;
       answer = answer_is o.status number o.answer;
       left = leaves_values hold m n choice a_p a_i p q r s before after o.status same o.left;
-      block = subst (λ x. TellsBlock n x size o.status) (map-id a_p) one;
+      block = matrix_of_values (λ k xs ys. TellsBlock k xs size o.status) m n a_p a_i same o.block;
     }

@@ -1,6 +1,7 @@
 -- What an ordering leaves in a caller's arrays, and the same for the integers of C, whose values are themselves.
-use Rattle.std.proofs.Common.{ℤ, List, zero, suc, pos, negsuc, ◌≡◌, map, Bool, refl, sym, ◌∙◌, ap, subst, to_z, of_z, w32}
+use Rattle.std.proofs.Common.{ℤ, List, zero, suc, pos, negsuc, ◌≡◌, map, Bool, refl, sym, ◌∙◌, ap, subst, to_z, of_z, SFits, w32}
 use Rattle.std.specs.Prelude.{Option}
+use Rattle.std.proofs.lemmas.Int.{to_z-of_z}
 use Rattle.std.proofs.lemmas.List.{map-id}
 use Rattle.amd_types.specs.Statuses.{IsStatusOf}
 use Rattle.amd_types.specs.declared.amd.Info.{Info}
@@ -43,11 +44,14 @@ leaves_by hold n choice a_p a_i old new info Invalid e o told =
 leaves_by hold n choice a_p a_i old new info OutOfMemory e o told =
     absurd (not_without_memory hold n choice.dense choice.aggressive a_p a_i new.p new.q info o e)
 
--- an ordering that was written is what its status says
-pub leaves_ordering : (hold : Option (List Bool)) (n : ℤ) (choice : Parameters) (a_p a_i : List ℤ) (old new : Memory) (info : Info) →
-    IsOrderingHolding hold n choice.dense choice.aggressive a_p a_i new.p new.q info →
+-- an ordering that was written is what its status says; the number of its choice comes back from 32 bits
+pub leaves_chosen : (hold : Option (List Bool)) (n : ℤ) (choice : Parameters) (a_p a_i : List ℤ) (old new : Memory) (info : Info) →
+    SFits w32 choice.dense →
+    IsOrderingHolding hold n (to_z w32 (of_z w32 choice.dense)) choice.aggressive a_p a_i new.p new.q info →
     new.statistics ≡ statistics_of info → Leaves hold n choice a_p a_i old new info.status
-leaves_ordering hold n choice a_p a_i old new info o told = leaves_by hold n choice a_p a_i old new info info.status refl o told
+leaves_chosen hold n choice a_p a_i old new info fits o told =
+    leaves_by hold n choice a_p a_i old new info info.status refl
+    (subst (λ t. IsOrderingHolding hold n t choice.aggressive a_p a_i new.p new.q info) (to_z-of_z w32 choice.dense fits) o) told
 
 -- the number of a status has 32 bits
 number_comes_back : (status : Status) → to_z w32 (of_z w32 (number_of status)) ≡ number_of status
@@ -63,6 +67,25 @@ answer_is status number is = ap (λ x. to_z w32 (of_z w32 x)) is ∙ number_come
 abbrev pub values : List ℤ → List ℤ
 values = map (λ x. x)
 
+-- what holds of the values of a matrix holds of its integers
+pub matrix_of_values : (H : ℤ → List ℤ → List ℤ → Type 0) (m n : ℤ) (a_p a_i : List ℤ) → m ≡ n →
+    H m (values a_p) (values a_i) → H n a_p a_i
+matrix_of_values H m n a_p a_i same h =
+    subst (λ x. H n a_p x) (map-id a_i)
+    (subst (λ x. H n x (values a_i)) (map-id a_p)
+    (subst (λ x. H x (values a_p) (values a_i)) same h))
+
+-- and so with an order
+pub order_of_values : (H : ℤ → List ℤ → List ℤ → List ℤ → Type 0) (m n : ℤ) (a_p a_i p : List ℤ) → m ≡ n →
+    H m (values a_p) (values a_i) (values p) → H n a_p a_i p
+order_of_values H m n a_p a_i p same h =
+    subst (H n a_p a_i) (map-id p) (matrix_of_values (λ k xs ys. H k xs ys (values p)) m n a_p a_i same h)
+
+-- and what holds of the memory before and after a call holds of the same under other names
+pub memory_renamed : {M : Type 0} (H : M → M → Type 0) {old new before after : M} → old ≡ before → new ≡ after → H old new →
+    H before after
+memory_renamed H {old} {new} {before} {after} was is h = subst (H before) is (subst (λ x. H x new) was h)
+
 memory_of_values : (p q : List ℤ) (statistics : Statistics) → memory (values p) (values q) statistics ≡ memory p q statistics
 memory_of_values p q statistics =
     ap (λ x. memory x (values q) statistics) (map-id p) ∙ ap (λ x. memory p x statistics) (map-id q)
@@ -75,11 +98,8 @@ pub leaves_values : (hold : Option (List Bool)) (m n : ℤ) (choice : Parameters
 leaves_values hold m n choice a_p a_i p q r s before after status same left =
     let old : Memory = memory (values p) (values q) before in
     let new : Memory = memory (values r) (values s) after in
-    let one = subst (λ x. Leaves hold x choice (values a_p) (values a_i) old new status) same left in
-    let two = subst (λ x. Leaves hold n choice x (values a_i) old new status) (map-id a_p) one in
-    let three = subst (λ x. Leaves hold n choice a_p x old new status) (map-id a_i) two in
-    let four = subst (λ x. Leaves hold n choice a_p a_i x new status) (memory_of_values p q before) three in
-    subst (λ x. Leaves hold n choice a_p a_i (memory p q before) x status) (memory_of_values r s after) four
+    memory_renamed (λ x y. Leaves hold n choice a_p a_i x y status) (memory_of_values p q before) (memory_of_values r s after)
+    (matrix_of_values (λ k xs ys. Leaves hold k choice xs ys old new status) m n a_p a_i same left)
 
 pub orders_into : (hold : Option (List Bool)) (m n : ℤ) (choice : Parameters) (a_p a_i p q r s : List ℤ) (before after : Statistics)
     (number : ℤ) → m ≡ n →
@@ -97,8 +117,8 @@ pub classifies_input : (k l m n : ℤ) (a_p a_i : List ℤ) (status : Status) (n
     IsStatusOf k l (values a_p) (values a_i) status → number ≡ number_of status →
     ClassifiesInput m n a_p a_i (to_z w32 (of_z w32 number))
 classifies_input k l m n a_p a_i status number rows columns is number_is =
-    let one = subst (λ x. IsStatusOf x l (values a_p) (values a_i) status) rows is in
-    let two = subst (λ x. IsStatusOf m x (values a_p) (values a_i) status) columns one in
-    let three = subst (λ x. IsStatusOf m n x (values a_i) status) (map-id a_p) two in
-    let four = subst (λ x. IsStatusOf m n a_p x status) (map-id a_i) three in
-    record { status = status; answer = answer_is status number number_is; is_status = four }
+    let one = subst (λ x. IsStatusOf x l (values a_p) (values a_i) status) rows is in record {
+      status = status;
+      answer = answer_is status number number_is;
+      is_status = matrix_of_values (λ x xs ys. IsStatusOf m x xs ys status) l n a_p a_i columns one;
+    }

@@ -1,10 +1,10 @@
 -- What the calls for a factor leave in a block where a matrix has no rows, and the same in the integers of C, whose values
 -- are themselves.
-use Rattle.std.proofs.Common.{ℕ, ℤ, pos, ◌≡◌, ◌≢◌, ◌<◌, ◌⊎◌, inl, inr, List, [], ◌∷◌, length, map, refl, sym, ◌∙◌, ap, subst, arith}
+use Rattle.std.proofs.Common.{ℕ, ℤ, pos, ◌≡◌, ◌≢◌, ◌<◌, ◌⊎◌, inl, inr, List, [], ◌∷◌, length, map, refl, sym, subst, arith}
 use Rattle.std.proofs.Common.{to_z, of_z, w32}
 use Rattle.std.specs.Prelude.{Option, Result, min}
 use Rattle.std.proofs.lemmas.Int.{ints}
-use Rattle.std.proofs.lemmas.List.{map-id}
+use Rattle.std.proofs.lemmas.List.{nil_from_length}
 use Rattle.amd_model.specs.Graph.{Graph}
 use Rattle.amd_model.specs.Input.Pattern.{graph_of}
 use Rattle.amd_factor.specs.Columns.{HoldFactor, PassesRoom}
@@ -17,19 +17,14 @@ use Rattle.amd_factor.proofs.Calls.ColumnParts.{no_rows as no_factor}
 use Rattle.amd_factor.proofs.Calls.WithinParts.{no_rows}
 use Rattle.amd_calls.specs.Calls.{HasPlaces}
 use Rattle.amd_calls.specs.Columns.{Arrays, HasColumnPlaces, HoldsColumns, arrays, number_of_end}
-use Rattle.amd_calls.specs.Counting.{HoldsCounts, LeavesCounts, Tallies, needs_of, tallies}
+use Rattle.amd_calls.specs.Counting.{HoldsCounts, LeavesCounts, needs_of, tallies}
 use Rattle.amd_calls.specs.Within.{ColumnsWithin, CountsWithin, KeepsWithin, LeavesWithin, RefusesWithin, Suffice, TellsWhether}
 use Rattle.amd_calls.specs.Within.{columns_bytes, counts_bytes}
 use Rattle.amd_calls.specs.declared.records.Needs.{Needs}
-use Rattle.amd_calls.proofs.ColumnsLeft.{arrays_of_values, number_comes_back}
-use Rattle.amd_calls.proofs.CountsLeft.{tallies_of_values}
+use Rattle.amd_calls.proofs.ColumnsLeft.{arrays_of_values, end_is}
+use Rattle.amd_calls.proofs.CountsLeft.{left_counts}
 use Rattle.amd_calls.proofs.Fits.{needed-are}
-use Rattle.amd_calls.proofs.Leaving.{values}
-
--- a list without places
-none-in : {A : Type 0} (xs : List A) → length xs ≡ 0 → xs ≡ []
-none-in [] e = refl
-none-in (x ∷ xs) e = absurd (omega (arith, e))
+use Rattle.amd_calls.proofs.Leaving.{matrix_of_values, memory_renamed, order_of_values, values}
 
 -- no rows, no counts
 pub no-counts : (z : ℤ) (ap' ai p xs ys : List ℤ) (need : Need) (told : Needs) → pos 0 ≡ z → p ≡ [] → HasPlaces z xs ys →
@@ -41,8 +36,8 @@ no-counts z ap' ai p xs ys need told zero empty has cut is =
       parent = [];
       need = need;
       counts = no_rows z ap' ai p [] [] need zero empty (λ size e. (omega (arith, ints, zero, e), omega (arith, ints, zero, e))) cut;
-      written = none-in xs (omega (arith, ints, zero, wide));
-      parents = none-in ys (omega (arith, ints, zero, long));
+      written = nil_from_length xs (omega (arith, ints, zero, wide));
+      parents = nil_from_length ys (omega (arith, ints, zero, long));
       told = is;
     }
 
@@ -58,7 +53,7 @@ no-columns z ap' ai p ptr rows parent new zero empty has is =
           (no_factor ap' ai p (0 ∷ []) [] [] empty refl refl refl);
       pointers = is;
       entries = refl;
-      parents = none-in parent (omega (arith, ints, zero, long));
+      parents = nil_from_length parent (omega (arith, ints, zero, long));
     }
 
 -- what passes the places passes the lesser of them and the greatest number
@@ -130,20 +125,11 @@ pub counts_within : (m n : ℤ) (a_p a_i p : List ℤ) (size : ℕ) (xs ys us vs
     number ≡ number_of_end outcome →
     CountsWithin n a_p a_i p size (tallies xs ys before) (tallies us vs after) (to_z w32 (of_z w32 number))
 counts_within m n a_p a_i p size xs ys us vs before after outcome number same left told is =
-    let old : Tallies = tallies (values xs) (values ys) before in
-    let new : Tallies = tallies (values us) (values vs) after in
-    let one = subst (λ x. LeavesCounts x (values a_p) (values a_i) (values p) old new outcome) same left in
-    let two = subst (λ x. LeavesCounts n x (values a_i) (values p) old new outcome) (map-id a_p) one in
-    let three = subst (λ x. LeavesCounts n a_p x (values p) old new outcome) (map-id a_i) two in
-    let four = subst (λ x. LeavesCounts n a_p a_i x old new outcome) (map-id p) three in
-    let five = subst (λ x. LeavesCounts n a_p a_i p x new outcome) (tallies_of_values xs ys before) four in
-    let six = subst (λ x. LeavesCounts n a_p a_i p (tallies xs ys before) x outcome) (tallies_of_values us vs after) five in
-    let tells = subst (λ x. TellsWhether (Suffice counts_bytes x (values a_p) size) outcome) same told in
     record {
       outcome = outcome;
-      answer = ap (λ x. to_z w32 (of_z w32 x)) is ∙ number_comes_back outcome;
-      left = six;
-      block = subst (λ x. TellsWhether (Suffice counts_bytes n x size) outcome) (map-id a_p) tells;
+      answer = end_is outcome number is;
+      left = left_counts m n a_p a_i p xs ys us vs before after outcome same left;
+      block = matrix_of_values (λ k as bs. TellsWhether (Suffice counts_bytes k as size) outcome) m n a_p a_i same told;
     }
 
 pub columns_within : (most : ℕ) (m n : ℤ) (a_p a_i p : List ℤ) (size : ℕ) (ptr rows parent qtr sows qarent : List ℤ)
@@ -155,16 +141,10 @@ pub columns_within : (most : ℕ) (m n : ℤ) (a_p a_i p : List ℤ) (size : ℕ
 columns_within most m n a_p a_i p size ptr rows parent qtr sows qarent outcome number same left told is =
     let old : Arrays = arrays (values ptr) (values rows) (values parent) in
     let new : Arrays = arrays (values qtr) (values sows) (values qarent) in
-    let one = subst (λ x. LeavesWithin most x (values a_p) (values a_i) (values p) old new outcome) same left in
-    let two = subst (λ x. LeavesWithin most n x (values a_i) (values p) old new outcome) (map-id a_p) one in
-    let three = subst (λ x. LeavesWithin most n a_p x (values p) old new outcome) (map-id a_i) two in
-    let four = subst (λ x. LeavesWithin most n a_p a_i x old new outcome) (map-id p) three in
-    let five = subst (λ x. LeavesWithin most n a_p a_i p x new outcome) (arrays_of_values ptr rows parent) four in
-    let six = subst (λ x. LeavesWithin most n a_p a_i p (arrays ptr rows parent) x outcome) (arrays_of_values qtr sows qarent) five in
-    let tells = subst (λ x. TellsWhether (Suffice columns_bytes x (values a_p) size) outcome) same told in
-    record {
+    let one = order_of_values (λ k xs ys zs. LeavesWithin most k xs ys zs old new outcome) m n a_p a_i p same left in record {
       outcome = outcome;
-      answer = ap (λ x. to_z w32 (of_z w32 x)) is ∙ number_comes_back outcome;
-      left = six;
-      block = subst (λ x. TellsWhether (Suffice columns_bytes n x size) outcome) (map-id a_p) tells;
+      answer = end_is outcome number is;
+      left = memory_renamed (λ x y. LeavesWithin most n a_p a_i p x y outcome) (arrays_of_values ptr rows parent)
+          (arrays_of_values qtr sows qarent) one;
+      block = matrix_of_values (λ k xs ys. TellsWhether (Suffice columns_bytes k xs size) outcome) m n a_p a_i same told;
     }

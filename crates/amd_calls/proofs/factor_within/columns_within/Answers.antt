@@ -72,7 +72,8 @@ write_numbers-requires-2-clause-fits g c =
 pub write_parents-requires-clause-fits : goal.write_parents-requires-clause-fits
 write_parents-requires-clause-fits g c =
     let exact = g.met.I.Integral.exact_law in let f = c.in-Ok-columns_inside.ensures.factor in let h = f.0.factor.holds in
-    let size = c.in-Ok.ensures.size in let front = c.split_at_mut-parents.ensures.front_len in let places = f.0.factor.permutes.each.places in
+    let size = c.in-Ok.ensures.size in let front = c.split_at_mut-parents.ensures.front_len in
+    let places = f.0.factor.permutes.each.places in
     parents-fit g.I.Number.fits (λ x y z low high. g.I.Number.between_law x y z exact low high) (g.met.I.Zero.zero_fits_law exact) _ _
     (g.I.Number.value c.args.n) c.requires.fits (omega (arith, ints, size, front, places)) h.columns h.factor c.requires.signed
     c.columns_inside.new.parents h.holds.parents

@@ -1,36 +1,24 @@
 -- What stands in the caller's arrays is what the ordering answered.
-use Rattle.std.proofs.Common.{List, ℤ, ◌≡◌, map, subst, rules, SFits, w32}
+use Rattle.std.proofs.Common.{List, ℤ, map, subst, rules, SFits, w32}
 use Rattle.std.specs.Option.{option_copied}
-use Rattle.std.proofs.lemmas.Int.{to_z-of_z}
-use Rattle.amd.specs.Answers.{IsOrderingHolding}
 use Rattle.amd.specs.Blocks.{IsBlockRefusal}
 use Rattle.amd_types.specs.declared.amd.Status.TheVariants.{Invalid, OutOfMemory}
 use Rattle.amd_calls.specs.Calls.{memory}
 use Rattle.amd_calls.proofs.Blocks.{refuses_invalid, refuses_short, tells_ordered}
-use Rattle.amd_calls.proofs.Leaving.{answer_is, leaves_ordering}
+use Rattle.amd_calls.proofs.Leaving.{answer_is, leaves_chosen}
 use Rattle.amd_calls.proofs.within.order_within.Goals as goal
 
 pub returns-in-Ok : goal.returns-in-Ok
 returns-in-Ok g c =
-    let value = g.I.Number.value in
-    let hold = option_copied c.args.hold in
-    let z : ℤ = value c.args.n in
-    let t : ℤ = c.args.parameters.now.dense in
-    let aggressive = c.args.parameters.now.aggressive in
-    let a_p : List ℤ = map value c.args.a_p.now in
-    let a_i : List ℤ = map value c.args.a_i.now in
-    let p : List ℤ = map value c.order_in_block.new.p in
-    let q : List ℤ = map value c.order_in_block.new.p_inv in
-    let info = c.in-Ok.info in
-    let fits : SFits w32 t = search rules in
-    let ordered = subst (λ x. IsOrderingHolding hold z x aggressive a_p a_i p q info) (to_z-of_z w32 t fits) c.in-Ok.ensures.ordering in
-    let old = memory (map value c.args.p.now) (map value c.args.p_inv.now) c.args.statistics.now in
-    record {
+    let value = g.I.Number.value in let a = c.args in let new = c.order_in_block.new in let info = c.in-Ok.info in
+    let fits : SFits w32 a.parameters.now.dense = search rules in let e = c.in-Ok.ensures in record {
       status = info.status;
       answer = answer_is info.status _ c.number_of.ensures;
-      left = leaves_ordering hold z c.args.parameters.now a_p a_i old (memory p q c.statistics_of.result) info ordered
-          c.statistics_of.ensures;
-      block = tells_ordered hold z t aggressive a_p a_i p q c.args.block.size info ordered c.in-Ok.ensures.inside;
+      left = leaves_chosen (option_copied a.hold) (value a.n) a.parameters.now (map value a.a_p.now) (map value a.a_i.now)
+          (memory (map value a.p.now) (map value a.p_inv.now) a.statistics.now)
+          (memory (map value new.p) (map value new.p_inv) c.statistics_of.result) info fits e.ordering c.statistics_of.ensures;
+      block = tells_ordered (option_copied a.hold) (value a.n) _ a.parameters.now.aggressive (map value a.a_p.now)
+          (map value a.a_i.now) (map value new.p) (map value new.p_inv) a.block.size info e.ordering e.inside;
     }
 
 pub returns-in-Err-Invalid : goal.returns-in-Err-Invalid
