@@ -1,13 +1,13 @@
 -- What the degrees and the row form leave in a caller's arrays, and the same for the integers of C, whose values are themselves.
-use Rattle.std.proofs.Common.{ℤ, List, ◌≡◌, ◌∙◌, ap, subst, to_z, of_z, w32}
+use Rattle.std.proofs.Common.{ℤ, List, ◌≡◌, ◌∙◌, ap, to_z, of_z, w32}
 use Rattle.std.specs.Prelude.{Result}
 use Rattle.std.proofs.lemmas.List.{map-id}
 use Rattle.amd_factor.specs.declared.factor.Fault.{Fault}
 use Rattle.amd_calls.specs.Columns.{number_of_end}
 use Rattle.amd_c.specs.Patterns.{Counted, counted, LeavesDegrees, DegreesInto, RowArrays, row_arrays, LeavesRowForm, RowFormInto}
 use Rattle.amd_calls.specs.declared.records.Statistics.{Statistics}
-use Rattle.amd_calls.proofs.Leaving.{values}
-use Rattle.amd_calls.proofs.ColumnsLeft.{number_comes_back}
+use Rattle.amd_calls.proofs.Leaving.{matrix_of_values, memory_renamed, values}
+use Rattle.amd_calls.proofs.ColumnsLeft.{end_is}
 
 -- what a call leaves in the values is what it leaves in the integers
 pub degrees_into : (m n : ℤ) (a_p a_i xs ys : List ℤ) (before after : Statistics) (outcome : Result (Unit {0}) Fault) (number : ℤ) →
@@ -16,12 +16,12 @@ pub degrees_into : (m n : ℤ) (a_p a_i xs ys : List ℤ) (before after : Statis
 degrees_into m n a_p a_i xs ys before after outcome number same left is =
     let old : Counted = counted (values xs) before in
     let new : Counted = counted (values ys) after in
-    let one = subst (λ x. LeavesDegrees x (values a_p) (values a_i) old new outcome) same left in
-    let two = subst (λ x. LeavesDegrees n x (values a_i) old new outcome) (map-id a_p) one in
-    let three = subst (λ x. LeavesDegrees n a_p x old new outcome) (map-id a_i) two in
-    let four = subst (λ x. LeavesDegrees n a_p a_i (counted x before) new outcome) (map-id xs) three in
-    let five = subst (λ x. LeavesDegrees n a_p a_i (counted xs before) (counted x after) outcome) (map-id ys) four in
-    record { outcome = outcome; answer = ap (λ x. to_z w32 (of_z w32 x)) is ∙ number_comes_back outcome; left = five }
+    let one = matrix_of_values (λ k bs cs. LeavesDegrees k bs cs old new outcome) m n a_p a_i same left in record {
+      outcome = outcome;
+      answer = end_is outcome number is;
+      left = memory_renamed (λ x y. LeavesDegrees n a_p a_i x y outcome) (ap (λ x. counted x before) (map-id xs))
+          (ap (λ x. counted x after) (map-id ys)) one;
+    }
 
 rows_of_values : (pointers indices : List ℤ) → row_arrays (values pointers) (values indices) ≡ row_arrays pointers indices
 rows_of_values pointers indices =
@@ -34,9 +34,8 @@ pub row_form_into : (m n : ℤ) (a_p a_i xs ys us vs : List ℤ) (outcome : Resu
 row_form_into m n a_p a_i xs ys us vs outcome number same left is =
     let old : RowArrays = row_arrays (values xs) (values ys) in
     let new : RowArrays = row_arrays (values us) (values vs) in
-    let one = subst (λ x. LeavesRowForm x (values a_p) (values a_i) old new outcome) same left in
-    let two = subst (λ x. LeavesRowForm n x (values a_i) old new outcome) (map-id a_p) one in
-    let three = subst (λ x. LeavesRowForm n a_p x old new outcome) (map-id a_i) two in
-    let four = subst (λ x. LeavesRowForm n a_p a_i x new outcome) (rows_of_values xs ys) three in
-    let five = subst (λ x. LeavesRowForm n a_p a_i (row_arrays xs ys) x outcome) (rows_of_values us vs) four in
-    record { outcome = outcome; answer = ap (λ x. to_z w32 (of_z w32 x)) is ∙ number_comes_back outcome; left = five }
+    let one = matrix_of_values (λ k bs cs. LeavesRowForm k bs cs old new outcome) m n a_p a_i same left in record {
+      outcome = outcome;
+      answer = end_is outcome number is;
+      left = memory_renamed (λ x y. LeavesRowForm n a_p a_i x y outcome) (rows_of_values xs ys) (rows_of_values us vs) one;
+    }

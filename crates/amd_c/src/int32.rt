@@ -16,7 +16,7 @@ ghost use Rattle.amd_c.specs.Supernodal.{SizesInto, SupernodesAndSizes, Supernod
 use crate::forests::postorder_into;
 use crate::narrow::eliminate_narrow;
 use crate::patterns::{degrees_into, row_form_into};
-use crate::supernodal::{supernode_sizes_into, supernodes_and_sizes_into, supernodes_into};
+use crate::supernodal::{sizes_of, supernode_sizes_into, supernodes_and_sizes_into};
 use amd::valid::valid;
 use amd_calls::counting::counts_into;
 use amd_calls::factors::{columns_into, number_of_end};
@@ -228,7 +228,8 @@ pub extern "C" fn rimopaku_supernodes_i32(
     ensures { SupernodesInto n a_p.now a_i.now p.now (blocks first.old ptr.old rows.old parent.old)
         (blocks first.new ptr.new rows.new parent.new) result }
 {
-    let outcome = supernodes_into(alloc, n, a_p, a_i, p, first, ptr, rows, parent);
+    let sizes = &mut sizes_of(0, 0);
+    let outcome = supernodes_and_sizes_into(alloc, n, a_p, a_i, p, first, ptr, rows, parent, sizes);
     number_of_end(&outcome)
 }
 

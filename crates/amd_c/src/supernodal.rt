@@ -41,7 +41,7 @@ pub fn supernode_sizes_into<I: PrimInt>(
 }
 
 /// The record of a number of supernodes and of rows below their blocks.
-fn sizes_of(supernodes: usize, rows: usize) -> SupernodeSizes
+pub fn sizes_of(supernodes: usize, rows: usize) -> SupernodeSizes
     ensures { (result.supernodes ≡ supernodes) × (result.rows ≡ rows) }
 {
     SupernodeSizes { supernodes, rows }
@@ -99,12 +99,20 @@ fn matrix_supernodes_into<I: PrimInt>(
     Ok(())
 }
 
-/// Writes the supernodes of the factor of a matrix as [`supernodes_into`], and how much room they need into `sizes`.
+/// Writes the supernodes of the factor of a matrix under the order `p` into the caller's arrays, and how much room they
+/// need into `sizes`.
+///
+/// The input is as that of `supernodes` of the crate `amd_symbolic`. Where each supernode begins, and behind them `n`,
+/// is written into `first`; where the rows of each begin, and the end of the last ones, into `ptr`; the rows below the
+/// blocks into `rows`; and the parents into `parent`, with -1 for none. `first` and `ptr` have one place more than
+/// `parent`. What follows in each array stays.
 ///
 /// # Errors
 ///
-/// Those of [`supernodes_into`]; the arrays stay as they were. After `RoomTooSmall` `sizes` tells how much room is
-/// needed; after any other it stays as it was.
+/// Those of `supernodes`; the arrays stay as they were. `NotColumnForm` also where `first` or `ptr` has not one place
+/// more than `parent`, `RoomTooSmall` where there are more supernodes than `parent` has places, or more rows than
+/// `rows` has, and `OutOfMemory` also where a number is too large for the type. After `RoomTooSmall` `sizes` tells how
+/// much room is needed; after any other it stays as it was.
 ///
 /// Source: Rose, Tarjan and Lueker 1976; Liu 1990; Liu, Ng and Peyton 1993.
 pub fn supernodes_and_sizes_into<I: PrimInt>(
@@ -128,39 +136,4 @@ pub fn supernodes_and_sizes_into<I: PrimInt>(
         sizes.new result }
 {
     matrix_supernodes_into(alloc, n, p, a_p, a_i, first, ptr, rows, parent, sizes)
-}
-
-/// Writes the supernodes of the factor of a matrix under the order `p` into the caller's arrays.
-///
-/// The input is as that of `supernodes` of the crate `amd_symbolic`. Where each supernode begins, and behind them `n`,
-/// is written into `first`; where the rows of each begin, and the end of the last ones, into `ptr`; the rows below the
-/// blocks into `rows`; and the parents into `parent`, with -1 for none. `first` and `ptr` have one place more than
-/// `parent`. What follows in each array stays.
-///
-/// # Errors
-///
-/// Those of `supernodes`; all stays as it was. `NotColumnForm` also where `first` or `ptr` has not one place more than
-/// `parent`, `RoomTooSmall` where there are more supernodes than `parent` has places, or more rows than `rows` has, and
-/// `OutOfMemory` also where a number is too large for the type.
-///
-/// Source: Rose, Tarjan and Lueker 1976; Liu 1990; Liu, Ng and Peyton 1993.
-pub fn supernodes_into<I: PrimInt>(
-    alloc: Global,
-    n: I,
-    a_p: &[I],
-    a_i: &[I],
-    p: &[I],
-    first: &mut [I],
-    ptr: &mut [I],
-    rows: &mut [I],
-    parent: &mut [I],
-) -> Result<(), Fault>
-    // A number of a primitive type is always in range.
-    requires fits { I.fits (I.value n) }
-    ensures { LeavesSupernodes (I.value n) (map I.value a_p.now) (map I.value a_i.now) (map I.value p.now)
-        (blocks (map I.value first.old) (map I.value ptr.old) (map I.value rows.old) (map I.value parent.old))
-        (blocks (map I.value first.new) (map I.value ptr.new) (map I.value rows.new) (map I.value parent.new)) result }
-{
-    let mut sizes = sizes_of(0, 0);
-    supernodes_and_sizes_into(alloc, n, a_p, a_i, p, first, ptr, rows, parent, &mut sizes)
 }

@@ -13,6 +13,13 @@ use crate::int64::{
 use amd_calls::records::SupernodeSizes;
 use std::alloc::Global;
 
+/// The matrix with five rows, and its order.
+const FIVE_P: [i32; 6] = [0, 2, 6, 10, 12, 14];
+
+const FIVE_I: [i32; 14] = [0, 1, 0, 1, 2, 4, 1, 2, 3, 4, 2, 3, 1, 4];
+
+const FIVE_ORDER: [i32; 5] = [0, 3, 2, 4, 1];
+
 /// Sizes in which no call has written.
 fn no_sizes() -> SupernodeSizes {
     SupernodeSizes {
@@ -23,11 +30,9 @@ fn no_sizes() -> SupernodeSizes {
 
 #[test]
 fn supernodes_of_five_rows(rt: HostRuntime) {
-    let a_p = [0, 2, 6, 10, 12, 14];
-    let a_i = [0, 1, 0, 1, 2, 4, 1, 2, 3, 4, 2, 3, 1, 4];
-    let p = [0, 3, 2, 4, 1];
     let mut sizes = no_sizes();
-    let number = rimopaku_supernode_sizes_i32(rt.alloc(), 5, &a_p, &a_i, &p, &mut sizes);
+    let (a_p, a_i, p) = (&FIVE_P, &FIVE_I, &FIVE_ORDER);
+    let number = rimopaku_supernode_sizes_i32(rt.alloc(), 5, a_p, a_i, p, &mut sizes);
     assert!(rt; number == 0 && sizes.supernodes == 3 && sizes.rows == 2);
     let mut first = [-5; 5];
     let mut ptr = [-5; 5];
@@ -36,9 +41,9 @@ fn supernodes_of_five_rows(rt: HostRuntime) {
     let number = rimopaku_supernodes_i32(
         rt.alloc(),
         5,
-        &a_p,
-        &a_i,
-        &p,
+        a_p,
+        a_i,
+        p,
         &mut first,
         &mut ptr,
         &mut rows,
@@ -177,28 +182,37 @@ fn sizes_that_are_told_beside(rt: HostRuntime) {
     assert!(rt; number == -3 && sizes.supernodes == 77 && sizes.rows == 77);
 }
 
+/// The number and the sizes of the one call for five rows, which writes into these arrays.
+fn told_five(
+    alloc: Global,
+    first: &mut [i32],
+    ptr: &mut [i32],
+    rows: &mut [i32],
+    parent: &mut [i32],
+) -> (i32, SupernodeSizes) {
+    let mut sizes = no_sizes();
+    let number = rimopaku_supernodes_and_sizes_i32(
+        alloc,
+        5,
+        &FIVE_P,
+        &FIVE_I,
+        &FIVE_ORDER,
+        first,
+        ptr,
+        rows,
+        parent,
+        &mut sizes,
+    );
+    (number, sizes)
+}
+
 #[test]
 fn supernodes_in_one_call(rt: HostRuntime) {
-    let a_p = [0, 2, 6, 10, 12, 14];
-    let a_i = [0, 1, 0, 1, 2, 4, 1, 2, 3, 4, 2, 3, 1, 4];
-    let p = [0, 3, 2, 4, 1];
     let mut first = [-5; 6];
     let mut ptr = [-5; 6];
     let mut rows = [-5; 5];
     let mut parent = [-5; 5];
-    let mut sizes = no_sizes();
-    let number = rimopaku_supernodes_and_sizes_i32(
-        rt.alloc(),
-        5,
-        &a_p,
-        &a_i,
-        &p,
-        &mut first,
-        &mut ptr,
-        &mut rows,
-        &mut parent,
-        &mut sizes,
-    );
+    let (number, sizes) = told_five(rt.alloc(), &mut first, &mut ptr, &mut rows, &mut parent);
     assert!(rt; number == 0 && sizes.supernodes == 3 && sizes.rows == 2);
     assert!(rt; first == [0, 1, 2, 5, -5, -5] && ptr == [0, 1, 2, 2, -5, -5]);
     assert!(rt; rows == [4, 2, -5, -5, -5] && parent == [2, 2, -1, -5, -5]);
