@@ -22,7 +22,7 @@ left_counts m n a_p a_i p xs ys us vs before after outcome same left =
     let old : Tallies = tallies (values xs) (values ys) before in
     let new : Tallies = tallies (values us) (values vs) after in
     memory_renamed (λ x y. LeavesCounts n a_p a_i p x y outcome) (tallies_of_values xs ys before) (tallies_of_values us vs after)
-    (order_of_values (λ k as bs cs. LeavesCounts k as bs cs old new outcome) m n a_p a_i p same left)
+    (order_of_values (λ k bs cs ds. LeavesCounts k bs cs ds old new outcome) m n a_p a_i p same left)
 
 pub counts_into : (m n : ℤ) (a_p a_i p xs ys us vs : List ℤ) (before after : Needs) (outcome : Result (Unit {0}) Fault) (number : ℤ) →
     m ≡ n → LeavesCounts m (values a_p) (values a_i) (values p) (tallies (values xs) (values ys) before)

@@ -129,7 +129,7 @@ counts_within m n a_p a_i p size xs ys us vs before after outcome number same le
       outcome = outcome;
       answer = end_is outcome number is;
       left = left_counts m n a_p a_i p xs ys us vs before after outcome same left;
-      block = matrix_of_values (λ k as bs. TellsWhether (Suffice counts_bytes k as size) outcome) m n a_p a_i same told;
+      block = matrix_of_values (λ k bs cs. TellsWhether (Suffice counts_bytes k bs size) outcome) m n a_p a_i same told;
     }
 
 pub columns_within : (most : ℕ) (m n : ℤ) (a_p a_i p : List ℤ) (size : ℕ) (ptr rows parent qtr sows qarent : List ℤ)
