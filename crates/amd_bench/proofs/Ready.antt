@@ -1,5 +1,5 @@
 -- A matrix whose columns are sorted is ready for an engine once its degrees are counted, and the words of its workspace.
-use Rattle.std.proofs.Common.{ℕ, ℤ, Bool, List, map, zero, suc, pos, negsuc, ◌≡◌, ◌≢◌, ◌+◌, ◌/◌, ◌<◌, ◌≤◌, length, ap, subst, sym, arith}
+use Rattle.std.proofs.Common.{ℕ, ℤ, List, zero, suc, pos, negsuc, ◌≡◌, ◌≢◌, ◌+◌, ◌/◌, ◌<◌, ◌≤◌, length, ap, subst, sym, arith}
 use Rattle.std.specs.Prelude.{unsigned_abs}
 use Rattle.amd_model.specs.Input.Columns.{IsColumnForm, IsSorted, IsInput, IsSortedInput}
 use Rattle.amd_model.specs.Input.Pattern.{graph_of}
