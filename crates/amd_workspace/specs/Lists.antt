@@ -12,18 +12,22 @@ pub record KeepsWords {S U A : Type 0} (old new : Words S U A) : Type 0 where
   pub iw : vec_capacity old.iw ≤ vec_capacity new.iw
 
 -- the lists with a place for each row have room for n rows, and that of the buckets for theirs
-pub record HasRows {S P U A : Type 0} (n : ℕ) (l : Lists S P U A) : Type 0 where
-  pub nv : n ≤ vec_capacity l.nv
+pub record HasRows {P U A : Type 0} (n : ℕ) (l : Lists P U A) : Type 0 where
   pub e_len : n ≤ vec_capacity l.e_len
   pub w : n ≤ vec_capacity l.w
   pub head : n ≤ vec_capacity l.head
   pub sides : n ≤ vec_capacity l.sides
   pub hash : bucket_count n ≤ vec_capacity l.hash
 
--- all lists have room for n rows, and the words for so many
-pub record HasRoom {S P U A : Type 0} (n count : ℕ) (m : Memory S P U A) : Type 0 where
+-- the words have room for so many, and all lists for n rows, but for the numbers of rows
+pub record HasRoomBeside {S P U A : Type 0} (n count : ℕ) (m : Memory S P U A) : Type 0 where
   pub words : count ≤ vec_capacity m.words.iw
   pub next : n ≤ vec_capacity m.words.next
   pub pe : n ≤ vec_capacity m.pe
   pub len : n ≤ vec_capacity m.len
   pub lists : HasRows n m.lists
+
+-- and these too
+pub record HasRoom {S P U A : Type 0} (n count : ℕ) (m : Memory S P U A) : Type 0 where
+  pub beside : HasRoomBeside n count m
+  pub nv : n ≤ vec_capacity m.nv

@@ -12,7 +12,7 @@ ghost use Rattle.amd_model.specs.Quotient.{starting_list};
 ghost use Rattle.amd_lists.specs.Layout.{list_in};
 ghost use Rattle.amd_words.specs.Words.{num};
 ghost use Rattle.amd_workspace.specs.Laying.{IsLaidOut, Lays, Starts};
-ghost use Rattle.amd_workspace.specs.Lists.{HasRoom, KeepsWords};
+ghost use Rattle.amd_workspace.specs.Lists.{HasRoomBeside, KeepsWords};
 ghost use Rattle.amd_workspace.specs.Lower.{AreNeighbourCounts, HoldsLists, own_start};
 
 use crate::copying::copy_symmetric;
@@ -152,7 +152,7 @@ fn general_lists<I: Index, S: Signed, U: Unsigned, A: Allocator + Copy>(
 /// Answers where the last one ends. Long ones of a pattern that has no entry above the diagonal are written row by row
 /// (`lower_lists`), all others by `general_lists`. Behind the lists stand `size` words or more that name rows; the rest
 /// of the room is not written. What the memory held before, but for the degrees, is not read; it has room for `size`
-/// rows and `room` words.
+/// rows and `room` words, where none is needed for the numbers of rows, and keeps it.
 pub fn lay<I: Index, S: Signed, P: Signed, U: Unsigned, A: Allocator + Copy>(
     size: usize,
     a_p: &[I],
@@ -167,7 +167,7 @@ pub fn lay<I: Index, S: Signed, P: Signed, U: Unsigned, A: Allocator + Copy>(
     requires words { own_start size (map I.value a_p.now) (map I.value a_i.now) size + size ≤ room }
     requires fits { (size ≤ S.MOST) × (room ≤ P.MOST) × (room ≤ U.MOST) ×
         (slice_index (counts (map I.value a_p.now)) size ≤ U.MOST) }
-    requires room { HasRoom size room memory.old }
+    requires room { HasRoomBeside size room memory.old }
     ensures laid { IsLaidOut size memory.new.words.iw.items memory.new.pe.items memory.new.len.items result }
     ensures long { (result + size ≤ length memory.new.words.iw.items) × (length memory.new.words.iw.items ≤ room) }
     ensures free { result ≡ own_start size (map I.value a_p.now) (map I.value a_i.now) size }
@@ -175,7 +175,8 @@ pub fn lay<I: Index, S: Signed, P: Signed, U: Unsigned, A: Allocator + Copy>(
     ensures lists { (i : ℕ) → i < size →
         list_in memory.new.words.iw.items memory.new.pe.items memory.new.len.items i ≡ starting_list size
         (is_pair size (map I.value a_p.now) (map I.value a_i.now)) i }
-    ensures room { (n words : ℕ) → HasRoom n words memory.old → HasRoom n words memory.new }
+    ensures room { (n words : ℕ) → HasRoomBeside n words memory.old → HasRoomBeside n words memory.new }
+    ensures nv { memory.new.nv ≡ memory.old.nv }
 {
     memory.pe.clear();
     memory.words.next.clear();

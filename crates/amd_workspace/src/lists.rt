@@ -3,7 +3,7 @@
 // graph).
 
 ghost use Rattle.std.specs.Prelude.{IfOk};
-ghost use Rattle.amd_workspace.specs.Lists.{HasRoom, HasRows};
+ghost use Rattle.amd_workspace.specs.Lists.{HasRoom, HasRoomBeside, HasRows};
 
 use amd_merging::buckets::bucket_count;
 use amd_words::sides::Sides;
@@ -19,11 +19,9 @@ pub struct Words<S: Signed, U: Unsigned, A: Allocator> {
     pub iw: Vec<Word<S>, A>,
 }
 
-/// Lists of an elimination with a place for each row, and that of the buckets.
+/// Lists of an elimination with a place for each row, but for the numbers of rows; and that of the buckets.
 #[derive(Drop)]
-pub struct Lists<S: Signed, P: Signed, U: Unsigned, A: Allocator> {
-    /// The number of rows of each class, and at the end that of each block.
-    pub nv: Vec<Word<S>, A>,
+pub struct Lists<P: Signed, U: Unsigned, A: Allocator> {
     /// The number of elements of each class, and at the end the number of rows of each front.
     pub e_len: Vec<Word<P>, A>,
     /// The counter of each row.
@@ -45,21 +43,22 @@ pub struct Memory<S: Signed, P: Signed, U: Unsigned, A: Allocator> {
     pub pe: Vec<Word<P>, A>,
     /// The number of words of each list: at first the degree of each row.
     pub len: Vec<Cell<U>, A>,
+    /// The number of rows of each class, and at the end that of each block. Another list may serve in its place.
+    pub nv: Vec<Word<S>, A>,
     /// The other lists.
-    pub lists: Lists<S, P, U, A>,
+    pub lists: Lists<P, U, A>,
 }
 
-impl<S: Signed, P: Signed, U: Unsigned, A: Allocator + Copy> Lists<S, P, U, A> {
+impl<P: Signed, U: Unsigned, A: Allocator + Copy> Lists<P, U, A> {
     /// Lists with room for `rows` rows.
     ///
     /// # Errors
     ///
     /// A refused request for memory.
-    pub fn with_room(alloc: A, rows: usize) -> Result<Lists<S, P, U, A>, AllocError>
+    pub fn with_room(alloc: A, rows: usize) -> Result<Lists<P, U, A>, AllocError>
         ensures { IfOk result (HasRows rows) }
     {
         Ok(Lists {
-            nv: Vec::with_capacity(alloc, rows)?,
             e_len: Vec::with_capacity(alloc, rows)?,
             w: Vec::with_capacity(alloc, rows)?,
             head: Vec::with_capacity(alloc, rows)?,
@@ -70,13 +69,14 @@ impl<S: Signed, P: Signed, U: Unsigned, A: Allocator + Copy> Lists<S, P, U, A> {
 }
 
 impl<S: Signed, P: Signed, U: Unsigned, A: Allocator + Copy> Memory<S, P, U, A> {
-    /// Memory for eliminations of up to `rows` rows in up to `words` words. It is the only step that asks for memory.
+    /// Memory for eliminations of up to `rows` rows in up to `words` words, but for the numbers of rows: another list
+    /// serves in their place.
     ///
     /// # Errors
     ///
     /// A refused request for memory.
-    pub fn with_room(alloc: A, rows: usize, words: usize) -> Result<Memory<S, P, U, A>, AllocError>
-        ensures { IfOk result (HasRoom rows words) }
+    pub fn beside(alloc: A, rows: usize, words: usize) -> Result<Memory<S, P, U, A>, AllocError>
+        ensures { IfOk result (HasRoomBeside rows words) }
     {
         Ok(Memory {
             pe: Vec::with_capacity(alloc, rows)?,
@@ -85,7 +85,21 @@ impl<S: Signed, P: Signed, U: Unsigned, A: Allocator + Copy> Memory<S, P, U, A> 
                 next: Vec::with_capacity(alloc, rows)?,
                 iw: Vec::with_capacity(alloc, words)?,
             },
+            nv: Vec::new(alloc),
             lists: Lists::with_room(alloc, rows)?,
         })
+    }
+
+    /// Memory for eliminations of up to `rows` rows in up to `words` words. It is the only step that asks for memory.
+    ///
+    /// # Errors
+    ///
+    /// A refused request for memory.
+    pub fn with_room(alloc: A, rows: usize, words: usize) -> Result<Memory<S, P, U, A>, AllocError>
+        ensures { IfOk result (HasRoom rows words) }
+    {
+        let mut memory = Memory::beside(alloc, rows, words)?;
+        memory.nv = Vec::with_capacity(alloc, rows)?;
+        Ok(memory)
     }
 }
