@@ -14,7 +14,8 @@ ghost use Rattle.amd_engine_law.specs.Engine.{IsEngineAnswer};
 ghost use Rattle.amd_rounds.specs.Laid.{AreWideEnough};
 ghost use Rattle.amd_types.specs.Counts.{counts};
 ghost use Rattle.amd_engine.specs.InPlace.{AnswersInPlace, CanRun, KeepsLaid, LaysGraph, rows_in, told_info};
-ghost use Rattle.amd_workspace.specs.Lists.{HasRoom};
+ghost use Rattle.amd_engine.specs.InPlace.{values};
+ghost use Rattle.amd_workspace.specs.Lists.{HasRoom, HasRoomBeside};
 ghost use Rattle.amd_workspace.specs.Lower.{AreNeighbourCounts, own_start};
 
 use crate::ended::{finish, list_rows};
@@ -25,8 +26,10 @@ use amd_types::amd::{Control, Info, Status};
 use amd_types::dense::dense_threshold;
 use amd_types::index::Index;
 use amd_types::internal::count_at;
+use amd_views::{clear, lend_narrow};
 use amd_words::sides::Sides;
 use amd_words::{Cell, Signed, Unsigned, Word};
+use amd_workspace::filling::fill_words;
 use amd_workspace::laying::lay;
 use amd_workspace::lists::Memory;
 use num_traits::PrimInt;
@@ -69,11 +72,12 @@ fn ask_for_two<A: Allocator + Copy>(alloc: A, words: usize) -> Result<(), AllocE
     Ok(())
 }
 
-/// Asks for most of the memory that an ordering of `n` rows in `iwlen` words of 32 bits takes beside its input and its
-/// result, but for no more than 32 MB, and gives it back at once. An allocator may keep as much free memory as twice
-/// the largest block that it was given back, and return the rest to the system, as that of glibc does. Below that limit
-/// no list of an ordering is as large; so without this request each ordering would take all its pages from the system
-/// anew.
+/// Asks for most of the memory that an ordering of `n` rows, with so many words for each row and `iwlen` others, takes
+/// beside its input and its result, but for no more than 32 MB, and gives it back at once. A word has 32 bits.
+///
+/// An allocator may keep as much free memory as twice the largest block that it was given back, and return the rest to
+/// the system, as that of glibc does. Below that limit no list of an ordering is as large; so without this request each
+/// ordering would take all its pages from the system anew.
 ///
 /// A workspace above that limit is taken from free memory only where that is in one piece. So where an ordering with
 /// such a workspace takes no more than is kept, its memory is asked for once more, in two blocks below the limit, which
@@ -85,9 +89,10 @@ fn ask_for_two<A: Allocator + Copy>(alloc: A, words: usize) -> Result<(), AllocE
 pub fn ask_for_most<A: Allocator + Copy>(
     alloc: A,
     n: usize,
+    words: usize,
     iwlen: usize,
 ) -> Result<(), AllocError> {
-    let most = n.saturating_mul(9).saturating_add(iwlen);
+    let most = n.saturating_mul(words).saturating_add(iwlen);
     let _: Vec<Word<i32>, A> = Vec::with_capacity(alloc, most.min(GREATEST_MEASURE))?;
     if iwlen > GREATEST_MEASURE && most.saturating_add(n.saturating_mul(2)) <= GREATEST_KEPT {
         ask_for_two(alloc, most / 2)?;
@@ -145,6 +150,69 @@ fn order_lent<S: Signed, P: Signed, U: Unsigned, A: Allocator>(
     told
 }
 
+/// Lays the lists of a matrix with sorted columns in memory that was asked for before, eliminates its rows in them, and
+/// lists the rows: `head` then has the permutation, and `w` its inverse. `nv` has a place for each row; what it holds
+/// is not read, and the numbers of rows stand in it afterwards. Of the memory `nv` is not used, and stays as it is. The
+/// rest is as `order_within` says.
+fn eliminate_within<J: Index, S: Signed, P: Signed, U: Unsigned, A: Allocator + Copy>(
+    memory: &mut Memory<S, P, U, A>,
+    nv: &mut [Word<S>],
+    a_p: &[J],
+    a_i: &[J],
+    room: usize,
+    choice: &Choice<'_>,
+) -> Told
+    requires some { 0 < length nv.old }
+    requires form { IsColumnForm (pos (length nv.old)) (length nv.old) (map J.value a_p.now) (map J.value a_i.now) }
+    requires sorted { IsSorted (length nv.old) (map J.value a_p.now) (map J.value a_i.now) }
+    requires degrees { AreNeighbourCounts (length nv.old) (map J.value a_p.now) (map J.value a_i.now)
+        memory.old.len.items }
+    requires words { own_start (length nv.old) (map J.value a_p.now) (map J.value a_i.now) (length nv.old)
+        + length nv.old ≤ room }
+    requires room { HasRoomBeside (length nv.old) room memory.old }
+    requires narrow { AreWideEnough S.MOST P.MOST U.MOST (length nv.old) room }
+    requires pointers { slice_index (counts (map J.value a_p.now)) (length nv.old) ≤ U.MOST }
+    requires marks { HasMarks (option_copied choice.now.hold) (length nv.old) }
+    requires flag { 2 ≤ choice.now.flag }
+    ensures orders { (info : Info) → IsEngineAnswer (option_copied choice.now.hold) (length nv.old)
+        choice.now.control.now.dense choice.now.control.now.aggressive (map J.value a_p.now) (map J.value a_i.now)
+        (map pos memory.new.lists.head.items) (map pos memory.new.lists.w.items) info (told_info result info) }
+    ensures long { length memory.new.lists.head.items ≡ length nv.old }
+    ensures packs { result.n_cmp_a ≤ length nv.old }
+    ensures room { (n count : ℕ) → HasRoomBeside n count memory.old → HasRoomBeside n count memory.new }
+    ensures nv { memory.new.nv ≡ memory.old.nv }
+{
+    let size = nv.len();
+    let free = lay(size, a_p, a_i, room, memory);
+    fill_lists(size, &mut memory.words.next, &mut memory.lists);
+    let alloc = *memory.pe.allocator();
+    let mut pe = replace(&mut memory.pe, Vec::new(alloc));
+    let mut len = replace(&mut memory.len, Vec::new(alloc));
+    let mut degree = replace(&mut memory.words.next, Vec::new(alloc));
+    let mut laid = Laid {
+        pe: &mut pe,
+        len: &mut len,
+        degree: &mut degree,
+        free,
+        room,
+        choice,
+    };
+    let told = order_lent(
+        &mut memory.words.iw,
+        &mut laid,
+        &mut memory.lists.e_len,
+        nv,
+        &mut memory.lists.w,
+        &mut memory.lists.head,
+        &mut memory.lists.sides,
+        &mut memory.lists.hash,
+    );
+    memory.pe = pe;
+    memory.len = len;
+    memory.words.next = degree;
+    told
+}
+
 /// Orders the rows of a matrix with sorted columns by elimination in at most `room` words of memory that was asked for
 /// before. It asks for none, and so nothing can be refused.
 ///
@@ -190,34 +258,51 @@ pub fn order_within<I: Index, J: Index, S: Signed, P: Signed, U: Unsigned, A: Al
     ensures room { (n count : ℕ) → HasRoom n count memory.old → HasRoom n count memory.new }
 {
     let size = p.len();
-    let free = lay(size, a_p, a_i, room, memory);
-    fill_lists(size, &mut memory.words.next, &mut memory.lists);
-    let alloc = *memory.pe.allocator();
-    let mut pe = replace(&mut memory.pe, Vec::new(alloc));
-    let mut len = replace(&mut memory.len, Vec::new(alloc));
-    let mut degree = replace(&mut memory.words.next, Vec::new(alloc));
-    let mut laid = Laid {
-        pe: &mut pe,
-        len: &mut len,
-        degree: &mut degree,
-        free,
-        room,
-        choice,
-    };
-    let told = order_lent(
-        &mut memory.words.iw,
-        &mut laid,
-        &mut memory.lists.e_len,
-        &mut memory.lists.nv,
-        &mut memory.lists.w,
-        &mut memory.lists.head,
-        &mut memory.lists.sides,
-        &mut memory.lists.hash,
-    );
-    memory.pe = pe;
-    memory.len = len;
-    memory.words.next = degree;
+    // It is taken out of its place: it is lent beside the rest of the memory.
+    let alloc = *memory.nv.allocator();
+    let mut nv = replace(&mut memory.nv, Vec::new(alloc));
+    fill_words(&mut nv, size, size as isize);
+    let told = eliminate_within(memory, &mut nv, a_p, a_i, room, choice);
+    memory.nv = nv;
     finish(&told, &memory.lists.head, &memory.lists.w, p, p_inv, info);
+}
+
+/// As `order_within`, for a permutation of 32 bits in words of 32 bits: `p` serves as the list of the numbers of rows
+/// until the permutation is written into it. So the memory needs room for all other lists alone.
+///
+/// Source: Amestoy, Davis and Duff 1996 and 2004.
+pub fn order_within_lent<J: Index, P: Signed, U: Unsigned, A: Allocator + Copy>(
+    memory: &mut Memory<i32, P, U, A>,
+    a_p: &[J],
+    a_i: &[J],
+    room: usize,
+    choice: &Choice<'_>,
+    p: &mut [i32],
+    p_inv: &mut [i32],
+    info: &mut Info,
+)
+    requires places { length p_inv.old ≡ length p.old }
+    requires some { 0 < length p.old }
+    requires form { IsColumnForm (pos (length p.old)) (length p.old) (map J.value a_p.now) (map J.value a_i.now) }
+    requires sorted { IsSorted (length p.old) (map J.value a_p.now) (map J.value a_i.now) }
+    requires degrees { AreNeighbourCounts (length p.old) (map J.value a_p.now) (map J.value a_i.now)
+        memory.old.len.items }
+    requires words { own_start (length p.old) (map J.value a_p.now) (map J.value a_i.now) (length p.old) + length p.old
+        ≤ room }
+    requires room { HasRoomBeside (length p.old) room memory.old }
+    requires narrow { AreWideEnough 2147483647 P.MOST U.MOST (length p.old) room }
+    requires pointers { slice_index (counts (map J.value a_p.now)) (length p.old) ≤ U.MOST }
+    requires marks { HasMarks (option_copied choice.now.hold) (length p.old) }
+    requires flag { 2 ≤ choice.now.flag }
+    ensures orders { IsEngineAnswer (option_copied choice.now.hold) (length p.old) choice.now.control.now.dense
+        choice.now.control.now.aggressive (map J.value a_p.now) (map J.value a_i.now) (values p.new)
+        (values p_inv.new) info.old info.new }
+    ensures compactions { info.new.n_cmp_a ≤ length p.old }
+    ensures room { (n count : ℕ) → HasRoomBeside n count memory.old → HasRoomBeside n count memory.new }
+{
+    clear(p);
+    let run = eliminate_within(memory, lend_narrow(p), a_p, a_i, room, choice);
+    finish(&run, &memory.lists.head, &memory.lists.w, p, p_inv, info);
 }
 
 /// As `amd_1`, in words of these widths, and with a first flag of 2 or more: the result is the same with each.
@@ -330,7 +415,7 @@ pub fn amd_1<I: PrimInt, A: Allocator + Copy>(
         hold,
         flag: 2,
     };
-    ask_for_most(alloc, size, iwlen)?;
+    ask_for_most(alloc, size, 9, iwlen)?;
     if holds::<i32, i32, u32>(size, iwlen, 2) {
         return order_in::<I, i32, i32, u32, A>(alloc, n, a_p, a_i, len, iwlen, &choice, info);
     }

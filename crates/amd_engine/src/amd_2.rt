@@ -118,6 +118,7 @@ pub fn amd_2_from<I: Index, S: Signed, P: Signed, U: Unsigned, A: Allocator + Co
 {
     let size = len.len();
     let mut degree = Vec::with_capacity(alloc, size)?;
+    let mut nv = words(alloc, size, size as isize)?;
     let mut lists = Lists::with_room(alloc, size)?;
     let mut p = room_for(alloc, size)?;
     let mut p_inv = room_for(alloc, size)?;
@@ -134,14 +135,14 @@ pub fn amd_2_from<I: Index, S: Signed, P: Signed, U: Unsigned, A: Allocator + Co
         iw,
         &mut laid,
         &mut lists.e_len,
-        &mut lists.nv,
+        &mut nv,
         &mut lists.w,
         &mut lists.head,
         &mut lists.sides,
         &mut lists.hash,
     );
     finish(&told, &lists.head, &lists.w, &mut p, &mut p_inv, info);
-    Ok((lists.nv, p_inv, p, lists.e_len))
+    Ok((nv, p_inv, p, lists.e_len))
 }
 
 /// Room for `count` numbers of 64 bits.

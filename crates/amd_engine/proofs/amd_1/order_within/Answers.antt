@@ -1,117 +1,52 @@
-use Rattle.std.proofs.Common.{arith, ℕ, ℤ, List, map, pos, length, drop, refl, ap, sym, ◌≡◌, ◌∙◌}
-use Rattle.std.proofs.lemmas.List.{take_at, length-replicate}
-use Rattle.std.specs.Option.{option_copied}
+use Rattle.std.proofs.Common.{arith, ap, length, ◌≡◌, ◌∙◌}
+use Rattle.std.proofs.lemmas.List.{length-replicate}
 use Rattle.std.specs.Vec.{vec_capacity}
-use Rattle.amd_model.specs.Quotient.{starting_list}
-use Rattle.amd_model.specs.Input.Pattern.{graph_of, is_pair}
-use Rattle.amd_types.specs.declared.amd.Info.{Info}
-use Rattle.amd_engine.specs.InPlace.{AnswersInPlace, told_info}
-use Rattle.amd_engine.proofs.LentPattern.{LaysPattern, lent_pattern}
-use Rattle.amd_engine.proofs.LentLists.{lent_empty}
 use Rattle.amd_engine.proofs.amd_1.order_within.Given.{Over}
-use Rattle.amd_engine.proofs.amd_1.order_within.Goals.{After-deref_mut-9, After-order_lent-told, After-deref-2}
+use Rattle.amd_engine.proofs.amd_1.order_within.Goals.{After-deref_mut}
 use Rattle.amd_engine.proofs.amd_1.order_within.Goals as goal
 
--- the lent workspace has the lists of the matrix
-lent : (g : Over) (c : After-deref_mut-9 g) → LaysPattern (length c.args.p.now) (map g.J.Index.value c.args.a_p.now)
-    (map g.J.Index.value c.args.a_i.now) c.lay-free.new.memory.words.iw.items c.deref_mut.result.now c.deref_mut-2.result.now
-    c.lay-free.result
-lent g c =
-    let laid = c.lay-free.ensures in
-    lent_pattern (length c.args.p.now) (map g.J.Index.value c.args.a_p.now) (map g.J.Index.value c.args.a_i.now)
-    c.args.memory.now.len.items c.lay-free.result c.requires.degrees laid.degrees laid.laid laid.lists refl
-    (c.deref_mut.ensures.value ∙ ap (λ v. v.items) c.replace-pe.ensures.value)
-    (c.deref_mut-2.ensures.value ∙ ap (λ v. v.items) c.replace-len.ensures.value)
-
-pub fill_lists-requires-clause-room : goal.fill_lists-requires-clause-room
-fill_lists-requires-clause-room g c = let room = c.lay-free.ensures.room _ _ c.requires.room in (room.next, room.lists)
-
-pub order_lent-told-requires-clause-can : goal.order_lent-told-requires-clause-can
-order_lent-told-requires-clause-can g c =
-    let l = lent g (goal.at.order_lent-told-requires-clause-can g c).After-deref_mut-9 in
-    let a_p : List ℤ = map g.J.Index.value c.args.a_p.now in let a_i : List ℤ = map g.J.Index.value c.args.a_i.now in
-    let n : ℕ = length c.args.p.now in let long = c.lay-free.ensures.long.0 in let size = l.size in record {
-      empty = lent_empty _ c.fill_lists.ensures.fresh size c.deref_mut-4.ensures.value c.deref_mut-5.ensures.value
-          (c.deref_mut-3.ensures.value ∙ ap (λ v. v.items) c.replace-degree.ensures.value) c.deref_mut-6.ensures.value
-          c.deref_mut-7.ensures.value c.deref_mut-8.ensures.value c.deref_mut-9.ensures.value;
-      laid = l.laid;
-      room = omega (arith, long, size);
-      graph = (graph_of n a_p a_i, starting_list n (is_pair n a_p a_i), l.lays);
-    }
-
-pub order_lent-told-requires-clause-room : goal.order_lent-told-requires-clause-room
-order_lent-told-requires-clause-room g c = let laid = c.lay-free.ensures in (laid.long.1, (laid.room _ _ c.requires.room).words)
-
--- the engine answers
-answer : (g : Over) (c : After-order_lent-told g) (info : Info) → AnswersInPlace
-    (graph_of (length c.args.p.now) (map g.J.Index.value c.args.a_p.now) (map g.J.Index.value c.args.a_i.now))
-    (starting_list (length c.args.p.now)
-    (is_pair (length c.args.p.now) (map g.J.Index.value c.args.a_p.now) (map g.J.Index.value c.args.a_i.now)))
-    (option_copied c.args.choice.now.hold) (length c.args.p.now) c.args.choice.now.control.now
-    (record {
-      p = map pos c.order_lent-told.new.head;
-      q = map pos c.order_lent-told.new.w;
-      nv = c.order_lent-told.new.nv;
-      e_len = c.order_lent-told.new.e_len;
-      pe = c.order_lent-told.new.laid.pe.now;
-    }) info (told_info c.order_lent-told.result info)
-answer g c info = let l = lent g c.before in rw l.size at (c.order_lent-told.ensures.orders _ _ info l.lays)
-
--- the order and its inverse stand in the heads and in the counters
-record AreListed (g : Over) (c : After-deref-2 g) : Type 0 where
-  head : c.deref.result.now ≡ c.order_lent-told.new.head
-  w : c.deref-2.result.now ≡ c.order_lent-told.new.w
-  rows : length c.order_lent-told.new.head ≡ length c.args.p.now
-
-are_listed : (g : Over) (c : After-deref-2 g) → AreListed g c
-are_listed g c =
-    let n : ℕ = length c.args.p.now in let told = c.order_lent-told in let new = told.new in let l = c.fill_lists.new.lists in
-    let head = told.auto.head ∙ ap length c.deref_mut-7.ensures.value in let w = told.auto.w ∙ ap length c.deref_mut-6.ensures.value in
-    record {
-      head = c.deref.ensures.value ∙ take_at new.head (drop (length new.head) l.head.items) l.head.len (head ∙ sym l.head.ok.0);
-      w = c.deref-2.ensures.value ∙ take_at new.w (drop (length new.w) l.w.items) l.w.len (w ∙ sym l.w.ok.0);
-      rows = head ∙ ap length c.fill_lists.ensures.fresh.heads.0 ∙ length-replicate n n;
-    }
-
-pub finish-requires-clause-room : goal.finish-requires-clause-room
-finish-requires-clause-room g c =
-    let b = are_listed g (goal.at.finish-requires-clause-room g c).After-deref-2 in let rows = ap length b.head ∙ b.rows in
-    (sym rows, c.requires.places ∙ sym rows)
+-- there is a number for each row
+size : (g : Over) (c : After-deref_mut g) → length c.deref_mut.result.now ≡ length c.args.p.now
+size g c = ap length (c.deref_mut.ensures.value ∙ c.fill_words.ensures.items) ∙ length-replicate (length c.args.p.now) _
 
 pub finish-requires-clause-inverse : goal.finish-requires-clause-inverse
-finish-requires-clause-inverse g c =
-    let at = goal.at.finish-requires-clause-inverse g c in let b = are_listed g at.After-deref-2 in
-    rw (b.head, b.w, b.rows) (answer g at.After-order_lent-told c.args.info.now).answer.inverse
+finish-requires-clause-inverse g c = let told = c.eliminate_within-told.ensures in
+    rw (c.deref.ensures.value, c.deref-2.ensures.value, told.long) (told.orders c.args.info.now).inverse
 
 pub finish-requires-clause-fits : goal.finish-requires-clause-fits
 finish-requires-clause-fits g c = λ k l.
-    let b = are_listed g (goal.at.finish-requires-clause-fits g c).After-deref-2 in let rows = ap length b.head ∙ b.rows in
+    let all = size g (goal.at.finish-requires-clause-fits g c).After-deref_mut in
+    let rows = ap length c.deref.ensures.value ∙ c.eliminate_within-told.ensures.long ∙ all in
     c.requires.fits k (omega (arith, l, rows))
 
 pub returns-clause-orders : goal.returns-clause-orders
 returns-clause-orders g c =
-    let at = goal.at.returns-clause-orders g c in let b = are_listed g at.After-deref-2 in let order = c.finish.ensures.order in
-    rw (order.0, order.1, c.finish.ensures.tells, b.head, b.w) (answer g at.After-order_lent-told c.args.info.now).answer
-
-pub returns-clause-compactions : goal.returns-clause-compactions
-returns-clause-compactions g c =
-    let size = (lent g (goal.at.returns-clause-compactions g c).After-deref_mut-9).size in let packs = c.order_lent-told.ensures.packs in
-    rw c.finish.ensures.tells (omega (arith, packs, size))
+    let all = size g (goal.at.returns-clause-orders g c).After-deref_mut in let order = c.finish.ensures.order in
+    rw (order.0, order.1, c.finish.ensures.tells, c.deref.ensures.value, c.deref-2.ensures.value)
+    (rw all at (c.eliminate_within-told.ensures.orders c.args.info.now))
 
 pub returns-clause-room : goal.returns-clause-room
 returns-clause-room g c = λ n count h.
-    let a = c.lay-free.ensures.room n count h in let lists = c.fill_lists.ensures.room n a.lists in record {
-      words = (let x = a.words in let same = c.order_lent-told.ensures.capacity in omega (arith, x, same));
-      next = (let x = a.next in let filled = c.fill_lists.ensures.degree in let out = ap vec_capacity c.replace-degree.ensures.value in
-          omega (arith, x, filled, out));
-      pe = (let x = a.pe in let out = ap vec_capacity c.replace-pe.ensures.value in omega (arith, x, out));
-      len = (let x = a.len in let out = ap vec_capacity c.replace-len.ensures.value in omega (arith, x, out));
-      lists = record {
-        nv = lists.nv;
-        e_len = lists.e_len;
-        w = lists.w;
-        head = lists.head;
-        sides = lists.sides;
-        hash = lists.hash;
+    let b = h.beside in let a = c.eliminate_within-told.ensures.room n count (record {
+      words = b.words;
+      next = b.next;
+      pe = b.pe;
+      len = b.len;
+      lists = b.lists;
+    }) in record {
+      beside = record {
+        words = a.words;
+        next = a.next;
+        pe = a.pe;
+        len = a.len;
+        lists = record {
+          e_len = a.lists.e_len;
+          w = a.lists.w;
+          head = a.lists.head;
+          sides = a.lists.sides;
+          hash = a.lists.hash;
+        };
       };
+      nv = (let x = h.nv in let filled = c.fill_words.ensures.capacity in let out = ap vec_capacity c.replace-nv.ensures.value in
+          omega (arith, x, filled, out));
     }
