@@ -5,10 +5,9 @@ use Rattle.amd_workspace.specs.Lists.{HasRoom, HasRows}
 use Rattle.amd_workspace.specs.declared.lists.Memory.{Memory}
 use Rattle.amd_workspace.specs.declared.lists.Lists.{Lists}
 
-fewer_rows : {S P U A : Type 0} (n m : ℕ) (l : Lists S P U A) → HasRows n l → m ≤ n → HasRows m l
+fewer_rows : {P U A : Type 0} (n m : ℕ) (l : Lists P U A) → HasRows n l → m ≤ n → HasRows m l
 fewer_rows n m l has few =
-    let a = has.nv in let b = has.e_len in let c = has.w in let d = has.head in let e = has.sides in let f = has.hash in record {
-      nv = omega (arith, a, few);
+    let b = has.e_len in let c = has.w in let d = has.head in let e = has.sides in let f = has.hash in record {
       e_len = omega (arith, b, few);
       w = omega (arith, c, few);
       head = omega (arith, d, few);
@@ -20,10 +19,14 @@ fewer_rows n m l has few =
 pub less_room : {S P U A : Type 0} (n count m few : ℕ) (memory : Memory S P U A) → HasRoom n count memory → m ≤ n → few ≤ count →
     HasRoom m few memory
 less_room n count m few memory has rows words =
-    let a = has.words in let b = has.next in let c = has.pe in let d = has.len in record {
-      words = omega (arith, a, words);
-      next = omega (arith, b, rows);
-      pe = omega (arith, c, rows);
-      len = omega (arith, d, rows);
-      lists = fewer_rows n m memory.lists has.lists rows;
+    let other = has.beside in let a = other.words in let b = other.next in let c = other.pe in let d = other.len in let e = has.nv in
+    record {
+      beside = record {
+        words = omega (arith, a, words);
+        next = omega (arith, b, rows);
+        pe = omega (arith, c, rows);
+        len = omega (arith, d, rows);
+        lists = fewer_rows n m memory.lists other.lists rows;
+      };
+      nv = omega (arith, e, rows);
     }

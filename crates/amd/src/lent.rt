@@ -47,21 +47,21 @@ pub fn workspace_bytes(rows: usize, entries: usize) -> Option<usize>
     usize::try_from(width * words).ok()
 }
 
-/// The lists with a place for each row, and that of the buckets, in the first seven parts of a block.
-fn lists_in<S: Signed, P: Signed, U: Unsigned>(
+/// The lists with a place for each row but the numbers of rows, and that of the buckets, in the first six parts of a
+/// block.
+fn lists_in<P: Signed, U: Unsigned>(
     block: Piece,
     rows: usize,
     width: usize,
     part: usize,
-) -> (Lists<S, P, U, Lodged>, Piece)
-    requires part { IsWhole part × (7 * part ≤ block.size) }
+) -> (Lists<P, U, Lodged>, Piece)
+    requires part { IsWhole part × (6 * part ≤ block.size) }
     requires rows { (rows < 2 ^ 63) × (rows * width ≤ part) }
-    requires types { HaveWidth (word_row S.row S.Signed) (word_row P.row P.Signed) (cell_row U.row U.Unsigned)
+    requires types { HaveWidth (word_row P.row P.Signed) (word_row P.row P.Signed) (cell_row U.row U.Unsigned)
         (sides_row U.row U.Unsigned) width }
     ensures room { HasRows rows result.0 }
-    ensures rest { 7 * part + result.1.size ≡ block.size }
+    ensures rest { 6 * part + result.1.size ≡ block.size }
 {
-    let (nv, block) = block.split_list(rows, part);
     let (e_len, block) = block.split_list(rows, part);
     let (w, block) = block.split_list(rows, part);
     let (head, block) = block.split_list(rows, part);
@@ -69,7 +69,6 @@ fn lists_in<S: Signed, P: Signed, U: Unsigned>(
     let (hash, block) = block.split_list(rows, part);
     (
         Lists {
-            nv,
             e_len,
             w,
             head,
@@ -101,12 +100,14 @@ fn memory_in<S: Signed, P: Signed, U: Unsigned>(
     let (next, block) = block.split_list(rows, part);
     let (pe, block) = block.split_list(rows, part);
     let (len, block) = block.split_list(rows, part);
+    let (nv, block) = block.split_list(rows, part);
     let (lists, block) = lists_in(block, rows, width, part);
     (
         Memory {
             words: Words { next, iw },
             pe,
             len,
+            nv,
             lists,
         },
         block,

@@ -11,6 +11,7 @@ mod entrance;
 mod into;
 pub mod laws;
 mod lent;
+mod narrow;
 mod once;
 mod refusal;
 mod widths;
@@ -31,6 +32,7 @@ pub use amd_types::amd::{Control, Info, Status};
 pub use block::order_in_block;
 pub use into::order_into;
 pub use lent::workspace_bytes;
+pub use narrow::order_into_narrow;
 pub use refusal::Refusal;
 pub use workspace::Workspace;
 /// Internal: how the crates over this one read a caller's numbers. It is no part of what the ordering promises.

@@ -149,7 +149,7 @@ pub fn order_once<I: Index, A: Allocator + Copy>(
     let Some(most) = most_words(size, entries) else {
         return Err(AllocError);
     };
-    ask_for_most(alloc, size, entries + entries / 5 + size)?;
+    ask_for_most(alloc, size, 9, entries + entries / 5 + size)?;
     if holds::<i32, i32, u32>(size, most, 2) {
         return order_in::<I, i32, i32, i32, u32, A>(
             alloc, a_p, a_i, jumbled, control, hold, p, p_inv,

@@ -10,7 +10,7 @@ ghost use Rattle.amd_rounds.specs.Laid.{AreWideEnough};
 ghost use Rattle.amd_types.specs.Counts.{counts};
 ghost use Rattle.amd_input.specs.Degrees.{AreDegrees};
 ghost use Rattle.amd_input.specs.PatternFigures.{HasPatternFigures};
-ghost use Rattle.amd_workspace.specs.Lists.{HasRoom};
+ghost use Rattle.amd_workspace.specs.Lists.{HasRoom, HasRoomBeside};
 ghost use Rattle.amd.specs.Answers.{OrdersMatrix};
 ghost use Rattle.amd.specs.Within.{IsGiven};
 
@@ -27,7 +27,7 @@ use std::mem::replace;
 /// Counts the degree of each of `size` rows into the memory, and answers their sum; writes the figures of the pattern.
 ///
 /// The input is a column form with `size` rows and columns, each of which is strictly ascending. The memory has room
-/// for so many rows, and keeps it. A cell has room for `size` and for the number of entries.
+/// for so many rows, but maybe none for the numbers of rows, and keeps it. A cell has room for `size` and for the number of entries.
 ///
 /// Source: AMD user guide; Amestoy, Davis and Duff 2004.
 pub fn count_degrees<J: Index, S: Signed, P: Signed, U: Unsigned, A: Allocator + Copy>(
@@ -39,7 +39,7 @@ pub fn count_degrees<J: Index, S: Signed, P: Signed, U: Unsigned, A: Allocator +
 ) -> usize
     requires form { IsColumnForm (pos size) size (map J.value a_p.now) (map J.value a_i.now) }
     requires sorted { IsSorted size (map J.value a_p.now) (map J.value a_i.now) }
-    requires room { HasRoom size 0 memory.old }
+    requires room { HasRoomBeside size 0 memory.old }
     requires fits { (size ≤ U.MOST) × (slice_index (counts (map J.value a_p.now)) size ≤ U.MOST) }
     requires small { 2 * slice_index (counts (map J.value a_p.now)) size < 2 ^ 64 }
     ensures degrees { AreDegrees size (map J.value a_p.now) (map J.value a_i.now) result memory.new.len.items }
@@ -47,6 +47,7 @@ pub fn count_degrees<J: Index, S: Signed, P: Signed, U: Unsigned, A: Allocator +
     ensures figures { HasPatternFigures size (map J.value a_p.now) (map J.value a_i.now) info.new }
     ensures status { info.new.status ≡ info.old.status }
     ensures room { (n count : ℕ) → HasRoom n count memory.old → HasRoom n count memory.new }
+    ensures beside { (n count : ℕ) → HasRoomBeside n count memory.old → HasRoomBeside n count memory.new }
 {
     let alloc = *memory.len.allocator();
     let degrees = replace(&mut memory.len, Vec::new(alloc));

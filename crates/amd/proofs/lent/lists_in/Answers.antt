@@ -11,7 +11,6 @@ split_list-sides-requires-clause-room g c = (
 
 pub returns-clause-room : goal.returns-clause-room
 returns-clause-room g c = record {
-  nv = le_of_eq (sym c.split_list-nv.ensures.list.1);
   e_len = le_of_eq (sym c.split_list-e_len.ensures.list.1);
   w = le_of_eq (sym c.split_list-w.ensures.list.1);
   head = le_of_eq (sym c.split_list-head.ensures.list.1);

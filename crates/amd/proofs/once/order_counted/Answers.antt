@@ -5,9 +5,12 @@ pub order_sorted-requires-clause-room : goal.order_sorted-requires-clause-room
 order_sorted-requires-clause-room g c =
     let has = c.count_degrees-nzaat.ensures.room (length c.args.p.now) 0 c.requires.room in
     record {
-      words = c.in_ok-memory.ensures.capacity;
-      next = has.next;
-      pe = has.pe;
-      len = has.len;
-      lists = has.lists;
+      beside = record {
+        words = c.in_ok-memory.ensures.capacity;
+        next = has.beside.next;
+        pe = has.beside.pe;
+        len = has.beside.len;
+        lists = has.beside.lists;
+      };
+      nv = has.nv;
     }

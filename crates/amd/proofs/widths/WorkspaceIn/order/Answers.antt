@@ -22,8 +22,8 @@ taken : (g : Over) (c : After-deref-2 g) → let old = c.args.self.now.memory in
       words = record { next = new.next; iw = old.words.iw };
       pe = old.pe;
       len = old.len;
+      nv = old.nv;
       lists = record {
-        nv = old.lists.nv;
         e_len = old.lists.e_len;
         w = new.marks;
         head = old.lists.head;
@@ -32,20 +32,22 @@ taken : (g : Over) (c : After-deref-2 g) → let old = c.args.self.now.memory in
       };
     }
 taken g c =
-    let r = c.args.self.now.sized.memory in let e = c.transpose_within.ensures in
+    let room = c.args.self.now.sized.memory in let r = room.beside in let e = c.transpose_within.ensures in
     let marks = e.scratch.0 in let next = e.scratch.1 in let w = r.lists.w in let ends = r.next in record {
-      words = r.words;
-      next = omega (arith, ends, next);
-      pe = r.pe;
-      len = r.len;
-      lists = record {
-        nv = r.lists.nv;
-        e_len = r.lists.e_len;
-        w = omega (arith, w, marks);
-        head = r.lists.head;
-        sides = r.lists.sides;
-        hash = r.lists.hash;
+      beside = record {
+        words = r.words;
+        next = omega (arith, ends, next);
+        pe = r.pe;
+        len = r.len;
+        lists = record {
+          e_len = r.lists.e_len;
+          w = omega (arith, w, marks);
+          head = r.lists.head;
+          sides = r.lists.sides;
+          hash = r.lists.hash;
+        };
       };
+      nv = room.nv;
     }
 
 pub invariant_of-self : goal.invariant_of-self

@@ -1,0 +1,7 @@
+use Rattle.std.proofs.Common.{arith, length}
+use Rattle.amd_edges.proofs.Forms.{pointer_read}
+use Rattle.amd.proofs.narrow.order_lending.Goals as goal
+
+pub count_at-entries-requires-clause-fits : goal.count_at-entries-requires-clause-fits
+count_at-entries-requires-clause-fits g c = (pointer_read (λ x. x) c.args.a_p.now c.args.a_i.now (length c.args.p.now)
+    c.requires.given.form (length c.args.p.now) (omega arith) (omega (arith, c.well_formed))).1
