@@ -26,6 +26,7 @@ use amd_types::dense::dense_threshold;
 use amd_types::index::Index;
 use amd_types::internal::{count_at, known_count, to_count};
 use amd_words::{Signed, Unsigned};
+use amd_workspace::filling::fill_words;
 use amd_workspace::laying::lay;
 use amd_workspace::lists::Memory;
 use anyhow::{Context, Result, bail};
@@ -150,13 +151,14 @@ fn time_rounds<R: time::Clock + Alloc<A = Global>, I: Index, S: Signed, P: Signe
     let threshold = dense_threshold(size, choice.control);
     let mut p = room_for(rt.alloc(), size)?;
     let mut p_inv = room_for(rt.alloc(), size)?;
+    fill_words(&mut memory.nv, size, size as isize);
     fill_lists(size, &mut memory.words.next, &mut memory.lists);
     clock.end(rt, "lists");
     let mut rows = RowLists {
         pe: &mut memory.pe,
         len: &mut memory.len,
         e_len: &mut memory.lists.e_len,
-        nv: &mut memory.lists.nv,
+        nv: &mut memory.nv,
         degree: &mut memory.words.next,
         w: &mut memory.lists.w,
         head: &mut memory.lists.head,

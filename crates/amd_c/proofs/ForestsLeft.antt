@@ -33,7 +33,8 @@ use Rattle.amd_types.specs.Links.{named}
 use Rattle.amd_types.specs.declared.amd.Status.{Status}
 use Rattle.amd_c.specs.Forests.{IsSoundForest, AreParents, StaysInside, HasNoCycle, LeavesPostorder, PostorderInto, above_at}
 use Rattle.amd_calls.specs.Numbers.{number_of}
-use Rattle.amd_calls.proofs.Leaving.{values, answer_is}
+use Rattle.amd_engine.specs.InPlace.{values}
+use Rattle.amd_calls.proofs.Leaving.{answer_is}
 use Rattle.amd_c.proofs.WalksUp.{some_is, some_none, above_within}
 
 named_is : (z : ℤ) (p : ℕ) → named z ≡ Some p → z ≡ pos p

@@ -6,8 +6,9 @@ use Rattle.amd_factor.specs.declared.factor.Fault.{Fault}
 use Rattle.amd_calls.specs.Columns.{number_of_end}
 use Rattle.amd_c.specs.Patterns.{Counted, counted, LeavesDegrees, DegreesInto, RowArrays, row_arrays, LeavesRowForm, RowFormInto}
 use Rattle.amd_calls.specs.declared.records.Statistics.{Statistics}
-use Rattle.amd_calls.proofs.Leaving.{matrix_of_values, memory_renamed, values}
+use Rattle.amd_calls.proofs.Leaving.{matrix_of_values, memory_renamed}
 use Rattle.amd_calls.proofs.ColumnsLeft.{end_is}
+use Rattle.amd_engine.specs.InPlace.{values}
 
 -- what a call leaves in the values is what it leaves in the integers
 pub degrees_into : (m n : ℤ) (a_p a_i xs ys : List ℤ) (before after : Statistics) (outcome : Result (Unit {0}) Fault) (number : ℤ) →

@@ -16,7 +16,8 @@ use Rattle.amd_c.specs.Supernodal.{
 }
 use Rattle.amd_calls.specs.declared.records.SupernodeSizes.{SupernodeSizes}
 use Rattle.amd_calls.proofs.ColumnsLeft.{end_is}
-use Rattle.amd_calls.proofs.Leaving.{memory_renamed, order_of_values, values}
+use Rattle.amd_calls.proofs.Leaving.{memory_renamed, order_of_values}
+use Rattle.amd_engine.specs.InPlace.{values}
 
 blocks_of_values : (first ptr rows parent : List ℤ) →
     blocks (values first) (values ptr) (values rows) (values parent) ≡ blocks first ptr rows parent

@@ -21,7 +21,7 @@ use amd::valid::valid;
 use amd_calls::counting::counts_into;
 use amd_calls::factors::{columns_into, number_of_end};
 use amd_calls::records::{Needs, Parameters, Statistics, SupernodeSizes, number_of};
-use amd_calls::writing::order_into;
+use amd_calls::writing::order_into_narrow;
 use std::alloc::Global;
 
 /// Orders a matrix, as `order` of the crate `amd`, and returns the number of the status.
@@ -50,7 +50,7 @@ pub extern "C" fn rimopaku_order_i32(
     ensures { OrdersInto None n parameters.now a_p.now a_i.now (memory p.old p_inv.old statistics.old)
         (memory p.new p_inv.new statistics.new) result }
 {
-    order_into(alloc, n, a_p, a_i, parameters, None, p, p_inv, statistics)
+    order_into_narrow(alloc, n, a_p, a_i, parameters, None, p, p_inv, statistics)
 }
 
 /// Orders a matrix with rows held last, as `order_holding` of the crate `amd`, and returns the number of the status.
@@ -83,7 +83,7 @@ pub extern "C" fn rimopaku_order_holding_i32(
         (memory p.new p_inv.new statistics.new) result }
 {
     let hold = Some(hold);
-    order_into(alloc, n, a_p, a_i, parameters, hold, p, p_inv, statistics)
+    order_into_narrow(alloc, n, a_p, a_i, parameters, hold, p, p_inv, statistics)
 }
 
 /// The number of the status of an input with `n_row` rows and `n_col` columns, as `valid` of the crate `amd`.

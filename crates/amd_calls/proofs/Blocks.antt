@@ -10,7 +10,8 @@ use Rattle.amd.specs.Within.{IsCall, IsIntoRefusal}
 use Rattle.amd_calls.specs.declared.records.Parameters.{Parameters}
 use Rattle.amd_calls.specs.declared.records.Statistics.{Statistics}
 use Rattle.amd_calls.specs.Calls.{HasPlaces, Leaves, Memory, OrdersWithin, Refuses, TellsBlock, memory}
-use Rattle.amd_calls.proofs.Leaving.{answer_is, leaves_values, matrix_of_values, not_without_memory, values}
+use Rattle.amd_calls.proofs.Leaving.{answer_is, leaves_values, matrix_of_values, not_without_memory}
+use Rattle.amd_engine.specs.InPlace.{values}
 
 -- places for n rows make a call, where its input is one
 called : (hold : Option (List Bool)) (n : ℤ) (ap' ai p q : List ℤ) → HasPlaces n p q → (n ≢ pos 0 → IsInputHolding hold n ap' ai) →

@@ -5,7 +5,8 @@ use Rattle.std.proofs.lemmas.List.{drop-map, map-append, map-id}
 use Rattle.amd_factor.specs.declared.factor.Fault.{Fault}
 use Rattle.amd_factor.specs.declared.factor.Fault.TheVariants.{NotColumnForm, NotPermutation, RoomTooSmall, OutOfMemory}
 use Rattle.amd_calls.specs.Columns.{Arrays, arrays, number_of_end, LeavesColumns, ColumnsInto}
-use Rattle.amd_calls.proofs.Leaving.{memory_renamed, order_of_values, values}
+use Rattle.amd_calls.proofs.Leaving.{memory_renamed, order_of_values}
+use Rattle.amd_engine.specs.InPlace.{values}
 
 -- the number of an outcome has 32 bits
 number_comes_back : (outcome : Result (Unit {0}) Fault) → to_z w32 (of_z w32 (number_of_end outcome)) ≡ number_of_end outcome

@@ -7,7 +7,8 @@ use Rattle.amd_calls.specs.Columns.{number_of_end}
 use Rattle.amd_calls.specs.Counting.{Tallies, tallies, LeavesCounts, CountsInto}
 use Rattle.amd_calls.specs.declared.records.Needs.{Needs}
 use Rattle.amd_calls.proofs.ColumnsLeft.{end_is}
-use Rattle.amd_calls.proofs.Leaving.{memory_renamed, order_of_values, values}
+use Rattle.amd_calls.proofs.Leaving.{memory_renamed, order_of_values}
+use Rattle.amd_engine.specs.InPlace.{values}
 
 tallies_of_values : (sizes parent : List ℤ) (needs : Needs) → tallies (values sizes) (values parent) needs ≡ tallies sizes parent needs
 tallies_of_values sizes parent needs =

@@ -8,6 +8,7 @@ use Rattle.amd_types.specs.declared.amd.Info.{Info}
 use Rattle.amd_types.specs.declared.amd.Status.{Status}
 use Rattle.amd_types.specs.declared.amd.Status.TheVariants.{OK, Invalid, OkButJumbled, OutOfMemory}
 use Rattle.amd.specs.Answers.{IsOrderingHolding}
+use Rattle.amd_engine.specs.InPlace.{values}
 use Rattle.amd_calls.specs.declared.records.Parameters.{Parameters}
 use Rattle.amd_calls.specs.declared.records.Statistics.{Statistics}
 use Rattle.amd_calls.specs.Numbers.{number_of, statistics_of}
@@ -62,10 +63,6 @@ number_comes_back Invalid = refl
 
 pub answer_is : (status : Status) (number : ℤ) → number ≡ number_of status → to_z w32 (of_z w32 number) ≡ number_of status
 answer_is status number is = ap (λ x. to_z w32 (of_z w32 x)) is ∙ number_comes_back status
-
--- the values of a list of integers of C
-abbrev pub values : List ℤ → List ℤ
-values = map (λ x. x)
 
 -- what holds of the values of a matrix holds of its integers
 pub matrix_of_values : (H : ℤ → List ℤ → List ℤ → Type 0) (m n : ℤ) (a_p a_i : List ℤ) → m ≡ n →

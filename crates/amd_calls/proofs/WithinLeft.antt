@@ -24,7 +24,8 @@ use Rattle.amd_calls.specs.declared.records.Needs.{Needs}
 use Rattle.amd_calls.proofs.ColumnsLeft.{arrays_of_values, end_is}
 use Rattle.amd_calls.proofs.CountsLeft.{left_counts}
 use Rattle.amd_calls.proofs.Fits.{needed-are}
-use Rattle.amd_calls.proofs.Leaving.{matrix_of_values, memory_renamed, order_of_values, values}
+use Rattle.amd_calls.proofs.Leaving.{matrix_of_values, memory_renamed, order_of_values}
+use Rattle.amd_engine.specs.InPlace.{values}
 
 -- no rows, no counts
 pub no-counts : (z : ℤ) (ap' ai p xs ys : List ℤ) (need : Need) (told : Needs) → pos 0 ≡ z → p ≡ [] → HasPlaces z xs ys →

@@ -4,6 +4,7 @@
 ghost use Rattle.std.specs.Prelude.{◌↔◌, IsTrue, map};
 ghost use Rattle.std.specs.Option.{option_copied};
 ghost use Rattle.amd_calls.specs.Calls.{HasPlaces, OrdersInto, memory};
+ghost use Rattle.amd_engine.specs.InPlace.{values};
 
 use crate::records::{Parameters, Statistics, number_of, statistics_of};
 use amd::Control;
@@ -59,6 +60,42 @@ pub fn order_into<I: PrimInt, A: Allocator + Copy>(
         aggressive: parameters.aggressive,
     };
     match amd::order_into(alloc, n, a_p, a_i, &control, hold, p, p_inv) {
+        Ok(info) => {
+            *statistics = statistics_of(&info);
+            number_of(&info.status)
+        }
+        Err(status) => number_of(&status),
+    }
+}
+
+/// As `order_into`, for numbers of 32 bits. It asks for one list less where words of 32 bits hold all numbers: `p` then
+/// serves in its place, and the permutation is written into it at the end.
+///
+/// # Errors
+///
+/// As `order_into`.
+///
+/// Source: AMD user guide; Amestoy, Davis and Duff 1996 and 2004.
+pub fn order_into_narrow<A: Allocator + Copy>(
+    alloc: A,
+    n: i32,
+    a_p: &[i32],
+    a_i: &[i32],
+    parameters: &Parameters,
+    hold: Option<&[bool]>,
+    p: &mut [i32],
+    p_inv: &mut [i32],
+    statistics: &mut Statistics,
+) -> i32
+    ensures { OrdersInto (option_copied hold.entry) n parameters.now (values a_p.now) (values a_i.now)
+        (memory (values p.old) (values p_inv.old) statistics.old)
+        (memory (values p.new) (values p_inv.new) statistics.new) result }
+{
+    let control = Control {
+        dense: parameters.dense,
+        aggressive: parameters.aggressive,
+    };
+    match amd::order_into_narrow(alloc, n, a_p, a_i, &control, hold, p, p_inv) {
         Ok(info) => {
             *statistics = statistics_of(&info);
             number_of(&info.status)

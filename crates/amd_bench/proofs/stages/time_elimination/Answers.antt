@@ -34,4 +34,7 @@ time_rounds-requires-clause-graph g c =
     )
 
 pub time_rounds-requires-clause-room : goal.time_rounds-requires-clause-room
-time_rounds-requires-clause-room g c = c.lay-free.ensures.room _ _ c.in_ok-memory.ensures.room
+time_rounds-requires-clause-room g c = let room = c.in_ok-memory.ensures.room in record {
+  beside = c.lay-free.ensures.room _ _ room.beside;
+  nv = rw c.lay-free.ensures.nv room.nv;
+}

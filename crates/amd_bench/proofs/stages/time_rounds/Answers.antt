@@ -1,5 +1,6 @@
 use Rattle.std.proofs.Common.{arith, length, ap, sym, ◌≡◌, ◌<◌, ◌∙◌}
 use Rattle.std.proofs.lemmas.Int.{ints}
+use Rattle.std.proofs.lemmas.List.{length-replicate}
 use Rattle.amd_types.proofs.Fitting.{fits_below}
 use Rattle.amd_engine.proofs.LentLists.{lent_empty}
 use Rattle.amd_bench.proofs.stages.time_rounds.Given.{Over}
@@ -7,13 +8,14 @@ use Rattle.amd_bench.proofs.stages.time_rounds.Goals.{After-run_growing-told}
 use Rattle.amd_bench.proofs.stages.time_rounds.Goals as goal
 
 pub fill_lists-requires-clause-room : goal.fill_lists-requires-clause-room
-fill_lists-requires-clause-room g c = let room = c.requires.room in (room.next, room.lists)
+fill_lists-requires-clause-room g c = let room = c.requires.room.beside in (room.next, room.lists)
 
 pub run_growing-told-requires-clause-can : goal.run_growing-told-requires-clause-can
 run_growing-told-requires-clause-can g c =
     let r = c.requires in let starts = c.deref_mut.ensures.value in let counts = c.deref_mut-2.ensures.value in
     let size = ap length counts ∙ r.size.1 in let words = r.words.0 in record {
-      empty = lent_empty _ c.fill_lists.ensures.fresh size c.deref_mut-3.ensures.value c.deref_mut-4.ensures.value
+      empty = lent_empty _ c.fill_lists.ensures.fresh size c.deref_mut-3.ensures.value
+          (ap length (c.deref_mut-4.ensures.value ∙ c.fill_words.ensures.items) ∙ length-replicate c.args.size _)
           c.deref_mut-5.ensures.value c.deref_mut-6.ensures.value c.deref_mut-7.ensures.value c.deref_mut-8.ensures.value
           c.deref_mut-9.ensures.value;
       laid = rw (starts, counts, r.size.1) r.laid;
@@ -25,7 +27,7 @@ pub run_growing-told-requires-clause-narrow : goal.run_growing-told-requires-cla
 run_growing-told-requires-clause-narrow g c = rw (c.deref_mut-2.ensures.value, c.requires.size.1) c.requires.narrow
 
 pub run_growing-told-requires-clause-room : goal.run_growing-told-requires-clause-room
-run_growing-told-requires-clause-room g c = (c.requires.words.1, c.requires.room.words)
+run_growing-told-requires-clause-room g c = (c.requires.words.1, c.requires.room.beside.words)
 
 -- there is a place for each row
 long : (g : Over) (c : After-run_growing-told g) → length c.run_growing-told.new.rows.pe.now ≡ c.args.size

@@ -7,6 +7,6 @@ use Rattle.amd_c.proofs.int32.rimopaku_order_i32.Goals as goal
 pub returns : goal.returns
 returns c =
     let a = c.args in
-    let order = c.order_into in
+    let order = c.order_into_narrow in
     orders_into None _ a.n a.parameters.now a.a_p.now a.a_i.now a.p.now a.p_inv.now order.new.p order.new.p_inv a.statistics.now
     order.new.statistics _ (to_z-of_z w32 a.n c.ranges.n) order.ensures

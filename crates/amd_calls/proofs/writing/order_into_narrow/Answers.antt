@@ -1,0 +1,33 @@
+-- What stands in the caller's arrays is what the ordering wrote.
+use Rattle.std.proofs.Common.{rules, SFits, w32}
+use Rattle.std.specs.Option.{option_copied}
+use Rattle.amd_engine.specs.InPlace.{values}
+use Rattle.amd_calls.specs.Calls.{memory}
+use Rattle.amd_calls.proofs.Blocks.{refuses_into}
+use Rattle.amd_calls.proofs.Leaving.{answer_is, leaves_chosen}
+use Rattle.amd_calls.proofs.writing.order_into_narrow.Goals as goal
+
+pub returns-in-Ok : goal.returns-in-Ok
+returns-in-Ok g c =
+    let a = c.args in let new = c.order_into_narrow.new in let info = c.in-Ok.info in
+    let fits : SFits w32 a.parameters.now.dense = search rules in
+    record {
+      status = info.status;
+      answer = answer_is info.status _ c.number_of.ensures;
+      left = leaves_chosen (option_copied a.hold) a.n a.parameters.now (values a.a_p.now) (values a.a_i.now)
+          (memory (values a.p.now) (values a.p_inv.now) a.statistics.now)
+          (memory (values new.p) (values new.p_inv) c.statistics_of.result) info fits c.in-Ok.ensures.ordering
+          c.statistics_of.ensures;
+    }
+
+pub returns-in-Err : goal.returns-in-Err
+returns-in-Err g c =
+    let a = c.args in let new = c.order_into_narrow.new in let told = a.statistics.now in
+    let e = c.in-Err.ensures in let status = c.in-Err.status in
+    record {
+      status = status;
+      answer = answer_is status _ c.number_of-in-Err.ensures;
+      left = refuses_into (option_copied a.hold) a.n a.parameters.now (values a.a_p.now) (values a.a_i.now)
+          (memory (values a.p.now) (values a.p_inv.now) told) (memory (values new.p) (values new.p_inv) told) status
+          e.refusal (λ i. memory (values (e.kept.0 i)) (values (e.kept.1 i)) told);
+    }
