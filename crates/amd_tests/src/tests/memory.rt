@@ -7,7 +7,7 @@ use crate::tests::worked::{DENSE_ROW, OrderingCase, check_answer, with_dense};
 use amd::aat::aat;
 use amd::preprocess::preprocess;
 use amd::valid::valid;
-use amd::{Control, Info, Status, order, order_holding, order_into};
+use amd::{Control, Info, Status, order, order_holding, order_into, order_into_narrow};
 use amd_testing::check;
 use amd_testing::choices::CHOICES;
 use amd_testing::inputs::path;
@@ -132,6 +132,40 @@ fn each_request_of_order(rt: HostRuntime) {
         check_order(&rt, rt.alloc(), &Control::default(), case);
     }
     check_order(&rt, rt.alloc(), &with_dense(0), &DENSE_ROW);
+}
+
+/// What stands in lists of 32 bits that nothing was written to.
+const UNTOUCHED_NARROW: [i32; 5] = [-7; 5];
+
+/// Orders a matrix with five rows in 32 bits into lists of the caller, which are as before where there is no answer, and
+/// says whether there was one.
+fn orders_narrow(rt: &impl Abort, heap: &Refusing<Global>, a_i: &[i32; 14]) -> bool {
+    let (mut p, mut p_inv) = (UNTOUCHED_NARROW, UNTOUCHED_NARROW);
+    let a_p = [0, 2, 6, 10, 12, 14];
+    let control = Control::default();
+    match order_into_narrow(heap, 5, &a_p, a_i, &control, None, &mut p, &mut p_inv) {
+        Ok(info) => {
+            check!(rt; p == [0, 3, 2, 4, 1] && p_inv == [0, 4, 2, 1, 3] && info.lnz == 5);
+            true
+        }
+        Err(status) => {
+            check!(rt; status == Status::OutOfMemory);
+            check!(rt; p == UNTOUCHED_NARROW && p_inv == UNTOUCHED_NARROW);
+            false
+        }
+    }
+}
+
+/// In 32 bits the place of the permutation serves as a list: three requests less than those of `order`, also where the
+/// columns are jumbled.
+#[test]
+fn each_request_in_32_bits(rt: HostRuntime) {
+    let sorted = [0, 1, 0, 1, 2, 4, 1, 2, 3, 4, 2, 3, 1, 4];
+    let refusals = each_refused(rt.alloc(), |heap| orders_narrow(&rt, heap, &sorted));
+    check_requests(&rt, "sorted", refusals, 10);
+    let jumbled = [1, 0, 4, 1, 2, 0, 1, 2, 3, 4, 2, 3, 1, 4];
+    let refusals = each_refused(rt.alloc(), |heap| orders_narrow(&rt, heap, &jumbled));
+    check_requests(&rt, "jumbled", refusals, 12);
 }
 
 /// A matrix, and how many requests of each size in bytes its ordering makes.
