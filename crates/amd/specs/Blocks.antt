@@ -4,7 +4,7 @@ use Rattle.std.specs.Prelude.{slice_index, unsigned_abs}
 use Rattle.std.specs.Mem.{type_size}
 use Rattle.std.specs.Vec.{vec_capacity}
 use denote.RattleType.{RattleType}
-use Rattle.amd_types.specs.Counts.{counts}
+use Rattle.amd_types.specs.Naturals.{naturals}
 use Rattle.amd_merging.specs.Merging.{bucket_count}
 use Rattle.amd_workspace.specs.declared.lists.Memory.{Memory}
 use Rattle.amd.specs.Within.{IsCall}
@@ -47,7 +47,7 @@ pub record HaveWidth (W P C S : RattleType) (width : ℕ) : Type 0 where
 
 -- a block of so many bytes is enough for a matrix with n rows and these pointers
 abbrev pub FitsInBlock : ℤ → List ℤ → ℕ → Type 0
-FitsInBlock n ap size = n ≢ pos 0 → workspace_bytes (unsigned_abs n) (slice_index (counts ap) (unsigned_abs n)) ≤ size
+FitsInBlock n ap size = n ≢ pos 0 → workspace_bytes (unsigned_abs n) (slice_index (naturals ap) (unsigned_abs n)) ≤ size
 
 -- why nothing is ordered in a block of so many bytes
 abbrev pub IsBlockRefusal : Option (List Bool) → ℤ → List ℤ → List ℤ → List ℤ → List ℤ → ℕ → Refusal → Type 0

@@ -7,7 +7,7 @@ use Rattle.amd_model.specs.Input.Columns.{IsColumnForm, IsSorted}
 use Rattle.amd_model.specs.Input.Held.{HasMarks}
 use Rattle.amd_model.specs.Input.Pattern.{is_pair}
 use Rattle.amd_rounds.specs.Laid.{AreWideEnough}
-use Rattle.amd_types.specs.Counts.{counts}
+use Rattle.amd_types.specs.Naturals.{naturals}
 use Rattle.amd_workspace.specs.Lists.{HasRoom}
 use Rattle.amd_workspace.specs.declared.lists.Memory.{Memory}
 use Rattle.amd.specs.Answers.{IsInputHolding}
@@ -52,7 +52,7 @@ pub record IsSized {S P U A : Type 0} (word place cell rows entries : ℕ) (m : 
 
 -- a matrix with n rows and these pointers has at most so many rows and entries
 abbrev pub FitsIn : ℤ → List ℤ → ℕ → ℕ → Type 0
-FitsIn n ap rows entries = n ≢ pos 0 → (unsigned_abs n ≤ rows) × (slice_index (counts ap) (unsigned_abs n) ≤ entries)
+FitsIn n ap rows entries = n ≢ pos 0 → (unsigned_abs n ≤ rows) × (slice_index (naturals ap) (unsigned_abs n) ≤ entries)
 
 -- a call is valid: n is 0 or the input is a column form, with a mark for each row where there are marks; and there are n
 -- places for the permutation and for its inverse

@@ -8,7 +8,7 @@ ghost use Rattle.std.specs.Option.{option_copied};
 ghost use Rattle.amd_model.specs.Input.Pattern.{is_pair};
 ghost use Rattle.amd_engine.specs.InPlace.{values};
 ghost use Rattle.amd_rounds.specs.Laid.{AreWideEnough};
-ghost use Rattle.amd_types.specs.Counts.{counts};
+ghost use Rattle.amd_types.specs.Naturals.{naturals};
 ghost use Rattle.amd_workspace.specs.Lists.{HasRoomBeside};
 ghost use Rattle.amd.specs.Answers.{IsOrderingHolding, OrdersMatrix};
 ghost use Rattle.amd.specs.Within.{IsGiven, IsIntoRefusal, pairs_by};
@@ -45,8 +45,8 @@ fn order_counted<J: Index, A: Allocator + Copy>(
         (length p_inv.old) }
     requires room { HasRoomBeside (length p.old) 0 memory.old }
     requires narrow { AreWideEnough 2147483647 2147483647 4294967295 (length p.old)
-        (2 * slice_index (counts (map J.value a_p.now)) (length p.old)
-        + 2 * slice_index (counts (map J.value a_p.now)) (length p.old) / 5 + length p.old) }
+        (2 * slice_index (naturals (map J.value a_p.now)) (length p.old)
+        + 2 * slice_index (naturals (map J.value a_p.now)) (length p.old) / 5 + length p.old) }
     ensures orders { IfOk result (OrdersMatrix (option_copied hold.entry) (length p.old) control.now.dense
         control.now.aggressive (is_pair (length p.old) (map J.value a_p.now) (map J.value a_i.now))
         (map J.value a_p.now) (map J.value a_i.now) (values p.new) (values p_inv.new)) }
@@ -84,8 +84,8 @@ fn order_in<A: Allocator + Copy>(
     requires given { IsGiven (option_copied hold) jumbled (values a_p.now) (values a_i.now) (length p.old)
         (length p_inv.old) }
     requires narrow { AreWideEnough 2147483647 2147483647 4294967295 (length p.old)
-        (2 * slice_index (counts (values a_p.now)) (length p.old)
-        + 2 * slice_index (counts (values a_p.now)) (length p.old) / 5 + length p.old) }
+        (2 * slice_index (naturals (values a_p.now)) (length p.old)
+        + 2 * slice_index (naturals (values a_p.now)) (length p.old) / 5 + length p.old) }
     ensures orders { IfOk result (OrdersMatrix (option_copied hold.entry) (length p.old) control.now.dense
         control.now.aggressive (pairs_by jumbled (length p.old) (values a_p.now) (values a_i.now))
         (values a_p.now) (values a_i.now) (values p.new) (values p_inv.new)) }

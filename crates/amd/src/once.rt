@@ -6,7 +6,7 @@ ghost use Rattle.std.specs.Prelude.{IfOk, IfErr};
 ghost use Rattle.std.specs.Option.{option_copied, SomeIff};
 ghost use Rattle.amd_model.specs.Input.Pattern.{is_pair};
 ghost use Rattle.amd_rounds.specs.Laid.{AreWideEnough};
-ghost use Rattle.amd_types.specs.Counts.{counts};
+ghost use Rattle.amd_types.specs.Naturals.{naturals};
 ghost use Rattle.amd_workspace.specs.Lists.{HasRoom};
 ghost use Rattle.amd.specs.Answers.{OrdersMatrix};
 ghost use Rattle.amd.specs.Within.{IsGiven, pairs_by};
@@ -51,10 +51,10 @@ fn order_counted<I: Index, J: Index, S: Signed, P: Signed, U: Unsigned, A: Alloc
     requires fits { (k : ℕ) → k < length p.old → I.fits (pos k) }
     requires room { HasRoom (length p.old) 0 memory.old }
     requires narrow { AreWideEnough S.MOST P.MOST U.MOST (length p.old)
-        (2 * slice_index (counts (map J.value a_p.now)) (length p.old)
-        + 2 * slice_index (counts (map J.value a_p.now)) (length p.old) / 5 + length p.old) }
-    requires few { 2 * slice_index (counts (map J.value a_p.now)) (length p.old)
-        + 2 * slice_index (counts (map J.value a_p.now)) (length p.old) / 5 + length p.old < 2 ^ 63 }
+        (2 * slice_index (naturals (map J.value a_p.now)) (length p.old)
+        + 2 * slice_index (naturals (map J.value a_p.now)) (length p.old) / 5 + length p.old) }
+    requires few { 2 * slice_index (naturals (map J.value a_p.now)) (length p.old)
+        + 2 * slice_index (naturals (map J.value a_p.now)) (length p.old) / 5 + length p.old < 2 ^ 63 }
     ensures orders { IfOk result (OrdersMatrix (option_copied hold.entry) (length p.old) control.now.dense
         control.now.aggressive (is_pair (length p.old) (map J.value a_p.now) (map J.value a_i.now))
         (map J.value a_p.now) (map J.value a_i.now) (map I.value p.new) (map I.value p_inv.new)) }
@@ -90,10 +90,10 @@ fn order_in<I: Index, J: Index, S: Signed, P: Signed, U: Unsigned, A: Allocator 
         (length p_inv.old) }
     requires fits { (k : ℕ) → k < length p.old → I.fits (pos k) }
     requires narrow { AreWideEnough S.MOST P.MOST U.MOST (length p.old)
-        (2 * slice_index (counts (map I.value a_p.now)) (length p.old)
-        + 2 * slice_index (counts (map I.value a_p.now)) (length p.old) / 5 + length p.old) }
-    requires few { 2 * slice_index (counts (map I.value a_p.now)) (length p.old)
-        + 2 * slice_index (counts (map I.value a_p.now)) (length p.old) / 5 + length p.old < 2 ^ 63 }
+        (2 * slice_index (naturals (map I.value a_p.now)) (length p.old)
+        + 2 * slice_index (naturals (map I.value a_p.now)) (length p.old) / 5 + length p.old) }
+    requires few { 2 * slice_index (naturals (map I.value a_p.now)) (length p.old)
+        + 2 * slice_index (naturals (map I.value a_p.now)) (length p.old) / 5 + length p.old < 2 ^ 63 }
     ensures orders { IfOk result (OrdersMatrix (option_copied hold.entry) (length p.old) control.now.dense
         control.now.aggressive (pairs_by jumbled (length p.old) (map I.value a_p.now) (map I.value a_i.now))
         (map I.value a_p.now) (map I.value a_i.now) (map I.value p.new) (map I.value p_inv.new)) }

@@ -8,7 +8,7 @@ ghost use Rattle.std.specs.Vec.{vec_capacity};
 ghost use Rattle.amd_model.specs.Input.Pattern.{is_pair};
 ghost use Rattle.amd_rounds.specs.Laid.{AreWideEnough};
 ghost use Rattle.amd_merging.specs.Merging.{bucket_count};
-ghost use Rattle.amd_types.specs.Counts.{counts};
+ghost use Rattle.amd_types.specs.Naturals.{naturals};
 ghost use Rattle.amd_workspace.specs.Lists.{HasRoom};
 ghost use Rattle.amd.specs.Answers.{OrdersMatrix};
 ghost use Rattle.amd.specs.Blocks.{words_in, workspace_words};
@@ -41,9 +41,9 @@ fn order_columns<I: Index, J: Index, S: Signed, P: Signed, U: Unsigned, A: Alloc
         (length p_inv.old) }
     requires fits { (k : ℕ) → k < length p.old → I.fits (pos k) }
     requires room { HasRoom (length p.old) words memory.old }
-    requires words { list_words (length p.old) (slice_index (counts (map J.value a_p.now)) (length p.old)) ≤ words }
-    requires few { 2 * slice_index (counts (map J.value a_p.now)) (length p.old)
-        + 2 * slice_index (counts (map J.value a_p.now)) (length p.old) / 5 + length p.old < 2 ^ 63 }
+    requires words { list_words (length p.old) (slice_index (naturals (map J.value a_p.now)) (length p.old)) ≤ words }
+    requires few { 2 * slice_index (naturals (map J.value a_p.now)) (length p.old)
+        + 2 * slice_index (naturals (map J.value a_p.now)) (length p.old) / 5 + length p.old < 2 ^ 63 }
     requires narrow { AreWideEnough S.MOST P.MOST U.MOST (length p.old) words }
     ensures orders { OrdersMatrix (option_copied hold.entry) (length p.old) control.now.dense control.now.aggressive
         (is_pair (length p.old) (map J.value a_p.now) (map J.value a_i.now)) (map J.value a_p.now)
@@ -149,7 +149,7 @@ impl<J: Index, S: Signed, P: Signed, U: Unsigned, A: Allocator + Copy> Workspace
             (length p_inv.old) }
         requires fits { (k : ℕ) → k < length p.old → I.fits (pos k) }
         requires inside { (length p.old ≤ self.old.rows) ×
-            (slice_index (counts (map I.value a_p.now)) (length p.old) ≤ self.old.entries) }
+            (slice_index (naturals (map I.value a_p.now)) (length p.old) ≤ self.old.entries) }
         requires names { J.fits (pos self.old.rows) × J.fits (pos self.old.entries) }
         ensures orders { OrdersMatrix (option_copied hold.entry) (length p.old) control.now.dense
             control.now.aggressive (pairs_by jumbled (length p.old) (map I.value a_p.now) (map I.value a_i.now))

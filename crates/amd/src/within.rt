@@ -7,7 +7,7 @@ ghost use Rattle.std.specs.Option.{option_copied};
 ghost use Rattle.amd_model.specs.Input.Columns.{IsColumnForm, IsSorted};
 ghost use Rattle.amd_model.specs.Input.Pattern.{is_pair};
 ghost use Rattle.amd_rounds.specs.Laid.{AreWideEnough};
-ghost use Rattle.amd_types.specs.Counts.{counts};
+ghost use Rattle.amd_types.specs.Naturals.{naturals};
 ghost use Rattle.amd_input.specs.Degrees.{AreDegrees};
 ghost use Rattle.amd_input.specs.PatternFigures.{HasPatternFigures};
 ghost use Rattle.amd_workspace.specs.Lists.{HasRoom, HasRoomBeside};
@@ -40,10 +40,10 @@ pub fn count_degrees<J: Index, S: Signed, P: Signed, U: Unsigned, A: Allocator +
     requires form { IsColumnForm (pos size) size (map J.value a_p.now) (map J.value a_i.now) }
     requires sorted { IsSorted size (map J.value a_p.now) (map J.value a_i.now) }
     requires room { HasRoomBeside size 0 memory.old }
-    requires fits { (size ≤ U.MOST) × (slice_index (counts (map J.value a_p.now)) size ≤ U.MOST) }
-    requires small { 2 * slice_index (counts (map J.value a_p.now)) size < 2 ^ 64 }
+    requires fits { (size ≤ U.MOST) × (slice_index (naturals (map J.value a_p.now)) size ≤ U.MOST) }
+    requires small { 2 * slice_index (naturals (map J.value a_p.now)) size < 2 ^ 64 }
     ensures degrees { AreDegrees size (map J.value a_p.now) (map J.value a_i.now) result memory.new.len.items }
-    ensures few { result ≤ 2 * slice_index (counts (map J.value a_p.now)) size }
+    ensures few { result ≤ 2 * slice_index (naturals (map J.value a_p.now)) size }
     ensures figures { HasPatternFigures size (map J.value a_p.now) (map J.value a_i.now) info.new }
     ensures status { info.new.status ≡ info.old.status }
     ensures room { (n count : ℕ) → HasRoom n count memory.old → HasRoom n count memory.new }
@@ -86,7 +86,7 @@ pub fn order_sorted<I: Index, J: Index, S: Signed, P: Signed, U: Unsigned, A: Al
     requires few { nzaat + nzaat / 5 + length p.old < 2 ^ 63 }
     requires room { HasRoom (length p.old) room memory.old }
     requires narrow { AreWideEnough S.MOST P.MOST U.MOST (length p.old) room }
-    requires pointers { slice_index (counts (map J.value a_p.now)) (length p.old) ≤ U.MOST }
+    requires pointers { slice_index (naturals (map J.value a_p.now)) (length p.old) ≤ U.MOST }
     ensures orders { OrdersMatrix (option_copied hold.entry) (length p.old) control.now.dense control.now.aggressive
         (is_pair (length p.old) (map J.value a_p.now) (map J.value a_i.now)) (map J.value a_p.now)
         (map J.value a_i.now) (map I.value p.new) (map I.value p_inv.new) info.new }

@@ -6,7 +6,7 @@ ghost use Rattle.std.specs.Prelude.{◌≡◌, ◌≢◌, ◌≤◌, ◌<◌, �
 ghost use Rattle.std.specs.Prelude.{slice_index, IfOk, IfErr, IfSome, IsSome, MatchOption, ◌↔◌};
 ghost use Rattle.std.specs.Option.{option_copied};
 ghost use Rattle.amd_model.specs.Input.Held.{HasMarks};
-ghost use Rattle.amd_types.specs.Counts.{counts};
+ghost use Rattle.amd_types.specs.Naturals.{naturals};
 ghost use Rattle.amd_types.specs.Statuses.{IsStatusOf};
 ghost use Rattle.amd.specs.Answers.{IsOrdering, IsOrderingHolding, OrdersMatrix};
 ghost use Rattle.amd.specs.Blocks.{workspace_bytes, workspace_words};
@@ -163,7 +163,7 @@ impl<A: Allocator + Copy> Widths<A> {
             (length p_inv.old) }
         requires fits { (k : ℕ) → k < length p.old → I.fits (pos k) }
         requires inside { (length p.old ≤ rows_of self.old) ×
-            (slice_index (counts (map I.value a_p.now)) (length p.old) ≤ entries_of self.old) }
+            (slice_index (naturals (map I.value a_p.now)) (length p.old) ≤ entries_of self.old) }
         ensures orders { OrdersMatrix (option_copied hold.entry) (length p.old) control.now.dense
             control.now.aggressive (pairs_by jumbled (length p.old) (map I.value a_p.now) (map I.value a_i.now))
             (map I.value a_p.now) (map I.value a_i.now) (map I.value p.new) (map I.value p_inv.new) info.new }

@@ -2,7 +2,7 @@
 -- they answer there.
 use Rattle.std.specs.Prelude.{◌≡◌, ◌≢◌, ◌≤◌, ◌+◌, ◌*◌, ℕ, ℤ, pos, List, Result, Ok, Err, length, min, slice_index}
 use Rattle.std.specs.Prelude.{unsigned_abs}
-use Rattle.amd_types.specs.Counts.{counts}
+use Rattle.amd_types.specs.Naturals.{naturals}
 use Rattle.amd_factor.specs.Blocks.{whole_units}
 use Rattle.amd_factor.specs.Factors.{IsFault}
 use Rattle.amd_factor.specs.declared.factor.Fault.{Fault}
@@ -24,7 +24,7 @@ columns_bytes rows entries = lists_bytes (entries + 5 * rows + 2) (2 * rows)
 
 -- so many bytes are enough for a matrix with n rows and these pointers, of which a call takes that many
 abbrev pub Suffice : (ℕ → ℕ → ℕ) → ℤ → List ℤ → ℕ → Type 0
-Suffice bytes n ap size = n ≢ pos 0 → bytes (unsigned_abs n) (slice_index (counts ap) (unsigned_abs n)) ≤ size
+Suffice bytes n ap size = n ≢ pos 0 → bytes (unsigned_abs n) (slice_index (naturals ap) (unsigned_abs n)) ≤ size
 
 -- the bytes suffice, exactly where memory is no reason to refuse a column form
 abbrev pub TellsWhether : Type 0 → Result (Unit {0}) Fault → Type 0

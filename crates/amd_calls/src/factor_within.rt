@@ -3,7 +3,7 @@
 
 ghost use Rattle.std.specs.Prelude.{ℕ, ◌≡◌, ◌≢◌, ◌≤◌, ◌<◌, ◌+◌, ◌*◌, ◌⊎◌, pos, negsuc, length, map, slice_index};
 ghost use Rattle.std.specs.Prelude.{IfOk, IfErr};
-ghost use Rattle.amd_types.specs.Counts.{counts as counts_of};
+ghost use Rattle.amd_types.specs.Naturals.{naturals};
 ghost use Rattle.amd_factor.specs.Factors.{IsFault, WritesFactor};
 ghost use Rattle.amd_factor.specs.Orders.{Order};
 ghost use Rattle.amd_factor.specs.Unfit.{fault_of};
@@ -117,7 +117,7 @@ fn columns_inside<I: Index>(
     requires posed { IsPosed o (length parents.old) (map I.value a_p.now) (map I.value a_i.now) (map I.value p.now) }
     requires fits { (j : ℕ) → j < length parents.old → I.fits (pos j) }
     requires lists { (length pointers.old ≡ length parents.old + 1) × (length parents.old ≤ length links.old) }
-    requires room { slice_index (counts_of (map I.value a_p.now)) (length parents.old) + 4 * length parents.old + 1
+    requires room { slice_index (naturals (map I.value a_p.now)) (length parents.old) + 4 * length parents.old + 1
         ≤ length memory.old }
     ensures factor { IfOk result (λ total. (w : WritesFactor (pos (length parents.old)) (map I.value a_p.now)
         (map I.value a_i.now) (map I.value p.now) (map I.value rows.old) (map I.value rows.new) pointers.new parents.new)

@@ -12,7 +12,7 @@ use Rattle.amd_factor.specs.Places.{ArePlaces}
 use Rattle.amd_factor.specs.Supernodes.{AreRuns, HoldRowsBelow, IsSupernodesOf, Joined, rows_below}
 use Rattle.amd_factor.proofs.Factors.PlaceNumbers.{counts_of}
 use Rattle.amd_factor.proofs.Partitions.SupernodeFigures.{ends-in, ptr-most}
-use Rattle.amd_types.specs.Counts.{counts}
+use Rattle.amd_types.specs.Naturals.{naturals}
 use Rattle.amd_report.specs.declared.grids.Grid.{Grid}
 use Rattle.amd_report.specs.Fills.{AreCuts, IsFillOf, ShowsFill}
 use Rattle.amd_report.specs.Grids.{IsSquareFor}
@@ -121,7 +121,7 @@ module _ (o : Order) (n : ℕ) (columns : List (List ℕ)) (first ptr rows start
 
 -- and so for what the supernodes and the lists of a matrix tell
 module _ (n : ℕ) (ap_ ai p places first ptr rows starts later : List ℕ) (parent : List (Option ℕ))
-    (placed : ArePlaces n (counts (map pos p)) places)
+    (placed : ArePlaces n (naturals (map pos p)) places)
     (near : (order : List ℕ) → ArePlaces n order places → HasLater (matrix_order n ap_ ai order) starts later)
     (made : IsSupernodesOf (pos n) (map pos ap_) (map pos ai) (map pos p) first ptr rows parent) where
   lists : HasLater (matrix_order n ap_ ai made.order) starts later

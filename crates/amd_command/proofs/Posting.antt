@@ -5,7 +5,7 @@ use Rattle.std.specs.Prelude.{◌≤ℤ◌, ◌⊎◌, slice_index, slice_index_
 use Rattle.std.proofs.lemmas.Bool.{cases_eq, and_parts, and_from, lt-ltb, ltb-true}
 use Rattle.std.proofs.lemmas.List.{ext_get_or, map-append, take_all, take_more, get_or-map, get_or-replicate, length-map, length-replicate}
 use Rattle.amd_model.specs.Input.Columns.{at}
-use Rattle.amd_types.specs.Counts.{counts}
+use Rattle.amd_types.specs.Naturals.{naturals}
 use Rattle.amd_model.specs.Listing.{ListsTrees, roots}
 use Rattle.amd_model.specs.Quotient.{has}
 use Rattle.amd_model.proofs.Counting.Places.{has_contains, has_place, length_once}
@@ -38,7 +38,8 @@ pub links-all : (parents : List (Option ℕ)) (k : ℕ) (links : List ℤ) → A
     links ≡ map link_of parents
 links-all parents k made so_far l = so_far.links_are ∙ ap (map link_of) (take_all k parents l)
 
-pub behind-all : (parents : List (Option ℕ)) (k : ℕ) (links : List ℤ) → AreLinksUpTo parents k links → length parents ≤ k → AreBehind parents
+pub behind-all : (parents : List (Option ℕ)) (k : ℕ) (links : List ℤ) → AreLinksUpTo parents k links → length parents ≤ k → AreBehind
+    parents
 behind-all parents k made so_far l = λ j q m e. so_far.behind j q (omega (arith, m, l)) e
 
 -- a link that names a place is that of a parent
@@ -80,7 +81,8 @@ module _ (parents : List (Option ℕ)) (behind : AreBehind parents) where
   parent-at None k l q = inl (link-at k l ∙ ap link_of q)
   parent-at (Some p) k l q = inr (p, link-at k l ∙ ap link_of q, element p (behind k p l q).1)
 
-  pub forest : IsElementForest (length parents) (map link_of parents) (replicate (length parents) (pos 1)) (replicate (length parents) (pos 0))
+  pub forest : IsElementForest (length parents) (map link_of parents) (replicate (length parents) (pos 1)) (replicate (length parents)
+      (pos 0))
   forest = record {
     parent_room = length-map parents link_of;
     nv_room = length-replicate n (pos 1);
@@ -95,14 +97,16 @@ module _ (parents : List (Option ℕ)) (behind : AreBehind parents) where
       (rows_are : (e : ℕ) → e < n → slice_index rows e ≡ unsigned_abs (at order e)) where
     node : (e : ℕ) → has o.listing e ≡ true → e < n
     unfolding roots
-    node e h = inside e (listed_from (forest_of parents) (ranked n links ones zeros forest) (roots_siblings (forest_of parents) n) o.lists e h).2
+    node e h = inside e (listed_from (forest_of parents) (ranked n links ones zeros forest) (roots_siblings (forest_of parents) n)
+        o.lists e h).2
 
     small : (k : ℕ) → k < length o.listing → slice_index o.listing k < n
     small k l = node (slice_index o.listing k) (has_place o.listing k l)
 
     full : length o.listing ≡ n
     unfolding roots
-    full = length_once n o.listing (trees_distinct (forest_of parents) (ranked n links ones zeros forest) (roots_siblings (forest_of parents) n) o.lists)
+    full = length_once n o.listing (trees_distinct (forest_of parents) (ranked n links ones zeros forest) (roots_siblings (forest_of
+        parents) n) o.lists)
         node (λ u l. o.each u l (element u l))
 
     row-at : (k : ℕ) → k < length o.listing → slice_index rows (slice_index o.listing k) ≡ k
@@ -143,9 +147,9 @@ posted-handed parents _ rows sizes order h o =
 -- the columns at the places of the order, which are counted from a list of numbers that say the same
 pub posted-of : (parents : List (Option ℕ)) (order given : List ℤ) (columns : List ℕ) (value : ℤ → ℤ) → ((z : ℤ) → value z ≡ z) →
     given ≡ order → AreBehind parents → IsPostorderOf (forest_of parents) order →
-    ArePlaces (length parents) (counts (map value given)) columns → IsPostorder parents columns
+    ArePlaces (length parents) (naturals (map value given)) columns → IsPostorder parents columns
 posted-of parents order given columns value same is behind o turned =
     let room : length given ≡ length parents = ap length is ∙ o.room in
-    posted parents behind order (counts (map value given)) columns o turned (λ e l.
+    posted parents behind order (naturals (map value given)) columns o turned (λ e l.
     get_or-map unsigned_abs (map value given) e (pos 0) 0 (let a = length-map given value in omega (arith, l, a, room))
     ∙ ap unsigned_abs (get_or-map value given e (pos 0) (pos 0) (omega (arith, l, room)) ∙ same (at given e) ∙ ap (λ zs. at zs e) is))

@@ -18,8 +18,8 @@ use Rattle.amd_report.specs.FactorJson.{analysis_json}
 use Rattle.amd_report.specs.FactorTexts.{column_lines, comparison_text}
 use Rattle.amd_report.specs.Json.{facts_json, order_json}
 use Rattle.amd_report.specs.Texts.{figures_text, row_lines}
-use Rattle.amd_request.specs.declared.inputs.Task.{Task}
-use Rattle.amd_request.specs.declared.request.Options.{Options}
+use Rattle.amd_cli.specs.declared.inputs.Task.{Task}
+use Rattle.amd_cli.specs.declared.request.Options.{Options}
 use Rattle.amd_command.specs.declared.answers.Texts.{Texts}
 use Rattle.amd_command.specs.Lists.{ArePlacesIn, number_lines}
 use Rattle.amd_command.specs.Needs.{IsNeedUnder, TellsNeed, standing_rows}

@@ -7,7 +7,7 @@ use Rattle.amd_factor.specs.declared.needs.Need.{Need}
 use Rattle.amd_market.specs.declared.sources.Source.{Source}
 use Rattle.amd_report.specs.declared.compare.Needs.{Needs}
 use Rattle.amd_report.specs.declared.compare.Comparison.{Comparison}
-use Rattle.amd_request.specs.declared.request.Options.{Options}
+use Rattle.amd_cli.specs.declared.request.Options.{Options}
 use Rattle.amd_command.specs.Answers.{AreTwoNeeds, TellsFacts}
 use Rattle.amd_command.specs.Lists.{AreRowsListed}
 use Rattle.amd_command.specs.Needs.{IsNeedUnder, TellsNeed}

@@ -1,7 +1,7 @@
 -- A picture of a matrix: two panels, each with the entries and the fill of the factor in an order of the rows.
 use Rattle.std.specs.Prelude.{◌≡◌, ◌-◌, ℕ, Bool, true, Option, None, Some, List, [], MatchOption, map, pos}
 use Rattle.std.specs.Option.{is_some}
-use Rattle.amd_types.specs.Counts.{counts}
+use Rattle.amd_types.specs.Naturals.{naturals}
 use Rattle.amd_factor.specs.Places.{ArePlaces}
 use Rattle.amd_factor.specs.declared.needs.Need.{Need}
 use Rattle.amd_report.specs.declared.drawing.Panel.{Panel}
@@ -22,7 +22,7 @@ marks_of (Some g) = g.marks.items
 -- mirrors or without, and of exactly the fill of the factor, unless that is left out; its number is told in any case
 pub record IsPanel (A : Type 0) (n : ℕ) (ap ai p : List ℕ) (mirrored : Bool) (edges : ℕ) (panel : Panel A) : Type 0 where
   pub places : List ℕ
-  pub placed : ArePlaces n (counts (map pos p)) places
+  pub placed : ArePlaces n (naturals (map pos p)) places
   pub entries : Grid A
   pub square : IsSquareFor entries n
   pub shows : ShowsPlaces entries (entry_places mirrored places ap ai n)

@@ -2,7 +2,7 @@
 use Rattle.std.specs.Prelude.{◌≡◌, ◌⊎◌, ℕ, zero, suc, List, [], ◌++◌, map, pos, slice_index}
 use Rattle.amd_market.specs.Columns.{HoldsPairs}
 use Rattle.amd_report.specs.Patterns.{column_rows, matrix_text}
-use Rattle.amd_request.specs.Valued.{ListsNothing, PlacesText}
+use Rattle.amd_cli.specs.Valued.{ListsNothing, PlacesText}
 use Rattle.amd_factor.specs.Orders.{Permutes}
 use Rattle.amd_factor.specs.Places.{ArePlaces}
 

@@ -1,6 +1,6 @@
 -- The texts of an ordering.
 use Rattle.std.specs.Prelude.{◌≡◌, ℕ, Option, None, List, MatchOption, string_bytes}
-use Rattle.amd_request.specs.declared.request.Options.{Options}
+use Rattle.amd_cli.specs.declared.request.Options.{Options}
 use Rattle.amd_command.specs.declared.answers.Ordered.{Ordered}
 use Rattle.amd_command.specs.declared.answers.Texts.{Texts}
 use Rattle.amd_command.specs.Answers.{TellsOrder, told_figures}

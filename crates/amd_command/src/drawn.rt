@@ -2,7 +2,7 @@
 
 ghost use Rattle.std.specs.Prelude.{pos, map, IfOk, MatchOption};
 ghost use Rattle.amd_model.specs.Input.Columns.{IsInput};
-ghost use Rattle.amd_types.specs.Counts.{counts};
+ghost use Rattle.amd_types.specs.Naturals.{naturals};
 ghost use Rattle.amd_factor.specs.Places.{ArePlaces};
 ghost use Rattle.amd_command.specs.DrawnFills.{DrawsFill};
 
@@ -23,7 +23,7 @@ fn marked_fill<A: Allocator + Copy>(
     places: &[usize],
 ) -> Result<Grid<A>, Fault>
     requires form { IsInput (pos n) (pos n) (map pos a_p.now) (map pos a_i.now) }
-    requires places { ArePlaces n (counts (map pos p.now)) places.now }
+    requires places { ArePlaces n (naturals (map pos p.now)) places.now }
     ensures { IfOk result (λ g. DrawsFill g n a_p.now a_i.now p.now) }
 {
     let later = later_lists(alloc, n, a_p, a_i, places)?;

@@ -1,6 +1,6 @@
 // Why a run ends early after a fault of the exact factor.
 
-use amd_request::causes::Cause;
+use amd_cli::causes::Cause;
 use amd_symbolic::Fault;
 
 /// The cause that a fault of the exact factor is.

@@ -2,12 +2,12 @@
 
 ghost use Rattle.std.specs.Prelude.{map, pos, IfOk};
 ghost use Rattle.amd_factor.specs.Places.{ArePlaces};
-ghost use Rattle.amd_types.specs.Counts.{counts};
+ghost use Rattle.amd_types.specs.Naturals.{naturals};
 ghost use Rattle.amd_command.specs.Lists.{AreEach, AreRowsListed};
 
+use amd_cli::causes::Cause;
+use amd_cli::order_faults::order_fault;
 use amd_factor::places::places;
-use amd_request::causes::Cause;
-use amd_request::order_faults::order_fault;
 use std::alloc::Global;
 
 /// The places of numbers below `n`.
@@ -22,7 +22,7 @@ fn places_told(
     are_places: bool,
 ) -> Result<Vec<usize>, Cause>
     ensures each { IfOk result (λ places. AreEach n numbers.now) }
-    ensures places { IfOk result (λ places. ArePlaces n (counts (map pos numbers.now)) places.items) }
+    ensures places { IfOk result (λ places. ArePlaces n (naturals (map pos numbers.now)) places.items) }
 {
     if let Some(found) = places(alloc, n, numbers)? {
         return Ok(found);

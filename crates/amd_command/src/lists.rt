@@ -6,8 +6,8 @@ ghost use Rattle.amd_model.specs.Listing.{ListsEachRow};
 ghost use Rattle.amd_factor.specs.Places.{ArePlaces};
 ghost use Rattle.amd_command.specs.Lists.{ArePlacesIn, number_lines};
 
+use amd_cli::causes::Cause;
 use amd_factor::places::places;
-use amd_request::causes::Cause;
 use std::alloc::Global;
 use std::io;
 use std::io::Write;

@@ -2,15 +2,15 @@
 // from that of the matrix with the values, or as a pattern.
 
 ghost use Rattle.std.specs.Prelude.{◌≡◌, ◌++◌, slice_index, IfOk, MatchOption, OnOk};
-ghost use Rattle.amd_request.specs.Valued.{ListsNothing};
+ghost use Rattle.amd_cli.specs.Valued.{ListsNothing};
 ghost use Rattle.amd_command.specs.Permuted.{IsPatternText, IsPermuted, IsValuedText, pairs_up_to, placed_pairs};
 
+use amd_cli::causes::Cause;
+use amd_cli::valued::text_at_places;
 use amd_factor::places::places;
 use amd_market::columns::columns_of;
 use amd_market::reader::Matrix;
 use amd_report::pattern::{rows_of, write_matrix};
-use amd_request::causes::Cause;
-use amd_request::valued::text_at_places;
 use std::alloc::{Allocator, Global};
 
 /// The place of a row.

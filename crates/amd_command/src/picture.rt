@@ -12,13 +12,13 @@ use crate::faults::cause_of;
 use crate::needs::{need_under, standing_order};
 use amd::Status;
 use amd::valid::valid;
+use amd_cli::causes::Cause;
 use amd_factor::places::places;
 use amd_market::reader::Matrix;
 use amd_report::drawing::{Panel, Subject, write_drawing};
 use amd_report::entry_cells::entry_grid;
 use amd_report::grids::Grid;
 use amd_report::kinds::kinds_of;
-use amd_request::causes::Cause;
 use std::alloc::{AllocError, Allocator};
 use std::io::Write;
 

@@ -6,10 +6,10 @@ ghost use Rattle.amd_postorder.specs.Trees.{IsPostorderOf, link_of};
 ghost use Rattle.amd_command.specs.Postorders.{AreBehind, IsPostorder, IsPostorderUnder, forest_of};
 
 use crate::faults::cause_of;
+use amd_cli::causes::Cause;
 use amd_factor::places::places;
 use amd_market::reader::Matrix;
 use amd_postorder::postorder::postorder;
-use amd_request::causes::Cause;
 use amd_symbolic::counts;
 use amd_types::amd::Status;
 use amd_types::internal::EMPTY;

@@ -17,21 +17,21 @@ use crate::needs::{need_under, told};
 use crate::ordering::order_matrix;
 use crate::picture::{Drawn, MOST_ROWS, Source, write_picture};
 use amd::{Control, Info};
-use amd_market::reader::Matrix;
-use amd_report::compare::{Comparison, Needs};
-use amd_report::tree_picture::write_tree_picture;
-use amd_request::advice::{Advice, advice_on, advice_on_words};
-use amd_request::causes::Cause;
-use amd_request::inputs::{
+use amd_cli::advice::{Advice, advice_on, advice_on_words};
+use amd_cli::causes::Cause;
+use amd_cli::inputs::{
     Complaint, Task, about, check_inputs, control_of, read_file, read_listing, read_task,
     tell_ordering,
 };
-use amd_request::places::{STANDARD, folder_and_name};
-use amd_request::progress::{Moment, Progress};
-use amd_request::putting::put_file;
-use amd_request::request::{Options, Request, request_of};
-use amd_request::sizes::Work;
-use amd_request::unreadable::word_at_fault;
+use amd_cli::paths::{STANDARD, folder_and_name};
+use amd_cli::progress::{Moment, Progress};
+use amd_cli::putting::put_file;
+use amd_cli::request::{Options, Request, request_of};
+use amd_cli::sizes::Work;
+use amd_cli::unreadable::word_at_fault;
+use amd_market::reader::Matrix;
+use amd_report::compare::{Comparison, Needs};
+use amd_report::tree_picture::write_tree_picture;
 use amd_symbolic::{Fault, supernodes};
 use clap::Error;
 use clap::error::ErrorKind;

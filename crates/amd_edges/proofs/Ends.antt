@@ -5,7 +5,7 @@ use Rattle.std.proofs.lemmas.Bool.{or_left, cases_eq, cases_lt, eq-eqb, lt-ltb, 
 use Rattle.std.proofs.lemmas.List.{get_or_past}
 use Rattle.std.specs.Cmp.{both_ways}
 use Rattle.amd_edges.proofs.Forms.{IsSortedForm}
-use Rattle.amd_types.specs.Counts.{is_before, is_entry, is_edge}
+use Rattle.amd_types.specs.Naturals.{is_before, is_entry, is_edge}
 use Rattle.amd_edges.specs.Walk.{IsScan, is_read, is_met, met}
 use Rattle.amd_edges.proofs.Places.{cases_order, funext2, before_from, before_gives, before_none, entry_from, entry_gives}
 use Rattle.amd_edges.proofs.Places.{entry_none}

@@ -16,7 +16,7 @@ use Rattle.amd_model.specs.Input.Columns.{at, IsRow, IsColumnForm, IsSorted}
 use Rattle.amd_model.specs.Input.Pattern.{holds_row, is_pair, graph_of, diagonal_count}
 use Rattle.amd_model.proofs.Counting.Below.{any_from, any_gives, count_same}
 use Rattle.amd_model.proofs.Patterns.Pointers.{pointer_in, small_fits}
-use Rattle.amd_types.specs.Counts.{counts, is_entry, is_edge, count_graph}
+use Rattle.amd_types.specs.Naturals.{naturals, is_entry, is_edge, count_graph}
 use Rattle.amd_edges.proofs.Places.{funext2, entry_from, entry_gives}
 
 -- a column form over counts in which any two rows of a column rise
@@ -32,7 +32,7 @@ pub pos_abs : (z : ℤ) → pos 0 ≤ℤ z → pos (unsigned_abs z) ≡ z
 pos_abs (pos x) h = refl
 pos_abs (negsuc x) h = absurd (omega (arith, ints))
 
-pub count_is : (xs : List ℤ) (k : ℕ) → pos 0 ≤ℤ at xs k → pos (get_or (counts xs) k 0) ≡ at xs k
+pub count_is : (xs : List ℤ) (k : ℕ) → pos 0 ≤ℤ at xs k → pos (get_or (naturals xs) k 0) ≡ at xs k
 count_is xs k h = ap pos (get_or-map unsigned_abs xs k (pos 0)) ∙ pos_abs _ h
 
 -- tests of a pointer that is a count
@@ -45,49 +45,49 @@ lt_test k b z e = let P : ℤ → Type 0 = λ y. (int_lt (pos k) y ≡ true → 
     subst P e (ltb-true k b, lt-ltb k b)
 
 module _ (n : ℕ) (ap' ai : List ℤ) (form : IsColumnForm (pos n) n ap' ai) where
-  pub pointer_is : (j : ℕ) → j ≤ n → pos (get_or (counts ap') j 0) ≡ at ap' j
+  pub pointer_is : (j : ℕ) → j ≤ n → pos (get_or (naturals ap') j 0) ≡ at ap' j
   pointer_is j h = count_is ap' j (pointer_in (pos n) n ap' ai form j h).0
 
   -- the places of a column hold rows
-  pub row_in : (j q : ℕ) → j < n → q < get_or (counts ap') (j + 1) 0 → IsRow (pos n) (at ai q)
+  pub row_in : (j q : ℕ) → j < n → q < get_or (naturals ap') (j + 1) 0 → IsRow (pos n) (at ai q)
   row_in j q h high =
       let is = pointer_is (j + 1) (omega arith) in
       let below = (pointer_in (pos n) n ap' ai form (j + 1) (omega arith)).1 in
       form.rows q (omega (arith, ints))
 
-  pub row_is : (j q : ℕ) → j < n → q < get_or (counts ap') (j + 1) 0 → pos (get_or (counts ai) q 0) ≡ at ai q
+  pub row_is : (j q : ℕ) → j < n → q < get_or (naturals ap') (j + 1) 0 → pos (get_or (naturals ai) q 0) ≡ at ai q
   row_is j q h high = count_is ai q (row_in j q h high).0
 
-  pub pointer_within : (j : ℕ) → j ≤ n → get_or (counts ap') j 0 ≤ length ai
+  pub pointer_within : (j : ℕ) → j ≤ n → get_or (naturals ap') j 0 ≤ length ai
   pointer_within j h =
       let is = pointer_is j h in
       let below = (pointer_in (pos n) n ap' ai form j h).2 in
       omega (arith, ints)
 
   -- no pointer passes the last one, and so no place of a column does
-  pub pointer_up : (j : ℕ) → j ≤ n → get_or (counts ap') j 0 ≤ get_or (counts ap') n 0
+  pub pointer_up : (j : ℕ) → j ≤ n → get_or (naturals ap') j 0 ≤ get_or (naturals ap') n 0
   pointer_up j h =
       let is = pointer_is j h in
       let last = pointer_is n (omega arith) in
       let up = (pointer_in (pos n) n ap' ai form j h).1 in
       omega (arith, ints)
 
-  pub place_up : {j q end most : ℕ} → j < n → end ≡ get_or (counts ap') (j + 1) 0 → q ≤ end → get_or (counts ap') n 0 ≤ most → q ≤ most
+  pub place_up : {j q end most : ℕ} → j < n → end ≡ get_or (naturals ap') (j + 1) 0 → q ≤ end → get_or (naturals ap') n 0 ≤ most → q ≤ most
   place_up {j} h is low small = let up = pointer_up (j + 1) (omega (arith, h)) in omega (arith, is, low, small, up)
 
   -- the numbers that are read are counts of 64 bits
   pub pointer_fits : (j : ℕ) → j ≤ n → length ai < 2 ^ 64 → FitsUnsignedBits 64 (at ap' j)
   pointer_fits j h short = let p = pointer_in (pos n) n ap' ai form j h in small_fits _ (length ai) p.0 p.2 short
 
-  pub row_fits : (j q : ℕ) → j < n → q < get_or (counts ap') (j + 1) 0 → n < 2 ^ 64 → FitsUnsignedBits 64 (at ai q)
+  pub row_fits : (j q : ℕ) → j < n → q < get_or (naturals ap') (j + 1) 0 → n < 2 ^ 64 → FitsUnsignedBits 64 (at ai q)
   row_fits j q h high short = let r = row_in j q h high in let below = r.1 in small_fits _ n r.0 (omega (arith, ints)) short
 
-  pub place_within : (j q : ℕ) → j < n → q < get_or (counts ap') (j + 1) 0 → q < length ai
+  pub place_within : (j q : ℕ) → j < n → q < get_or (naturals ap') (j + 1) 0 → q < length ai
   place_within j q h high = let w = pointer_within (j + 1) (omega arith) in omega arith
 
   module _ (sorted : IsSorted n ap' ai) where
-    next_row : (j q : ℕ) → j < n → get_or (counts ap') j 0 ≤ q → q + 1 < get_or (counts ap') (j + 1) 0 →
-        get_or (counts ai) q 0 < get_or (counts ai) (q + 1) 0
+    next_row : (j q : ℕ) → j < n → get_or (naturals ap') j 0 ≤ q → q + 1 < get_or (naturals ap') (j + 1) 0 →
+        get_or (naturals ai) q 0 < get_or (naturals ai) (q + 1) 0
     next_row j q h low high =
         let from = pointer_is j (omega arith) in
         let to = pointer_is (j + 1) (omega arith) in
@@ -97,8 +97,8 @@ module _ (n : ℕ) (ap' ai : List ℤ) (form : IsColumnForm (pos n) n ap' ai) wh
         omega (arith, ints)
 
     -- rows of a column rise over any stretch
-    rise : (j q d : ℕ) → j < n → get_or (counts ap') j 0 ≤ q → q + suc d < get_or (counts ap') (j + 1) 0 →
-        get_or (counts ai) q 0 < get_or (counts ai) (q + suc d) 0
+    rise : (j q d : ℕ) → j < n → get_or (naturals ap') j 0 ≤ q → q + suc d < get_or (naturals ap') (j + 1) 0 →
+        get_or (naturals ai) q 0 < get_or (naturals ai) (q + suc d) 0
     rise j q zero h low high = let e : q + suc zero ≡ q + 1 = omega arith in rw e (next_row j q h low (omega arith))
     rise j q (suc d) h low high =
         let e : q + suc (suc d) ≡ q + suc d + 1 = omega arith in
@@ -106,7 +106,7 @@ module _ (n : ℕ) (ap' ai : List ℤ) (form : IsColumnForm (pos n) n ap' ai) wh
         let last = next_row j (q + suc d) h (omega arith) (omega arith) in
         rw e (omega (arith, before, last))
 
-    pub sorted_form : IsSortedForm n (counts ap') (counts ai)
+    pub sorted_form : IsSortedForm n (naturals ap') (naturals ai)
     sorted_form = record {
       enough = (let x = form.enough in rw length-map (omega arith));
       rising = λ j h. (let a = pointer_is j (omega arith) in let b = pointer_is (j + 1) (omega arith) in let c = form.ascending j h in
@@ -118,7 +118,7 @@ module _ (n : ℕ) (ap' ai : List ℤ) (form : IsColumnForm (pos n) n ap' ai) wh
     }
 
   -- the pairs of the pattern are the entries of the counts
-  pub same_pair : (i j : ℕ) → is_pair n ap' ai i j ≡ is_entry n (counts ap') (counts ai) i j
+  pub same_pair : (i j : ℕ) → is_pair n ap' ai i j ≡ is_entry n (naturals ap') (naturals ai) i j
   unfolding is_pair holds_row
   same_pair i j = both_ways _ _
       (λ e. let outer = and_parts (ltb i n && ltb j n) _ e in
@@ -127,12 +127,12 @@ module _ (n : ℕ) (ap' ai : List ℤ) (form : IsColumnForm (pos n) n ap' ai) wh
       let k = any_gives (length ai) _ outer.1 in
       let tests = and_parts (int_le (at ap' j) (pos k.0) && int_lt (pos k.0) (at ap' (j + 1))) (int_eq (at ai k.0) (pos i)) k.2 in
       let bounds = and_parts (int_le (at ap' j) (pos k.0)) (int_lt (pos k.0) (at ap' (j + 1))) tests.0 in
-      let low = (le_test (get_or (counts ap') j 0) k.0 (at ap' j) (pointer_is j (omega arith))).0 bounds.0 in
-      let high = (lt_test k.0 (get_or (counts ap') (j + 1) 0) (at ap' (j + 1)) (pointer_is (j + 1) (omega arith))).0 bounds.1 in
+      let low = (le_test (get_or (naturals ap') j 0) k.0 (at ap' j) (pointer_is j (omega arith))).0 bounds.0 in
+      let high = (lt_test k.0 (get_or (naturals ap') (j + 1) 0) (at ap' (j + 1)) (pointer_is (j + 1) (omega arith))).0 bounds.1 in
       let row = (Decides-int_eq (at ai k.0) (pos i)).0 tests.1 in
       let is = row_is j k.0 h high in
-      entry_from (counts ap') (counts ai) n i j k.0 h low high (omega (arith, ints)))
-      (λ e. let r = entry_gives (counts ap') (counts ai) n i j e in
+      entry_from (naturals ap') (naturals ai) n i j k.0 h low high (omega (arith, ints)))
+      (λ e. let r = entry_gives (naturals ap') (naturals ai) n i j e in
       let h = r.1 in
       let high = r.3 in
       let is = row_is j r.0 h high in
@@ -140,25 +140,25 @@ module _ (n : ℕ) (ap' ai : List ℤ) (form : IsColumnForm (pos n) n ap' ai) wh
       let row : at ai r.0 ≡ pos i = sym is ∙ ap pos r.4 in
       let within = pointer_within (j + 1) (omega arith) in
       let small : i < n = omega (arith, ints) in
-      let low_test = (le_test (get_or (counts ap') j 0) r.0 (at ap' j) (pointer_is j (omega arith))).1 r.2 in
-      let high_test = (lt_test r.0 (get_or (counts ap') (j + 1) 0) (at ap' (j + 1)) (pointer_is (j + 1) (omega arith))).1 high in
+      let low_test = (le_test (get_or (naturals ap') j 0) r.0 (at ap' j) (pointer_is j (omega arith))).1 r.2 in
+      let high_test = (lt_test r.0 (get_or (naturals ap') (j + 1) 0) (at ap' (j + 1)) (pointer_is (j + 1) (omega arith))).1 high in
       and_from (ltb i n && ltb j n) _ (and_from (ltb i n) (ltb j n) (lt-ltb i n small) (lt-ltb j n h))
       (any_from (length ai) _ r.0 (omega arith)
       (and_from (int_le (at ap' j) (pos r.0) && int_lt (pos r.0) (at ap' (j + 1))) (int_eq (at ai r.0) (pos i))
       (and_from (int_le (at ap' j) (pos r.0)) (int_lt (pos r.0) (at ap' (j + 1))) low_test high_test)
       ((Decides-int_eq (at ai r.0) (pos i)).1 row))))
 
-  pub same_graph : graph_of n ap' ai ≡ count_graph n (counts ap') (counts ai)
+  pub same_graph : graph_of n ap' ai ≡ count_graph n (naturals ap') (naturals ai)
   unfolding graph_of is_edge
   same_graph = ap (λ (e : ℕ → ℕ → Bool). record { size = n; edge = e }) (funext2 _ _ (λ i j. rw (same_pair i j, same_pair j i) refl))
 
-  pub same_diagonals : diagonal_count n ap' ai ≡ count_below n (λ j. is_entry n (counts ap') (counts ai) j j)
+  pub same_diagonals : diagonal_count n ap' ai ≡ count_below n (λ j. is_entry n (naturals ap') (naturals ai) j j)
   unfolding diagonal_count
   same_diagonals = count_same n _ _ (λ k h. same_pair k k)
 
 -- a place before the end of a column is one of the rows as the caller has them
 pub place_in : {A : Type 0} (value : A → ℤ) (rows : List A) (n : ℕ) (ap' : List ℤ) → IsColumnForm (pos n) n ap' (map value rows) →
-    (j q end : ℕ) → j < n → end ≡ get_or (counts ap') (j + 1) 0 → q < end → q < length rows
+    (j q end : ℕ) → j < n → end ≡ get_or (naturals ap') (j + 1) 0 → q < end → q < length rows
 place_in value rows n ap' form j q end h is high = subst (λ x. q < x) (length-map rows value)
     (place_within n ap' (map value rows) form j q h (omega (arith, is, high)))
 
@@ -171,7 +171,7 @@ module _ {A : Type 0} (value : A → ℤ) (pointers rows : List A) (n : ℕ)
     pointer_fits n (map value pointers) (map value rows) form j h (subst (λ x. x < 2 ^ 64) (sym (length-map rows value)) short),
   )
 
-  pub row_read : (j q end : ℕ) → j < n → end ≡ get_or (counts (map value pointers)) (j + 1) 0 → q < end → n < 2 ^ 64 →
+  pub row_read : (j q end : ℕ) → j < n → end ≡ get_or (naturals (map value pointers)) (j + 1) 0 → q < end → n < 2 ^ 64 →
       (q < length rows) × FitsUnsignedBits 64 (at (map value rows) q)
   row_read j q end h is high short = (
     place_in value rows n (map value pointers) form j q end h is high,

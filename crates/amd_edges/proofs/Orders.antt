@@ -12,7 +12,7 @@ use Rattle.amd_model.specs.Input.Columns.{IsColumnForm}
 use Rattle.amd_model.specs.Input.Pattern.{is_pair}
 use Rattle.amd_model.specs.Quotient.{was_read, met_below, met_at, met_edges, other_end, starting_list}
 use Rattle.amd_model.proofs.Counting.Below.{any_from, none_any, clash}
-use Rattle.amd_types.specs.Counts.{counts, is_entry}
+use Rattle.amd_types.specs.Naturals.{naturals, is_entry}
 use Rattle.amd_edges.specs.Visits.{arcs_of, ends_of}
 use Rattle.amd_edges.specs.Walk.{IsScan, edges_before}
 use Rattle.amd_edges.proofs.Forms.{IsSortedForm, same_pair}
@@ -195,7 +195,7 @@ start_edges pair = refl
 
 -- the edges of the pattern
 pub same_edges : (n : ℕ) (ap' ai : List ℤ) → IsColumnForm (pos n) n ap' ai →
-    met_edges n (is_pair n ap' ai) ≡ met_edges n (is_entry n (counts ap') (counts ai))
+    met_edges n (is_pair n ap' ai) ≡ met_edges n (is_entry n (naturals ap') (naturals ai))
 same_edges n ap' ai form = ap (met_edges n) (funext2 _ _ (same_pair n ap' ai form))
 
 -- ---- the lists of the rows

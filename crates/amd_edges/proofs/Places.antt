@@ -4,7 +4,7 @@ use Rattle.std.proofs.lemmas.Bool.{and_parts, or_cases, and_from, or_left, or_ri
 use Rattle.std.proofs.lemmas.Bool.{ltb-true, le-leb, eq-eqb, lt-ltb, false_from_ne_true}
 use Rattle.std.specs.Cmp.{both_ways}
 use Rattle.amd_model.proofs.Counting.Below.{any_from, any_gives}
-use Rattle.amd_types.specs.Counts.{is_before, is_entry}
+use Rattle.amd_types.specs.Naturals.{is_before, is_entry}
 
 pub funext : {A B : Type 0} (f g : A → B) → ((x : A) → f x ≡ g x) → f ≡ g
 funext f g h = λ i. λ x. h x i

@@ -7,7 +7,7 @@ use Rattle.std.proofs.lemmas.Bool.{le-ltb, ne_eqb, false_from_ne_true}
 use Rattle.std.proofs.lemmas.List.{length-set, get_or_past, set-get_or}
 use Rattle.amd_edges.specs.Visits.{with_arc, IsNew, IsNewEdge}
 use Rattle.amd_edges.proofs.Forms.{IsSortedForm}
-use Rattle.amd_types.specs.Counts.{is_before, is_entry, is_edge, count_graph}
+use Rattle.amd_types.specs.Naturals.{is_before, is_entry, is_edge, count_graph}
 use Rattle.amd_edges.specs.Walk.{IsScan, IsReached, is_read, is_met, met}
 use Rattle.amd_edges.proofs.Places.{funext2, before_gives, before_none, before_more, entry_from}
 

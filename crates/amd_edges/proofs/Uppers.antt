@@ -7,7 +7,7 @@ use Rattle.std.proofs.lemmas.List.{length_push, get_or_push, get_or_append_left,
 use Rattle.amd_edges.specs.Visits.{with_arc, IsNew}
 use Rattle.amd_edges.proofs.Forms.{IsSortedForm}
 use Rattle.amd_edges.proofs.Reading.{IsReading}
-use Rattle.amd_types.specs.Counts.{is_before, is_entry, count_graph}
+use Rattle.amd_types.specs.Naturals.{is_before, is_entry, count_graph}
 use Rattle.amd_edges.specs.Walk.{IsScan, is_read, is_met, met}
 use Rattle.amd_edges.proofs.Places.{cases_order, funext2, before_none, entry_from, entry_gives, entry_none}
 use Rattle.amd_edges.proofs.Scans.{both_arcs, two_new, met_within, in_column, reached_on}

@@ -5,7 +5,7 @@ use Rattle.std.specs.Prelude.{slice_index}
 use Rattle.amd_model.specs.Below.{list_below}
 use Rattle.amd_model.specs.Graph.{Graph}
 use Rattle.amd_model.specs.Quotient.{met_at}
-use Rattle.amd_types.specs.Counts.{counts, count_graph, is_before, is_entry}
+use Rattle.amd_types.specs.Naturals.{naturals, count_graph, is_before, is_entry}
 
 -- the upper entry (a, b) was read: it stands in a column before k, or in column k above row m
 unfoldable pub is_read : ℕ → ℕ → ℕ → ℕ → Bool
@@ -44,17 +44,17 @@ pub record IsScan (n : ℕ) (ap ai t : List ℕ) (k m : ℕ) : Type 0 where
 
 -- the graph of pointers and rows as the caller has them
 abbrev pub graph_read : ℕ → List ℤ → List ℤ → Graph
-graph_read n ap ai = count_graph n (counts ap) (counts ai)
+graph_read n ap ai = count_graph n (naturals ap) (naturals ai)
 
 -- row i stands in column j, for pointers and rows as the caller has them
 abbrev pub entry_read : ℕ → List ℤ → List ℤ → ℕ → ℕ → Bool
-entry_read n ap ai = is_entry n (counts ap) (counts ai)
+entry_read n ap ai = is_entry n (naturals ap) (naturals ai)
 
 -- the arcs met so far, for pointers and rows as the caller has them
 abbrev pub met_read : ℕ → List ℤ → List ℤ → List ℕ → ℕ → ℕ → ℕ → ℕ → Bool
-met_read n ap ai t k m = met n (counts ap) (counts ai) t k m
+met_read n ap ai t k m = met n (naturals ap) (naturals ai) t k m
 
 -- the pointers t are right where the columns before k, and column k above row m, were read, of a matrix as the caller
 -- has it
 abbrev pub IsScanOf : ℕ → List ℤ → List ℤ → List ℕ → ℕ → ℕ → Type 0
-IsScanOf n ap ai t k m = IsScan n (counts ap) (counts ai) t k m
+IsScanOf n ap ai t k m = IsScan n (naturals ap) (naturals ai) t k m

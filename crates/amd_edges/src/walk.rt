@@ -10,7 +10,7 @@ ghost use Rattle.amd_model.specs.Graph.{Graph};
 ghost use Rattle.amd_model.specs.Input.Columns.{IsColumnForm, IsSorted};
 ghost use Rattle.amd_model.specs.Input.Pattern.{graph_of, diagonal_count, is_pair};
 ghost use Rattle.amd_model.specs.Quotient.{met_below, met_edges};
-ghost use Rattle.amd_types.specs.Counts.{counts};
+ghost use Rattle.amd_types.specs.Naturals.{naturals};
 ghost use Rattle.amd_edges.specs.Visits.{IsNew, IsNewEdge, arcs_of, with_arc, with_edge};
 ghost use Rattle.amd_edges.specs.Walk.{IsScanOf, edges_before, entry_read, graph_read, met_read};
 
@@ -76,7 +76,7 @@ fn lower<I: Index, V: Visitor, U: Unsigned, A: Allocator>(
 )
     requires form { IsColumnForm (pos size) size (map I.value a_p.now) (map I.value a_i.now) }
     requires sorted { IsSorted size (map I.value a_p.now) (map I.value a_i.now) }
-    requires fits { slice_index (counts (map I.value a_p.now)) size ≤ U.MOST }
+    requires fits { slice_index (naturals (map I.value a_p.now)) size ≤ U.MOST }
     requires before { j < k }
     requires k_in { k ≤ size }
     requires mirror { k < size → entry_read size (map I.value a_p.now) (map I.value a_i.now) j k ≡ true }
@@ -117,7 +117,7 @@ fn column<I: Index, V: Visitor, U: Unsigned, A: Allocator>(
 ) -> bool
     requires form { IsColumnForm (pos size) size (map I.value a_p.now) (map I.value a_i.now) }
     requires sorted { IsSorted size (map I.value a_p.now) (map I.value a_i.now) }
-    requires fits { slice_index (counts (map I.value a_p.now)) size ≤ U.MOST }
+    requires fits { slice_index (naturals (map I.value a_p.now)) size ≤ U.MOST }
     requires k_in { k < size }
     requires room { size ≤ vec_capacity next.old }
     requires scan { IsScanOf size (map I.value a_p.now) (map I.value a_i.now) next.old.items k 0 }
@@ -161,7 +161,7 @@ fn column_rest<I: Index, V: Visitor, U: Unsigned, A: Allocator>(
 )
     requires form { IsColumnForm (pos size) size (map I.value a_p.now) (map I.value a_i.now) }
     requires sorted { IsSorted size (map I.value a_p.now) (map I.value a_i.now) }
-    requires fits { slice_index (counts (map I.value a_p.now)) size ≤ U.MOST }
+    requires fits { slice_index (naturals (map I.value a_p.now)) size ≤ U.MOST }
     requires row { j < size }
     requires scan { IsScanOf size (map I.value a_p.now) (map I.value a_i.now) next.old.items size j }
     requires held { (arcs : List (ℕ × ℕ)) × V.holds (graph_read size (map I.value a_p.now) (map I.value a_i.now))
@@ -195,7 +195,7 @@ fn rest<I: Index, V: Visitor, U: Unsigned, A: Allocator>(
 )
     requires form { IsColumnForm (pos size) size (map I.value a_p.now) (map I.value a_i.now) }
     requires sorted { IsSorted size (map I.value a_p.now) (map I.value a_i.now) }
-    requires fits { slice_index (counts (map I.value a_p.now)) size ≤ U.MOST }
+    requires fits { slice_index (naturals (map I.value a_p.now)) size ≤ U.MOST }
     requires scan { IsScanOf size (map I.value a_p.now) (map I.value a_i.now) next.old.items size 0 }
     requires held { V.holds (graph_read size (map I.value a_p.now) (map I.value a_i.now))
         (met_read size (map I.value a_p.now) (map I.value a_i.now) next.old.items size 0)
@@ -228,7 +228,7 @@ pub fn walk<I: Index, V: Visitor, U: Unsigned, A: Allocator>(
 ) -> usize
     requires form { IsColumnForm (pos size) size (map I.value a_p.now) (map I.value a_i.now) }
     requires sorted { IsSorted size (map I.value a_p.now) (map I.value a_i.now) }
-    requires fits { slice_index (counts (map I.value a_p.now)) size ≤ U.MOST }
+    requires fits { slice_index (naturals (map I.value a_p.now)) size ≤ U.MOST }
     requires empty { length next.old.items ≡ 0 }
     requires room { size ≤ vec_capacity next.old }
     requires held { V.holds (graph_of size (map I.value a_p.now) (map I.value a_i.now)) (λ a b. false) [] visitor.old }

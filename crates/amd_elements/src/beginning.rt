@@ -1,7 +1,6 @@
 // The beginning of an element: the pivot becomes an element whose list names its front, and leaves the front itself. A
 // pivot that lists no element becomes one in the place of its own list; that of another one is built behind all lists,
-// and the elements that it lists end. Source: Amestoy, Davis and Duff 1996 (element formation and absorption). Called
-// by: a round.
+// and the elements that it lists end. Source: Amestoy, Davis and Duff 1996 (element formation and absorption).
 
 ghost use Rattle.std.specs.Prelude.{◌<◌, ◌≡◌, length, true};
 ghost use Rattle.amd_words.specs.Words.{in_front, size_of};

@@ -8,6 +8,6 @@ pub mod around;
 pub mod beginning;
 pub mod compaction;
 pub mod element;
+pub mod fitting;
 pub mod making;
 pub mod own_place;
-pub mod room;

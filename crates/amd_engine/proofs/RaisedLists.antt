@@ -8,7 +8,7 @@ use Rattle.std.proofs.Math.ListN.{get_or-map}
 use Rattle.amd_model.specs.Below.{sum_below}
 use Rattle.amd_model.specs.Graph.{Graph}
 use Rattle.amd_words.specs.Words.{num, word, place, is_place, start, rows}
-use Rattle.amd_views.specs.Views.{raised}
+use Rattle.amd_lending.specs.Views.{raised}
 use Rattle.amd_lists.specs.Layout.{has_list, end_of}
 use Rattle.amd_workspace.specs.Laying.{IsLaidOut}
 use Rattle.amd_model.specs.Below.{count_below}

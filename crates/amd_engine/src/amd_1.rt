@@ -12,7 +12,7 @@ ghost use Rattle.amd_model.specs.Input.Pattern.{graph_of};
 ghost use Rattle.amd_edges.specs.Visits.{AreCounts, start_of};
 ghost use Rattle.amd_engine_law.specs.Engine.{IsEngineAnswer};
 ghost use Rattle.amd_rounds.specs.Laid.{AreWideEnough};
-ghost use Rattle.amd_types.specs.Counts.{counts};
+ghost use Rattle.amd_types.specs.Naturals.{naturals};
 ghost use Rattle.amd_engine.specs.InPlace.{AnswersInPlace, CanRun, KeepsLaid, LaysGraph, rows_in, told_info};
 ghost use Rattle.amd_engine.specs.InPlace.{values};
 ghost use Rattle.amd_workspace.specs.Lists.{HasRoom, HasRoomBeside};
@@ -22,11 +22,11 @@ use crate::ended::{finish, list_rows};
 use crate::fresh::{fill_lists, memory_for, room_for};
 use crate::rows::{Choice, Laid, RowLists};
 use crate::running::{Told, run_growing};
+use amd_lending::{clear, lend_narrow};
 use amd_types::amd::{Control, Info, Status};
 use amd_types::dense::dense_threshold;
 use amd_types::index::Index;
 use amd_types::internal::count_at;
-use amd_views::{clear, lend_narrow};
 use amd_words::sides::Sides;
 use amd_words::{Cell, Signed, Unsigned, Word};
 use amd_workspace::filling::fill_words;
@@ -171,7 +171,7 @@ fn eliminate_within<J: Index, S: Signed, P: Signed, U: Unsigned, A: Allocator + 
         + length nv.old ≤ room }
     requires room { HasRoomBeside (length nv.old) room memory.old }
     requires narrow { AreWideEnough S.MOST P.MOST U.MOST (length nv.old) room }
-    requires pointers { slice_index (counts (map J.value a_p.now)) (length nv.old) ≤ U.MOST }
+    requires pointers { slice_index (naturals (map J.value a_p.now)) (length nv.old) ≤ U.MOST }
     requires marks { HasMarks (option_copied choice.now.hold) (length nv.old) }
     requires flag { 2 ≤ choice.now.flag }
     ensures orders { (info : Info) → IsEngineAnswer (option_copied choice.now.hold) (length nv.old)
@@ -248,7 +248,7 @@ pub fn order_within<I: Index, J: Index, S: Signed, P: Signed, U: Unsigned, A: Al
         ≤ room }
     requires room { HasRoom (length p.old) room memory.old }
     requires narrow { AreWideEnough S.MOST P.MOST U.MOST (length p.old) room }
-    requires pointers { slice_index (counts (map J.value a_p.now)) (length p.old) ≤ U.MOST }
+    requires pointers { slice_index (naturals (map J.value a_p.now)) (length p.old) ≤ U.MOST }
     requires marks { HasMarks (option_copied choice.now.hold) (length p.old) }
     requires flag { 2 ≤ choice.now.flag }
     ensures orders { IsEngineAnswer (option_copied choice.now.hold) (length p.old) choice.now.control.now.dense
@@ -291,7 +291,7 @@ pub fn order_within_lent<J: Index, P: Signed, U: Unsigned, A: Allocator + Copy>(
         ≤ room }
     requires room { HasRoomBeside (length p.old) room memory.old }
     requires narrow { AreWideEnough 2147483647 P.MOST U.MOST (length p.old) room }
-    requires pointers { slice_index (counts (map J.value a_p.now)) (length p.old) ≤ U.MOST }
+    requires pointers { slice_index (naturals (map J.value a_p.now)) (length p.old) ≤ U.MOST }
     requires marks { HasMarks (option_copied choice.now.hold) (length p.old) }
     requires flag { 2 ≤ choice.now.flag }
     ensures orders { IsEngineAnswer (option_copied choice.now.hold) (length p.old) choice.now.control.now.dense

@@ -20,7 +20,7 @@ use amd_rounds::work::Work;
 use amd_types::amd::Control;
 use amd_types::figures::Figures;
 use amd_words::{Signed, Unsigned, Word, word_of};
-use amd_workspace::starting::begin;
+use amd_workspace::starting::begin_rows;
 use std::alloc::Allocator;
 
 /// The numbers of an elimination between two rounds, beside its lists.
@@ -85,7 +85,7 @@ fn start<S: Signed, P: Signed, U: Unsigned>(
     ensures unpacked { result.n_cmp_a ≡ 0 }
     ensures loans { KeepsRows rows.old rows.new }
 {
-    let (live, n_dense) = begin(
+    let (live, n_dense) = begin_rows(
         rows.len,
         rows.pe,
         rows.e_len,

@@ -1,13 +1,13 @@
 -- Places as numbers of an integer type, and columns that are planned and written in such numbers.
 use Rattle.std.specs.Prelude.{ℕ, ℤ, pos, ◌≡◌, ◌≤◌, List, Option, map, take, length, slice_index, slice_range}
 use Rattle.std.specs.List.Sorted.{IsStrictlyIncreasing}
-use Rattle.amd_types.specs.Counts.{counts}
+use Rattle.amd_types.specs.Naturals.{naturals}
 use Rattle.amd_factor.specs.Gathering.{Completes, Filled}
 use Rattle.amd_factor.specs.Orders.{Order}
 
 -- no number is negative
 abbrev pub AreNonNegative : List ℤ → Type 0
-AreNonNegative zs = map pos (counts zs) ≡ zs
+AreNonNegative zs = map pos (naturals zs) ≡ zs
 
 -- column k takes over the rows from place from on, before to, and the fresh rows are those that it has beside
 pub record Plans (o : Order) (k : ℕ) (ptr rows : List ℕ) (from to : ℕ) (fresh : List ℕ) : Type 0 where
@@ -21,4 +21,4 @@ pub record FillsFront {N : Type 0} (value : N → ℤ) (o : Order) (k : ℕ) (pt
     (parent link : List (Option ℕ)) (column : Option ℕ) (stamp : ℕ) (mark : List ℕ) : Type 0 where
   pub within : slice_index ptr k ≤ length rows
   pub numbers : AreNonNegative (map value (take (slice_index ptr k) rows))
-  pub filled : Filled o k ptr (counts (map value (take (slice_index ptr k) rows))) parent link column stamp mark
+  pub filled : Filled o k ptr (naturals (map value (take (slice_index ptr k) rows))) parent link column stamp mark

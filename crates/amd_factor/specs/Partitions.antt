@@ -5,7 +5,7 @@ use Rattle.std.specs.Prelude.{◌≢◌, slice_index, slice_index_or, unsigned_a
 use Rattle.amd_model.specs.Factor.{IsFactor}
 use Rattle.amd_model.specs.Input.Columns.{IsInput}
 use Rattle.amd_model.specs.Input.Pattern.{graph_of}
-use Rattle.amd_types.specs.Counts.{counts}
+use Rattle.amd_types.specs.Naturals.{naturals}
 use Rattle.amd_factor.specs.Orders.{Order, Permutes}
 use Rattle.amd_factor.specs.Supernodes.{AreRuns, Joined, TellsOver}
 use Rattle.amd_factor.specs.Thinning.{HasThinned}
@@ -161,7 +161,7 @@ ordered_matrix size pointers indices list = record { size = size; pointers = poi
 
 -- its graph, and the order that the list tells
 abbrev pub order_of : OrderedMatrix → Order
-order_of m = record { graph = graph_of (unsigned_abs m.size) m.pointers m.indices; rows = counts m.list }
+order_of m = record { graph = graph_of (unsigned_abs m.size) m.pointers m.indices; rows = naturals m.list }
 
 -- the supernodes of the factor of a matrix under the order that its list tells, but for the rows below the blocks, and
 -- lists of earlier neighbours, thinned or whole; where there are rows the matrix is a column form
@@ -169,6 +169,6 @@ pub record IsPartitionOf (m : OrderedMatrix) (first owner ptr : List ℕ) (paren
     (starts earlier : List ℕ) : Type 0 where
   pub form : m.size ≢ pos 0 → IsInput m.size m.size m.pointers m.indices
   pub size : m.size ≡ pos (length owner)
-  pub permutes : Permutes (unsigned_abs m.size) m.list (counts m.list)
+  pub permutes : Permutes (unsigned_abs m.size) m.list (naturals m.list)
   pub near : HasThinned (order_of m) starts earlier
   pub cut : IsCut (record { order = order_of m; first = first; owner = owner; ptr = ptr; parent = parent })

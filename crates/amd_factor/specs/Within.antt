@@ -5,7 +5,7 @@ use Rattle.amd_model.specs.Figures.{entries}
 use Rattle.amd_model.specs.Graph.{Graph}
 use Rattle.amd_model.specs.Input.Columns.{IsColumnForm, IsInput}
 use Rattle.amd_model.specs.Input.Pattern.{graph_of}
-use Rattle.amd_types.specs.Counts.{counts}
+use Rattle.amd_types.specs.Naturals.{naturals}
 use Rattle.amd_factor.specs.Counted.{wide_cut}
 use Rattle.amd_factor.specs.Orders.{Order, Permutes}
 use Rattle.amd_factor.specs.Places.{ArePlaces}
@@ -20,7 +20,7 @@ words n entries = 2 * entries + 11 * n + 7
 
 -- a matrix with n rows and these pointers has at most so many rows and entries
 abbrev pub FitsIn : ℤ → List ℤ → ℕ → ℕ → Type 0
-FitsIn n ap rows room = n ≢ pos 0 → (unsigned_abs n ≤ rows) × (slice_index (counts ap) (unsigned_abs n) ≤ room)
+FitsIn n ap rows room = n ≢ pos 0 → (unsigned_abs n ≤ rows) × (slice_index (naturals ap) (unsigned_abs n) ≤ room)
 
 -- the column form is that of the graph of an order, and the list has the place of each of its rows
 pub record IsPlaced (o : Order) (n : ℕ) (ap ai : List ℤ) (places : List ℕ) : Type 0 where
@@ -32,7 +32,7 @@ pub record IsPlaced (o : Order) (n : ℕ) (ap ai : List ℤ) (places : List ℕ)
 pub record IsPosed (o : Order) (n : ℕ) (ap ai p : List ℤ) : Type 0 where
   pub form : IsColumnForm (pos n) n ap ai
   pub graph : o.graph ≡ graph_of n ap ai
-  pub rows : o.rows ≡ counts p
+  pub rows : o.rows ≡ naturals p
 
 -- the factor has more entries than there is room for, and needs that many; cut at the greatest number of 128 bits
 pub record Needs (g : Graph) (p : List ℕ) (room needs : ℕ) : Type 0 where

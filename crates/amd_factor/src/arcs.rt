@@ -4,7 +4,7 @@
 
 ghost use Rattle.std.specs.Prelude.{◌≡◌, ◌<◌, ◌≤◌, ◌+◌, ◌∷◌, [], ℕ, List, pos, map, length, slice_index};
 ghost use Rattle.amd_model.specs.Input.Columns.{IsColumnForm};
-ghost use Rattle.amd_types.specs.Counts.{counts};
+ghost use Rattle.amd_types.specs.Naturals.{naturals};
 ghost use Rattle.amd_factor.specs.Arcs.{IsNext, arcs_before};
 ghost use Rattle.amd_factor.specs.Places.{ArePlaces};
 
@@ -51,11 +51,11 @@ fn column<I: Index, V: ArcVisitor>(
     requires form { IsColumnForm (pos size) size (map I.value a_p.now) (map I.value a_i.now) }
     requires places { (rows : List ℕ) × ArePlaces size rows places.now }
     requires column_in { column < size }
-    requires held { V.holds size (arcs_before places.now (counts (map I.value a_p.now)) (counts (map I.value a_i.now))
-        size) (arcs_before places.now (counts (map I.value a_p.now)) (counts (map I.value a_i.now)) column)
+    requires held { V.holds size (arcs_before places.now (naturals (map I.value a_p.now)) (naturals (map I.value a_i.now))
+        size) (arcs_before places.now (naturals (map I.value a_p.now)) (naturals (map I.value a_i.now)) column)
         visitor.now starts.old neighbours.old }
-    ensures held { V.holds size (arcs_before places.now (counts (map I.value a_p.now)) (counts (map I.value a_i.now))
-        size) (arcs_before places.now (counts (map I.value a_p.now)) (counts (map I.value a_i.now)) (column + 1))
+    ensures held { V.holds size (arcs_before places.now (naturals (map I.value a_p.now)) (naturals (map I.value a_i.now))
+        size) (arcs_before places.now (naturals (map I.value a_p.now)) (naturals (map I.value a_i.now)) (column + 1))
         visitor.now starts.new neighbours.new }
 {
     let here = places[column];
@@ -82,10 +82,10 @@ pub fn walk<I: Index, V: ArcVisitor>(
 )
     requires form { IsColumnForm (pos size) size (map I.value a_p.now) (map I.value a_i.now) }
     requires places { (rows : List ℕ) × ArePlaces size rows places.now }
-    requires held { V.holds size (arcs_before places.now (counts (map I.value a_p.now)) (counts (map I.value a_i.now))
+    requires held { V.holds size (arcs_before places.now (naturals (map I.value a_p.now)) (naturals (map I.value a_i.now))
         size) [] visitor.now starts.old neighbours.old }
-    ensures held { V.holds size (arcs_before places.now (counts (map I.value a_p.now)) (counts (map I.value a_i.now))
-        size) (arcs_before places.now (counts (map I.value a_p.now)) (counts (map I.value a_i.now)) size)
+    ensures held { V.holds size (arcs_before places.now (naturals (map I.value a_p.now)) (naturals (map I.value a_i.now))
+        size) (arcs_before places.now (naturals (map I.value a_p.now)) (naturals (map I.value a_i.now)) size)
         visitor.now starts.new neighbours.new }
 {
     'columns: for j in 0..size {

@@ -4,7 +4,7 @@
 
 ghost use Rattle.std.specs.Prelude.{ℕ, ◌≡◌, ◌<◌, ◌+◌, ◌-◌, length, map, pos, slice_index};
 ghost use Rattle.amd_model.specs.Graph.{IsGraph};
-ghost use Rattle.amd_types.specs.Counts.{counts};
+ghost use Rattle.amd_types.specs.Naturals.{naturals};
 ghost use Rattle.amd_factor.specs.Numbers.{AreNonNegative};
 ghost use Rattle.amd_factor.specs.Partitions.{Climbs, IsCut, IsMarkedBy, MarkedBefore, Partition};
 ghost use Rattle.amd_factor.specs.Partitions.{WrittenTo};
@@ -40,11 +40,11 @@ fn put_row<I: Index>(
     requires place { j < length b.owner }
     requires number { I.value number ≡ pos j }
     requires parents { parent.now ≡ b.parent }
-    requires climbs { Climbs b j s next.old mark.old (counts (map I.value rows.old)) }
+    requires climbs { Climbs b j s next.old mark.old (naturals (map I.value rows.old)) }
     requires new { ¬ (IsMarkedBy mark.old j s) }
     requires told { AreNonNegative (map I.value rows.old) }
     ensures told { AreNonNegative (map I.value rows.new) }
-    ensures climbs { Climbs b j result next.new mark.new (counts (map I.value rows.new)) }
+    ensures climbs { Climbs b j result next.new mark.new (naturals (map I.value rows.new)) }
     ensures higher { s < result }
     ensures marked { IsMarkedBy mark.new j s }
     ensures others { (t : ℕ) → ¬ (t ≡ s) → slice_index mark.new t ≡ slice_index mark.old t }
@@ -70,10 +70,10 @@ fn climb<I: Index>(
     requires place { j < length b.owner }
     requires parents { parent.now ≡ b.parent }
     requires number { I.value number ≡ pos j }
-    requires climbs { Climbs b j from next.old mark.old (counts (map I.value rows.old)) }
+    requires climbs { Climbs b j from next.old mark.old (naturals (map I.value rows.old)) }
     requires told { AreNonNegative (map I.value rows.old) }
     ensures told { AreNonNegative (map I.value rows.new) }
-    ensures climbs { Climbs b j (slice_index b.owner j) next.new mark.new (counts (map I.value rows.new)) }
+    ensures climbs { Climbs b j (slice_index b.owner j) next.new mark.new (naturals (map I.value rows.new)) }
     ensures marked { IsMarkedBy mark.new j from }
     ensures kept { (t : ℕ) → IsMarkedBy mark.old j t → IsMarkedBy mark.new j t }
 {
@@ -101,11 +101,11 @@ fn add_row<I: Index>(
     requires owners { owner.now ≡ b.owner }
     requires parents { parent.now ≡ b.parent }
     requires earlier { AreThinned b.order j earlier.now }
-    requires written { WrittenTo b j next.old (counts (map I.value rows.old)) }
+    requires written { WrittenTo b j next.old (naturals (map I.value rows.old)) }
     requires marks { MarkedBefore b j mark.old }
     requires told { AreNonNegative (map I.value rows.old) }
     ensures told { AreNonNegative (map I.value rows.new) }
-    ensures written { WrittenTo b (j + 1) next.new (counts (map I.value rows.new)) }
+    ensures written { WrittenTo b (j + 1) next.new (naturals (map I.value rows.new)) }
     ensures marks { MarkedBefore b (j + 1) mark.new }
 {
     mark[owner[j]] = j + 1;
@@ -148,7 +148,7 @@ pub fn fill_rows<I: Index>(
     requires room { length rows.old ≡ slice_index b.ptr (length b.first - 1) }
     requires fits { I.fits (pos (length b.owner)) }
     ensures told { AreNonNegative (map I.value rows.new) }
-    ensures rows { HoldSupernodes b.order.graph b.order.rows b.first b.ptr (counts (map I.value rows.new)) b.parent }
+    ensures rows { HoldSupernodes b.order.graph b.order.rows b.first b.ptr (naturals (map I.value rows.new)) b.parent }
 {
     next.copy_from_slice(&ptr[..first.len() - 1]);
     mark.fill(0);

@@ -13,7 +13,7 @@ ghost use Rattle.amd_factor.specs.Gathering.{Marks, MarksTell, TellFirst};
 ghost use Rattle.amd_factor.specs.Neighbours.{AreLater};
 ghost use Rattle.amd_factor.specs.Numbers.{AreNonNegative, Plans};
 ghost use Rattle.amd_factor.specs.Trees.{Entry};
-ghost use Rattle.amd_types.specs.Counts.{counts};
+ghost use Rattle.amd_types.specs.Naturals.{naturals};
 
 use crate::children::{greatest_child, has_only_child, link_child};
 use crate::gathering::{gather, gather_places, mark_rows};
@@ -76,7 +76,7 @@ pub fn gather_children<N: Index>(
     requires inside { c.place < length c.order.rows }
     requires links { LinkChildren c.order c.place link.now }
     requires numbers { AreNonNegative (map N.value rows.now) }
-    requires columns { HoldBefore c.order c.place ptr.now (counts (map N.value rows.now)) }
+    requires columns { HoldBefore c.order c.place ptr.now (naturals (map N.value rows.now)) }
     requires base { IsChild c base → (j : ℕ) → c.place < j → Entry c.order.graph c.order.rows base j →
         slice_index mark.old j ≡ stamp }
     requires room { length fresh.old ≡ length c.order.rows }
@@ -120,7 +120,7 @@ fn mark_base<N: Index>(
     requires place { c.place ≡ k }
     requires inside { c.place < length c.order.rows }
     requires numbers { AreNonNegative (map N.value rows.now) }
-    requires rows { c.inherited ≡ counts (map N.value rows.now) }
+    requires rows { c.inherited ≡ naturals (map N.value rows.now) }
     requires inherits { Inherits c base }
     requires marks { MarksTell c.order c.place marked.column marked.stamp mark.old }
     ensures { Marks c result [] mark.new }
@@ -155,9 +155,9 @@ pub fn new_rows<N: Index>(
     requires inside { c.place < length c.order.rows }
     requires links { LinkChildren c.order c.place link.now }
     requires numbers { AreNonNegative (map N.value rows.now) }
-    requires columns { HoldBefore c.order c.place ptr.now (counts (map N.value rows.now)) }
+    requires columns { HoldBefore c.order c.place ptr.now (naturals (map N.value rows.now)) }
     requires base { MatchOption base ((m : ℕ) → ¬ (IsChild c m)) (λ child. IsChild c child) }
-    requires taken { c.inherited ≡ slice_range (counts (map N.value rows.now)) from to }
+    requires taken { c.inherited ≡ slice_range (naturals (map N.value rows.now)) from to }
     requires range { from ≤ to }
     requires within { to ≤ length rows.now }
     requires inherits { Inherits c base }
@@ -196,11 +196,11 @@ pub fn plan_column<N: Index>(
     requires neighbours { AreLater o k neighbours.now }
     requires links { LinkChildren o k link.now }
     requires numbers { AreNonNegative (map N.value rows.now) }
-    requires columns { HoldBefore o k ptr.now (counts (map N.value rows.now)) }
+    requires columns { HoldBefore o k ptr.now (naturals (map N.value rows.now)) }
     requires marks { MarksTell o k marked.column marked.stamp mark.old }
     requires fresh { length fresh.old ≡ length o.rows }
     ensures count { result.count ≤ length fresh.new }
-    ensures plans { Plans o k ptr.now (counts (map N.value rows.now)) result.from result.to
+    ensures plans { Plans o k ptr.now (naturals (map N.value rows.now)) result.from result.to
         (take result.count fresh.new) }
     ensures marks { MarksTell o (k + 1) result.marked.column result.marked.stamp mark.new }
 {
@@ -230,15 +230,15 @@ fn close_column<N: Index>(
     requires laws { IsGraph o.graph }
     requires place { k < length o.rows }
     requires numbers { AreNonNegative (map N.value rows.now) }
-    requires columns { HoldBefore o k ptr.old (counts (map N.value rows.now)) }
-    requires parents { TellFirst o k ptr.old (counts (map N.value rows.now)) parent.old }
+    requires columns { HoldBefore o k ptr.old (naturals (map N.value rows.now)) }
+    requires parents { TellFirst o k ptr.old (naturals (map N.value rows.now)) parent.old }
     requires links { LinkChildren o k link.old }
     requires range { slice_index ptr.old k ≤ end }
     requires within { end ≤ length rows.now }
     requires column { IsColumn o.graph o.rows k
-        (slice_range (counts (map N.value rows.now)) (slice_index ptr.old k) end) }
-    ensures columns { HoldBefore o (k + 1) ptr.new (counts (map N.value rows.now)) }
-    ensures parents { TellFirst o (k + 1) ptr.new (counts (map N.value rows.now)) parent.new }
+        (slice_range (naturals (map N.value rows.now)) (slice_index ptr.old k) end) }
+    ensures columns { HoldBefore o (k + 1) ptr.new (naturals (map N.value rows.now)) }
+    ensures parents { TellFirst o (k + 1) ptr.new (naturals (map N.value rows.now)) parent.new }
     ensures links { LinkChildren o (k + 1) link.new }
     ensures end { slice_index ptr.new (k + 1) ≡ end }
 {
@@ -268,16 +268,16 @@ pub fn finish_column<N: Index>(
     requires laws { IsGraph o.graph }
     requires place { k < length o.rows }
     requires fits { (j : ℕ) → j < length o.rows → N.fits (pos j) }
-    requires plans { Plans o k ptr.old (counts (map N.value (take (slice_index ptr.old k) rows.old))) from to
+    requires plans { Plans o k ptr.old (naturals (map N.value (take (slice_index ptr.old k) rows.old))) from to
         fresh.now }
     requires size { length rows.old ≡ slice_index ptr.old k + (to - from + length fresh.now) }
     requires numbers { AreNonNegative (map N.value (take (slice_index ptr.old k) rows.old)) }
-    requires columns { HoldBefore o k ptr.old (counts (map N.value (take (slice_index ptr.old k) rows.old))) }
-    requires parents { TellFirst o k ptr.old (counts (map N.value (take (slice_index ptr.old k) rows.old))) parent.old }
+    requires columns { HoldBefore o k ptr.old (naturals (map N.value (take (slice_index ptr.old k) rows.old))) }
+    requires parents { TellFirst o k ptr.old (naturals (map N.value (take (slice_index ptr.old k) rows.old))) parent.old }
     requires links { LinkChildren o k link.old }
     ensures numbers { AreNonNegative (map N.value rows.new) }
-    ensures columns { HoldBefore o (k + 1) ptr.new (counts (map N.value rows.new)) }
-    ensures parents { TellFirst o (k + 1) ptr.new (counts (map N.value rows.new)) parent.new }
+    ensures columns { HoldBefore o (k + 1) ptr.new (naturals (map N.value rows.new)) }
+    ensures parents { TellFirst o (k + 1) ptr.new (naturals (map N.value rows.new)) parent.new }
     ensures links { LinkChildren o (k + 1) link.new }
     ensures end { slice_index ptr.new (k + 1) ≡ length rows.new }
 {

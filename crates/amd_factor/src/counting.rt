@@ -6,7 +6,7 @@ ghost use Rattle.std.specs.Prelude.{◌≡◌, pos, map, IfOk, IfErr};
 ghost use Rattle.amd_model.specs.Input.Columns.{IsColumnForm};
 ghost use Rattle.amd_model.specs.Input.Pattern.{graph_of};
 ghost use Rattle.amd_factor.specs.Orders.{Order};
-ghost use Rattle.amd_types.specs.Counts.{counts as counts_of};
+ghost use Rattle.amd_types.specs.Naturals.{naturals};
 ghost use Rattle.amd_factor.specs.Counted.{IsCountsFault, IsCountsOf};
 
 use crate::counted::{Counts, empty_counts, written_counts};
@@ -28,7 +28,7 @@ fn form_counts<I: Index, A: Allocator + Copy>(
     ghost o: { Order }
     requires form { IsColumnForm (pos size) size (map I.value a_p.now) (map I.value a_i.now) }
     requires graph { o.graph ≡ graph_of size (map I.value a_p.now) (map I.value a_i.now) }
-    requires rows { o.rows ≡ counts_of (map I.value p.now) }
+    requires rows { o.rows ≡ naturals (map I.value p.now) }
     ensures counts { IfOk result (λ c. IsCountsOf (pos size) (map I.value a_p.now) (map I.value a_i.now)
         (map I.value p.now) c.sizes.items c.parent.items c.need) }
     ensures fault { IfErr result (λ e. IsCountsFault (pos size) (map I.value a_p.now) (map I.value a_i.now)

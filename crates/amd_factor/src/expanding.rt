@@ -9,8 +9,8 @@ ghost use Rattle.amd_factor.specs.Factors.{IsFactorOf};
 ghost use Rattle.amd_factor.specs.SupernodeLaws.{AreBlocksOf, HaveBlock};
 ghost use Rattle.amd_factor.specs.Supernodes.{IsSupernodesOf, rows_below};
 
-use crate::blocks::Supernodes;
 use crate::factor::Factor;
+use crate::rows_below::Supernodes;
 use std::alloc::{AllocError, Allocator};
 
 /// Appends the entries of the column of place `k`: the places behind it before `end`, and then the rows `below`.

@@ -9,7 +9,7 @@ ghost use Rattle.amd_model.specs.Input.Pattern.{graph_of};
 ghost use Rattle.amd_factor.specs.Columns.{FactorSizes, HoldFactor, PassesRoom};
 ghost use Rattle.amd_factor.specs.Orders.{Order};
 ghost use Rattle.amd_factor.specs.Neighbours.{HasLater};
-ghost use Rattle.amd_types.specs.Counts.{counts};
+ghost use Rattle.amd_types.specs.Naturals.{naturals};
 ghost use Rattle.amd_factor.specs.Factors.{IsFactorOf, IsFault};
 ghost use Rattle.amd_factor.specs.Unfit.{fault_of};
 ghost use Rattle.amd_factor.specs.declared.factor.Fault.TheVariants.{OutOfMemory};
@@ -192,7 +192,7 @@ fn form_columns<I: Index, A: Allocator + Copy>(
     ghost o: { Order }
     requires form { IsColumnForm (pos size) size (map I.value a_p.now) (map I.value a_i.now) }
     requires graph { o.graph ≡ graph_of size (map I.value a_p.now) (map I.value a_i.now) }
-    requires rows { o.rows ≡ counts (map I.value p.now) }
+    requires rows { o.rows ≡ naturals (map I.value p.now) }
     ensures factor { IfOk result (λ f. IsFactorOf (pos size) (map I.value a_p.now) (map I.value a_i.now)
         (map I.value p.now) f.ptr.items f.rows.items f.parent.items) }
     ensures room { IfOk result (λ f. length f.rows.items ≤ room) }

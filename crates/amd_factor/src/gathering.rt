@@ -1,7 +1,7 @@
 // The rows that are new in a column, each found once by its mark.
 
 ghost use Rattle.std.specs.Prelude.{ℕ, ◌≡◌, ◌<◌, ◌≤◌, ◌+◌, Contains, length, map, slice_index, take};
-ghost use Rattle.amd_types.specs.Counts.{counts};
+ghost use Rattle.amd_types.specs.Naturals.{naturals};
 ghost use Rattle.amd_factor.specs.Gathering.{Column, EntryOf, Marks};
 ghost use Rattle.amd_factor.specs.Numbers.{AreNonNegative};
 
@@ -11,9 +11,9 @@ use amd_types::index::Index;
 /// Gives each of the rows this mark.
 pub fn mark_rows<N: Index>(rows: &[N], stamp: usize, mark: &mut [usize])
     requires numbers { AreNonNegative (map N.value rows.now) }
-    requires within { (j : ℕ) → Contains (counts (map N.value rows.now)) j → j < length mark.old }
-    ensures marked { (j : ℕ) → Contains (counts (map N.value rows.now)) j → slice_index mark.new j ≡ stamp }
-    ensures others { (j : ℕ) → ¬ (Contains (counts (map N.value rows.now)) j) →
+    requires within { (j : ℕ) → Contains (naturals (map N.value rows.now)) j → j < length mark.old }
+    ensures marked { (j : ℕ) → Contains (naturals (map N.value rows.now)) j → slice_index mark.new j ≡ stamp }
+    ensures others { (j : ℕ) → ¬ (Contains (naturals (map N.value rows.now)) j) →
         slice_index mark.new j ≡ slice_index mark.old j }
 {
     'rows: for k in 0..rows.len() {
@@ -60,13 +60,13 @@ pub fn gather<N: Index>(
 ) -> usize
     ghost c: { Column }
     requires numbers { AreNonNegative (map N.value rows.now) }
-    requires entries { (j : ℕ) → Contains (counts (map N.value rows.now)) j → EntryOf c j }
+    requires entries { (j : ℕ) → Contains (naturals (map N.value rows.now)) j → EntryOf c j }
     requires room { length fresh.old ≡ length c.order.rows }
     requires count { count ≤ length fresh.old }
     requires marks { Marks c stamp (take count fresh.old) mark.old }
     ensures count { result ≤ length fresh.new }
     ensures marks { Marks c stamp (take result fresh.new) mark.new }
-    ensures all { (j : ℕ) → Contains (counts (map N.value rows.now)) j → slice_index mark.new j ≡ stamp }
+    ensures all { (j : ℕ) → Contains (naturals (map N.value rows.now)) j → slice_index mark.new j ≡ stamp }
     ensures kept { (j : ℕ) → slice_index mark.old j ≡ stamp → slice_index mark.new j ≡ stamp }
 {
     let mut listed = count;

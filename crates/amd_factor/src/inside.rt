@@ -3,7 +3,7 @@
 
 ghost use Rattle.std.specs.Prelude.{ℕ, List, ◌≡◌, ◌≢◌, ◌≤◌, ◌<◌, ◌+◌, pos, length, map};
 ghost use Rattle.std.specs.Prelude.{slice_index, MatchOption, IfOk, IfErr};
-ghost use Rattle.amd_types.specs.Counts.{counts as counts_of};
+ghost use Rattle.amd_types.specs.Naturals.{naturals};
 ghost use Rattle.amd_factor.specs.Counted.{TellCounts};
 ghost use Rattle.amd_factor.specs.Factors.{WritesFactor};
 ghost use Rattle.amd_factor.specs.Orders.{Order, Permutes};
@@ -31,11 +31,11 @@ pub fn counts_inside<I: Index>(
     ghost o: { Order }
     requires posed { IsPosed o (length counts.old) (map I.value a_p.now) (map I.value a_i.now) (map I.value p.now) }
     requires parents { length parent.old ≡ length counts.old }
-    requires room { words (length counts.old) (slice_index (counts_of (map I.value a_p.now)) (length counts.old))
+    requires room { words (length counts.old) (slice_index (naturals (map I.value a_p.now)) (length counts.old))
         ≤ length numbers.old }
     ensures counts { MatchOption result
         ((order : List ℕ) → ¬ (Permutes (length counts.old) (map I.value p.now) order))
-        (λ need. Permutes (length counts.old) (map I.value p.now) (counts_of (map I.value p.now)) ×
+        (λ need. Permutes (length counts.old) (map I.value p.now) (naturals (map I.value p.now)) ×
         TellCounts o.graph o.rows counts.new parent.new need) }
     ensures kept { MatchOption result ((counts.new ≡ counts.old) × (parent.new ≡ parent.old)) (λ need. Unit {0}) }
 {
@@ -69,7 +69,7 @@ pub fn columns_inside<I: Index>(
     requires posed { IsPosed o (length parent.old) (map I.value a_p.now) (map I.value a_i.now) (map I.value p.now) }
     requires fits { (j : ℕ) → j < length parent.old → I.fits (pos j) }
     requires lists { (length ptr.old ≡ length parent.old + 1) × (length parent.old ≤ length links.old) }
-    requires room { words (length parent.old) (slice_index (counts_of (map I.value a_p.now)) (length parent.old))
+    requires room { words (length parent.old) (slice_index (naturals (map I.value a_p.now)) (length parent.old))
         ≤ length numbers.old }
     ensures factor { IfOk result (λ done. WritesFactor (pos (length parent.old)) (map I.value a_p.now)
         (map I.value a_i.now) (map I.value p.now) (map I.value rows.old) (map I.value rows.new) ptr.new parent.new) }

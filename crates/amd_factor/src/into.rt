@@ -8,7 +8,7 @@ ghost use Rattle.amd_model.specs.Input.Pattern.{graph_of};
 ghost use Rattle.amd_factor.specs.Columns.{HoldFactor, PassesRoom};
 ghost use Rattle.amd_factor.specs.Orders.{Order};
 ghost use Rattle.amd_factor.specs.Neighbours.{HasLater};
-ghost use Rattle.amd_types.specs.Counts.{counts};
+ghost use Rattle.amd_types.specs.Naturals.{naturals};
 ghost use Rattle.amd_factor.specs.Factors.{IsFault, WritesFactor};
 ghost use Rattle.amd_factor.specs.declared.factor.Fault.TheVariants.{OutOfMemory, RoomTooSmall};
 
@@ -96,7 +96,7 @@ fn form_columns_into<I: Index, A: Allocator + Copy>(
     ghost o: { Order }
     requires form { IsColumnForm (pos size) size (map I.value a_p.now) (map I.value a_i.now) }
     requires graph { o.graph ≡ graph_of size (map I.value a_p.now) (map I.value a_i.now) }
-    requires rows { o.rows ≡ counts (map I.value p.now) }
+    requires rows { o.rows ≡ naturals (map I.value p.now) }
     requires fits { (j : ℕ) → j < size → I.fits (pos j) }
     ensures factor { IfOk result (λ f. WritesFactor (pos size) (map I.value a_p.now) (map I.value a_i.now)
         (map I.value p.now) (map I.value rows.old) (map I.value rows.new) f.ptr.items f.parent.items) }

@@ -4,7 +4,7 @@
 
 ghost use Rattle.std.specs.Prelude.{ℕ, List, ◌≡◌, ◌<◌, ◌≤◌, ◌+◌, ◌*◌, ◌++◌, pos, map};
 ghost use Rattle.std.specs.Prelude.{drop, length, slice_index, MatchOption};
-ghost use Rattle.amd_types.specs.Counts.{counts as counts_of};
+ghost use Rattle.amd_types.specs.Naturals.{naturals};
 ghost use Rattle.amd_factor.specs.Columns.{HoldFactor, PassesRoom};
 ghost use Rattle.amd_factor.specs.Orders.{Order};
 ghost use Rattle.amd_factor.specs.Sizes.{HoldSizes};
@@ -30,7 +30,7 @@ pub fn lent_sizes<I: Index>(
     ghost o: { Order }
     requires placed { IsPlaced o (length places.now) (map I.value a_p.now) (map I.value a_i.now) places.now }
     requires lists { (length counts.old ≡ length places.now) × (length parent.old ≡ length places.now) }
-    requires room { 2 * slice_index (counts_of (map I.value a_p.now)) (length places.now) + 10 * length places.now + 7
+    requires room { 2 * slice_index (naturals (map I.value a_p.now)) (length places.now) + 10 * length places.now + 7
         ≤ length memory.old }
     ensures { HoldSizes o.graph o.rows counts.new parent.new }
 {
@@ -67,7 +67,7 @@ pub fn lent_columns<I: Index>(
     requires fits { (j : ℕ) → j < length places.now → I.fits (pos j) }
     requires room { (length ptr.old ≡ length places.now + 1) × (length parent.old ≡ length places.now) ×
         (length places.now ≤ length links.old) ×
-        (slice_index (counts_of (map I.value a_p.now)) (length places.now) + 3 * length places.now + 1
+        (slice_index (naturals (map I.value a_p.now)) (length places.now) + 3 * length places.now + 1
         ≤ length memory.old) }
     ensures factor { MatchOption result (PassesRoom o.graph o.rows (length rows.old))
         (λ total. (entries : List ℕ) × (total ≡ length entries) ×

@@ -31,7 +31,6 @@
 
 pub mod arcs;
 pub mod below;
-pub mod blocks;
 pub mod children;
 pub mod column;
 pub mod counted;
@@ -56,8 +55,9 @@ pub mod partition;
 pub mod places;
 pub mod ranks;
 pub mod refusal;
-pub mod room;
+pub mod rows_below;
 pub mod sizes;
+pub mod sizing;
 pub mod supernodal;
 pub mod supernode_laws;
 pub mod sweep;
@@ -66,13 +66,13 @@ pub mod tree;
 pub mod turning;
 pub mod workspace;
 
-pub use blocks::{Partitioned, Supernodes, write_rows};
 pub use counted::Counts;
 pub use counting::counts;
 pub use expanding::expand;
 pub use factor::{Factor, Fault, columns};
 pub use into::{Frame, columns_into};
 pub use refusal::Refusal;
-pub use room::{SupernodeSizes, supernode_sizes};
+pub use rows_below::{Partitioned, Supernodes, write_rows};
+pub use sizing::{SupernodeSizes, supernode_sizes};
 pub use supernodal::{supernode_partition, supernodes};
 pub use workspace::{FactorWorkspace, factor_bytes};

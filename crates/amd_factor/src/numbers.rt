@@ -1,7 +1,7 @@
 // Places as numbers of an integer type: reading them, and writing them.
 
 ghost use Rattle.std.specs.Prelude.{ℕ, ◌≡◌, ◌<◌, ◌^◌, length, map, pos, slice_index};
-ghost use Rattle.amd_types.specs.Counts.{counts};
+ghost use Rattle.amd_types.specs.Naturals.{naturals};
 ghost use Rattle.amd_factor.specs.Numbers.{AreNonNegative};
 
 use amd_types::index::Index;
@@ -12,8 +12,8 @@ use amd_types::internal::{count_at, from_count};
 pub fn place_at<N: Index>(numbers: &[N], k: usize) -> usize
     requires numbers { AreNonNegative (map N.value numbers.now) }
     requires within { k < length numbers.now }
-    requires small { slice_index (counts (map N.value numbers.now)) k < 2 ^ 64 }
-    ensures { result ≡ slice_index (counts (map N.value numbers.now)) k }
+    requires small { slice_index (naturals (map N.value numbers.now)) k < 2 ^ 64 }
+    ensures { result ≡ slice_index (naturals (map N.value numbers.now)) k }
 {
     count_at(numbers, k)
 }

@@ -4,7 +4,7 @@
 ghost use Rattle.std.specs.Prelude.{◌≡◌, pos, map, IfOk, IfErr};
 ghost use Rattle.amd_model.specs.Input.Columns.{IsColumnForm};
 ghost use Rattle.amd_model.specs.Input.Pattern.{graph_of};
-ghost use Rattle.amd_types.specs.Counts.{counts as counts_of};
+ghost use Rattle.amd_types.specs.Naturals.{naturals};
 ghost use Rattle.amd_factor.specs.Counted.{IsCountsFault};
 ghost use Rattle.amd_factor.specs.Neighbours.{HasEarlier};
 ghost use Rattle.amd_factor.specs.Orders.{Permutes};
@@ -28,10 +28,10 @@ pub fn ordered_lists<I: Index, A: Allocator + Copy>(
     p: &[I],
 ) -> Result<NeighbourLists<A>, Fault>
     requires form { IsColumnForm (pos size) size (map I.value a_p.now) (map I.value a_i.now) }
-    ensures permutes { IfOk result (λ l. Permutes size (map I.value p.now) (counts_of (map I.value p.now))) }
+    ensures permutes { IfOk result (λ l. Permutes size (map I.value p.now) (naturals (map I.value p.now))) }
     ensures lists { IfOk result (λ l. HasEarlier (record {
       graph = graph_of size (map I.value a_p.now) (map I.value a_i.now);
-      rows = counts_of (map I.value p.now);
+      rows = naturals (map I.value p.now);
     }) l.starts.items l.neighbours.items) }
     ensures fault { IfErr result (λ e. IsCountsFault (pos size) (map I.value a_p.now) (map I.value a_i.now)
         (map I.value p.now) e) }

@@ -2,7 +2,7 @@
 
 ghost use Rattle.std.specs.Prelude.{◌≡◌, ◌<◌, true, false, ℕ, List, length, map, slice_index, IfOk, MatchOption};
 ghost use Rattle.amd_factor.specs.Orders.{Permutes};
-ghost use Rattle.amd_types.specs.Counts.{counts};
+ghost use Rattle.amd_types.specs.Naturals.{naturals};
 ghost use Rattle.amd_factor.specs.Places.{ArePlaces};
 
 use amd_types::index::Index;
@@ -15,8 +15,8 @@ use std::alloc::{AllocError, Allocator};
 pub fn place_rows<I: Index>(p: &[I], places: &mut [usize]) -> bool
     requires unmet { (k : ℕ) → k < length places.old → slice_index places.old k ≡ length places.old }
     ensures permutation { result ≡ true →
-        Permutes (length places.old) (map I.value p.now) (counts (map I.value p.now)) }
-    ensures places { result ≡ true → ArePlaces (length places.old) (counts (map I.value p.now)) places.new }
+        Permutes (length places.old) (map I.value p.now) (naturals (map I.value p.now)) }
+    ensures places { result ≡ true → ArePlaces (length places.old) (naturals (map I.value p.now)) places.new }
     ensures none { result ≡ false → (rows : List ℕ) → Permutes (length places.old) (map I.value p.now) rows → ⊥ }
 {
     let size = places.len();
@@ -48,9 +48,9 @@ pub fn places<I: Index, A: Allocator>(
     p: &[I],
 ) -> Result<Option<Vec<usize, A>>, AllocError>
     ensures permutation { IfOk result (λ r. MatchOption r (Unit {0})
-        (λ places. Permutes size (map I.value p.now) (counts (map I.value p.now)))) }
+        (λ places. Permutes size (map I.value p.now) (naturals (map I.value p.now)))) }
     ensures places { IfOk result (λ r. MatchOption r (Unit {0})
-        (λ places. ArePlaces size (counts (map I.value p.now)) places.items)) }
+        (λ places. ArePlaces size (naturals (map I.value p.now)) places.items)) }
     ensures none { IfOk result (λ r. MatchOption r ((rows : List ℕ) → Permutes size (map I.value p.now) rows → ⊥)
         (λ places. Unit {0})) }
 {

@@ -4,19 +4,19 @@
 ghost use Rattle.std.specs.Prelude.{◌≡◌, ◌+◌, ◌∷◌, [], length, pos, map, IfOk, IfErr};
 ghost use Rattle.amd_model.specs.Input.Columns.{IsColumnForm};
 ghost use Rattle.amd_model.specs.Input.Pattern.{graph_of};
-ghost use Rattle.amd_types.specs.Counts.{counts as counts_of};
+ghost use Rattle.amd_types.specs.Naturals.{naturals};
 ghost use Rattle.amd_factor.specs.Counted.{IsCountsFault};
 ghost use Rattle.amd_factor.specs.Orders.{Order};
 ghost use Rattle.amd_factor.specs.Partitions.{IsPartitionOf, OrderedMatrix, ordered_matrix};
 ghost use Rattle.amd_factor.specs.Supernodes.{IsSupernodesOf};
 
-use crate::blocks::{Partitioned, Supernodes, write_rows};
 use crate::counted::thinned_sizes;
 use crate::entrance::rows_of;
 use crate::factor::{Fault, fault_for};
 use crate::neighbours::NeighbourLists;
 use crate::ordering::ordered_lists;
 use crate::partition::{Cut, cut_places};
+use crate::rows_below::{Partitioned, Supernodes, write_rows};
 use amd_types::index::Index;
 use num_traits::PrimInt;
 use std::alloc::{AllocError, Allocator};
@@ -32,7 +32,7 @@ fn form_partition<I: Index, A: Allocator + Copy>(
     ghost o: { Order }
     requires form { IsColumnForm (pos size) size (map I.value a_p.now) (map I.value a_i.now) }
     requires graph { o.graph ≡ graph_of size (map I.value a_p.now) (map I.value a_i.now) }
-    requires rows { o.rows ≡ counts_of (map I.value p.now) }
+    requires rows { o.rows ≡ naturals (map I.value p.now) }
     ensures partition { IfOk result (λ b. IsPartitionOf (ordered_matrix (pos size) (map I.value a_p.now)
         (map I.value a_i.now) (map I.value p.now)) b.cut.first.items b.cut.owner.items b.cut.ptr.items
         b.cut.parent.items b.lists.starts.items b.lists.neighbours.items) }
@@ -89,7 +89,7 @@ fn no_partition<A: Allocator + Copy>(alloc: A) -> Result<Partitioned<A>, AllocEr
 }
 
 /// The supernodes of the factor of a square matrix under an order of its rows, but for the rows below the blocks; these
-/// are written by [`crate::blocks::write_rows`], which asks for no memory, when the caller has a place for them.
+/// are written by [`crate::rows_below::write_rows`], which asks for no memory, when the caller has a place for them.
 ///
 /// The input, the order and the supernodes are those of [`supernodes`].
 ///

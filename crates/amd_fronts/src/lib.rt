@@ -3,6 +3,6 @@
 //! and 2004.
 #![tactic(auto)]
 
-pub mod counts;
 pub mod fronts;
+pub mod outside;
 pub mod turning;

@@ -5,8 +5,8 @@
 ghost use Rattle.amd_fronts.specs.Effects.{Turns};
 ghost use Rattle.amd_fronts.specs.Premises.{CanTurnFront};
 
-use crate::counts::count_outside;
 use crate::fronts::renew_all;
+use crate::outside::count_outside;
 use amd_words::sides::Sides;
 use amd_words::words::named;
 use amd_words::{Cell, Signed, Unsigned, Word, cell_at};

@@ -6,7 +6,7 @@ use Rattle.std.proofs.lemmas.Grind.{get_or_default_zero}
 use Rattle.std.proofs.lemmas.List.{length-set, length_push, get_or_push, get_or_append_left}
 use Rattle.amd_model.specs.Below.{count_below}
 use Rattle.amd_model.proofs.Counting.Below.{count_same}
-use Rattle.amd_types.specs.Counts.{is_entry, count_graph, is_edge}
+use Rattle.amd_types.specs.Naturals.{is_entry, count_graph, is_edge}
 use Rattle.amd_edges.specs.Visits.{AreCounts}
 use Rattle.amd_edges.proofs.Forms.{IsSortedForm}
 use Rattle.amd_edges.proofs.Places.{cases_order, entry_from, entry_gives, entry_none}

@@ -8,7 +8,7 @@ use Rattle.amd_model.specs.Input.Columns.{IsColumnForm, IsSorted, IsInput, IsSor
 use Rattle.amd_model.specs.Input.Pattern.{graph_of, pair_count, diagonal_count}
 use Rattle.amd_model.proofs.Counting.Below.{sum_same}
 use Rattle.amd_model.proofs.Patterns.DegreeSums.{degrees_twice, pattern_graph}
-use Rattle.amd_types.specs.Counts.{counts}
+use Rattle.amd_types.specs.Naturals.{naturals}
 use Rattle.amd_types.specs.declared.amd.Info.{Info}
 use Rattle.amd_edges.specs.Visits.{AreCounts}
 use Rattle.amd_input.specs.Degrees.{AreDegrees}
@@ -50,7 +50,7 @@ module _ (n : ℕ) (ap' ai : List ℤ) where
     each = h.each;
   }
 
-  pub figures_are : IsColumnForm (pos n) n ap' ai → IsSorted n ap' ai → (info : Info) → info.n ≡ n → info.nz ≡ get_or (counts ap') n 0 →
+  pub figures_are : IsColumnForm (pos n) n ap' ai → IsSorted n ap' ai → (info : Info) → info.n ≡ n → info.nz ≡ get_or (naturals ap') n 0 →
       info.nz_diag ≡ diagonal_count n ap' ai →
       info.nz_a_plus_at ≡ degree_sum (graph_of n ap' ai) → info.symmetry ≡ eqb info.nz_a_plus_at (info.nz - info.nz_diag) →
       HasPatternFigures n ap' ai info
@@ -70,7 +70,7 @@ module _ (n : ℕ) (ap' ai : List ℤ) where
 
   -- there are no more entries on the diagonal than entries
   pub diagonal_within : IsColumnForm (pos n) n ap' ai → IsSorted n ap' ai → (diagonals entries : ℕ) → diagonals ≡ diagonal_count n ap' ai →
-      entries ≡ get_or (counts ap') n 0 → diagonals ≤ entries
+      entries ≡ get_or (naturals ap') n 0 → diagonals ≤ entries
   diagonal_within form sorted diagonals entries is places =
       let pairs = pairs_counted n ap' ai form sorted in
       let part = diagonal_part n ap' ai in

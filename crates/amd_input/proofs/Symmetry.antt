@@ -11,7 +11,7 @@ use Rattle.amd_model.specs.Input.Pattern.{is_pair, graph_of, pair_count, diagona
 use Rattle.amd_model.proofs.Counting.Below.{sum_mono, sum_plus, sum_same, count_mono, count_or, count_same, count_none}
 use Rattle.amd_model.proofs.Counting.Pigeonhole.{sum_swap}
 use Rattle.amd_model.proofs.Patterns.StartingLists.{pair_small}
-use Rattle.amd_types.specs.Counts.{counts, is_before, is_entry}
+use Rattle.amd_types.specs.Naturals.{naturals, is_before, is_entry}
 use Rattle.amd_edges.proofs.Forms.{IsSortedForm, sorted_form, same_pair, pointer_is}
 use Rattle.amd_edges.proofs.Places.{before_none, before_more}
 use Rattle.amd_edges.proofs.Arcs.{count_more}
@@ -169,20 +169,20 @@ module _ (n : ℕ) (pair : ℕ → ℕ → Bool) where
 
 module _ (n : ℕ) (ap' ai : List ℤ) (form : IsColumnForm (pos n) n ap' ai) (sorted : IsSorted n ap' ai) where
   -- the last pointer is the number of pairs
-  pub pairs_counted : get_or (counts ap') n 0 ≡ pair_count n ap' ai
+  pub pairs_counted : get_or (naturals ap') n 0 ≡ pair_count n ap' ai
   unfolding pair_count
   pairs_counted =
-      let all = entries_counted n (counts ap') (counts ai) (sorted_form n ap' ai form sorted) n (omega arith) in
-      let zero_first : get_or (counts ap') 0 0 ≡ 0 = (let is = pointer_is n ap' ai form 0 (omega arith) in let first = form.first in
+      let all = entries_counted n (naturals ap') (naturals ai) (sorted_form n ap' ai form sorted) n (omega arith) in
+      let zero_first : get_or (naturals ap') 0 0 ≡ 0 = (let is = pointer_is n ap' ai form 0 (omega arith) in let first = form.first in
       omega (arith, ints)) in
       let same = sum_same n (λ j. count_below n (λ i. is_pair n ap' ai i j))
-      (λ j. count_below n (λ i. is_entry n (counts ap') (counts ai) i j)) (λ j h. count_same n _ _ (λ i l. same_pair n ap' ai form i j))
+      (λ j. count_below n (λ i. is_entry n (naturals ap') (naturals ai) i j)) (λ j h. count_same n _ _ (λ i l. same_pair n ap' ai form i j))
       in
       omega (arith, all, zero_first, same)
 
 -- each entry gives two arcs at most
 pub arcs_twice : (n : ℕ) (ap' ai : List ℤ) → IsColumnForm (pos n) n ap' ai → IsSorted n ap' ai →
-    degree_sum (graph_of n ap' ai) ≤ 2 * get_or (counts ap') n 0
+    degree_sum (graph_of n ap' ai) ≤ 2 * get_or (naturals ap') n 0
 unfolding graph_of degree_sum degree arc pair_count
 arcs_twice n ap' ai form sorted =
     let pairs = pairs_counted n ap' ai form sorted in let bound = arc_bound n (is_pair n ap' ai) in

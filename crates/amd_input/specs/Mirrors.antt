@@ -1,7 +1,7 @@
 -- The mirrors of the entries above the diagonal, and the degrees where each entry has one.
 use Rattle.std.specs.Prelude.{◌≡◌, ◌+◌, ◌<◌, ◌≤◌, ◌⊎◌, ◌&&◌, ◌==◌, ℕ, ℤ, Bool, true, not, List, length, slice_index}
 use Rattle.amd_model.specs.Below.{count_below}
-use Rattle.amd_types.specs.Counts.{counts, is_entry}
+use Rattle.amd_types.specs.Naturals.{naturals, is_entry}
 
 -- the columns before k were read, and column k above row m: each upper entry that was read has its mirror before the
 -- pointer t of the column of its row, and a row before such a pointer is not below the diagonal, or has its mirror
@@ -15,7 +15,7 @@ pub record HaveMirrors (n : ℕ) (ap ai t : List ℕ) (k m : ℕ) : Type 0 where
 
 -- the same for pointers and rows as the caller has them
 abbrev pub HaveMirrorsIn : ℕ → List ℤ → List ℤ → List ℕ → ℕ → ℕ → Type 0
-HaveMirrorsIn n ap ai t k m = HaveMirrors n (counts ap) (counts ai) t k m
+HaveMirrorsIn n ap ai t k m = HaveMirrors n (naturals ap) (naturals ai) t k m
 
 -- row i stands in column j, and is another row
 unfoldable pub is_beside : ℕ → List ℕ → List ℕ → ℕ → ℕ → Bool

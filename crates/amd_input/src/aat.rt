@@ -6,7 +6,7 @@ ghost use Rattle.std.specs.Prelude.{◌≤◌, ◌∷◌, [], IfOk, IfErr, OnOk,
 ghost use Rattle.std.specs.Vec.{vec_capacity};
 ghost use Rattle.amd_model.specs.Input.Columns.{IsColumnForm, IsInput, IsSorted, IsSortedInput};
 ghost use Rattle.amd_model.specs.Input.Pattern.{graph_of, diagonal_count};
-ghost use Rattle.amd_types.specs.Counts.{counts};
+ghost use Rattle.amd_types.specs.Naturals.{naturals};
 ghost use Rattle.amd_edges.specs.Visits.{AreCounts};
 ghost use Rattle.amd_input.specs.Degrees.{AreDegrees};
 ghost use Rattle.amd_input.specs.PatternFigures.{HasPatternFigures};
@@ -68,7 +68,7 @@ fn count_degrees<I: Index, U: Unsigned, A: Allocator + Copy>(
     requires form { IsColumnForm (pos size) size (map I.value a_p.now) (map I.value a_i.now) }
     requires sorted { IsSorted size (map I.value a_p.now) (map I.value a_i.now) }
     requires room { (size ≤ vec_capacity next.old) × (size ≤ vec_capacity counter.old.degrees) }
-    requires fits { (size ≤ U.MOST) × (slice_index (counts (map I.value a_p.now)) size ≤ U.MOST) }
+    requires fits { (size ≤ U.MOST) × (slice_index (naturals (map I.value a_p.now)) size ≤ U.MOST) }
     ensures diagonals { result ≡ diagonal_count size (map I.value a_p.now) (map I.value a_i.now) }
     ensures degrees { AreCounts (graph_of size (map I.value a_p.now) (map I.value a_i.now))
         ((graph_of size (map I.value a_p.now) (map I.value a_i.now)).edge) counter.new.degrees.items }
@@ -135,10 +135,10 @@ pub fn aat_within<I: Index, U: Unsigned, A: Allocator + Copy>(
     requires form { IsColumnForm (pos size) size (map I.value a_p.now) (map I.value a_i.now) }
     requires sorted { IsSorted size (map I.value a_p.now) (map I.value a_i.now) }
     requires room { (size ≤ vec_capacity next.old) × (size ≤ vec_capacity counter.old.degrees) }
-    requires fits { (size ≤ U.MOST) × (slice_index (counts (map I.value a_p.now)) size ≤ U.MOST) }
-    requires small { 2 * slice_index (counts (map I.value a_p.now)) size < 2 ^ 64 }
+    requires fits { (size ≤ U.MOST) × (slice_index (naturals (map I.value a_p.now)) size ≤ U.MOST) }
+    requires small { 2 * slice_index (naturals (map I.value a_p.now)) size < 2 ^ 64 }
     ensures degrees { AreDegrees size (map I.value a_p.now) (map I.value a_i.now) result counter.new.degrees.items }
-    ensures few { result ≤ 2 * slice_index (counts (map I.value a_p.now)) size }
+    ensures few { result ≤ 2 * slice_index (naturals (map I.value a_p.now)) size }
     ensures figures { HasPatternFigures size (map I.value a_p.now) (map I.value a_i.now) info.new }
     ensures others { info.new ≡ record info.old {
       n = info.new.n;

@@ -7,7 +7,7 @@ ghost use Rattle.std.specs.Prelude.{◌≡◌, ◌<◌, ◌≤◌, ◌+◌, ℕ,
 ghost use Rattle.std.specs.Vec.{vec_capacity};
 ghost use Rattle.amd_model.specs.Input.Columns.{IsColumnForm, IsSorted};
 ghost use Rattle.amd_model.specs.Input.Pattern.{graph_of, diagonal_count};
-ghost use Rattle.amd_types.specs.Counts.{counts};
+ghost use Rattle.amd_types.specs.Naturals.{naturals};
 ghost use Rattle.amd_edges.specs.Visits.{AreCounts};
 ghost use Rattle.amd_edges.specs.Walk.{entry_read};
 ghost use Rattle.amd_input.specs.Mirrors.{HaveMirrorsIn, CountOthers, EndsUpper};
@@ -28,12 +28,12 @@ fn uppers<I: Index, U: Unsigned, A: Allocator>(
 ) -> Option<usize>
     requires form { IsColumnForm (pos size) size (map I.value a_p.now) (map I.value a_i.now) }
     requires sorted { IsSorted size (map I.value a_p.now) (map I.value a_i.now) }
-    requires fits { slice_index (counts (map I.value a_p.now)) size ≤ U.MOST }
+    requires fits { slice_index (naturals (map I.value a_p.now)) size ≤ U.MOST }
     requires k_in { k < size }
     requires read { HaveMirrorsIn size (map I.value a_p.now) (map I.value a_i.now) next.old.items k 0 }
     ensures read { IfSome result (λ place. HaveMirrorsIn size (map I.value a_p.now) (map I.value a_i.now)
         next.new.items k k) }
-    ensures ends { IfSome result (EndsUpper (counts (map I.value a_p.now)) (counts (map I.value a_i.now)) k) }
+    ensures ends { IfSome result (EndsUpper (naturals (map I.value a_p.now)) (naturals (map I.value a_i.now)) k) }
     ensures room { vec_capacity next.new ≡ vec_capacity next.old }
 {
     let end = count_at(a_p, k + 1);
@@ -62,16 +62,16 @@ fn column<I: Index, U: Unsigned, A: Allocator>(
 ) -> Option<bool>
     requires form { IsColumnForm (pos size) size (map I.value a_p.now) (map I.value a_i.now) }
     requires sorted { IsSorted size (map I.value a_p.now) (map I.value a_i.now) }
-    requires fits { slice_index (counts (map I.value a_p.now)) size ≤ U.MOST }
+    requires fits { slice_index (naturals (map I.value a_p.now)) size ≤ U.MOST }
     requires k_in { k < size }
     requires room { (size ≤ vec_capacity next.old) × (size ≤ vec_capacity degrees.old) }
     requires read { HaveMirrorsIn size (map I.value a_p.now) (map I.value a_i.now) next.old.items k 0 }
-    requires others { CountOthers size (counts (map I.value a_p.now)) (counts (map I.value a_i.now)) k
+    requires others { CountOthers size (naturals (map I.value a_p.now)) (naturals (map I.value a_i.now)) k
         degrees.old.items }
     ensures read { IfSome result (λ diagonal. HaveMirrorsIn size (map I.value a_p.now) (map I.value a_i.now)
         next.new.items (k + 1) 0) }
-    ensures others { IfSome result (λ diagonal. CountOthers size (counts (map I.value a_p.now))
-        (counts (map I.value a_i.now)) (k + 1) degrees.new.items) }
+    ensures others { IfSome result (λ diagonal. CountOthers size (naturals (map I.value a_p.now))
+        (naturals (map I.value a_i.now)) (k + 1) degrees.new.items) }
     ensures diagonal { IfSome result (λ diagonal. diagonal ≡ entry_read size (map I.value a_p.now)
         (map I.value a_i.now) k k) }
     ensures room { (vec_capacity next.new ≡ vec_capacity next.old) ×
@@ -98,7 +98,7 @@ fn all_read<I: Index, U: Unsigned>(size: usize, a_p: &[I], a_i: &[I], next: &[Ce
     requires form { IsColumnForm (pos size) size (map I.value a_p.now) (map I.value a_i.now) }
     requires long { length next.now ≡ size }
     ensures { result ≡ true → (j : ℕ) → j < size →
-        slice_index_or next.now j 0 ≡ slice_index (counts (map I.value a_p.now)) (j + 1) }
+        slice_index_or next.now j 0 ≡ slice_index (naturals (map I.value a_p.now)) (j + 1) }
 {
     'columns: for j in 0..size {
         if cell_at(next, j) != count_at(a_p, j + 1) {
@@ -132,7 +132,7 @@ pub fn mirrored_degrees<I: Index, U: Unsigned, A: Allocator>(
 ) -> Option<usize>
     requires form { IsColumnForm (pos size) size (map I.value a_p.now) (map I.value a_i.now) }
     requires sorted { IsSorted size (map I.value a_p.now) (map I.value a_i.now) }
-    requires fits { slice_index (counts (map I.value a_p.now)) size ≤ U.MOST }
+    requires fits { slice_index (naturals (map I.value a_p.now)) size ≤ U.MOST }
     requires empty { (length next.old.items ≡ 0) × (length degrees.old.items ≡ 0) }
     requires room { (size ≤ vec_capacity next.old) × (size ≤ vec_capacity degrees.old) }
     ensures degrees { IfSome result (λ diagonals. AreCounts (graph_of size (map I.value a_p.now) (map I.value a_i.now))

@@ -132,7 +132,25 @@ module _ (Y : RattleType) {M : Type 1} {𝓤 : Ura M} (𝓛 : Logic 𝓤) (at_me
 
   module _ (b o c : ℕ) where
     abbrev pub at_lodge : Lodges.Ghost
-    at_lodge = ((([], tt), (full_share, tt), tt, (block_ptr b o, (0, (c, tt))), (vptr b o ∷ [], (vint w64 0 ∷ [], (vint w64 c ∷ [], tt)))), [])
+    at_lodge = (
+      (
+        ([], tt),
+        (full_share, tt),
+        tt,
+        (block_ptr b o, (0, (c, tt))),
+        (
+          vptr b o ∷ [],
+          (
+            vint w64 0 ∷ [],
+            (
+              vint w64 c ∷ [],
+              tt,
+            ),
+          ),
+        ),
+      ),
+      [],
+    )
 
     abbrev pub IsLodged : Vec Y.Denot Lodged → Type 0
     IsLodged r = (r.items ≡ []) × (r.len ≡ 0) × (r.cap ≡ c) × (r.ptr ≡ block_ptr b o)

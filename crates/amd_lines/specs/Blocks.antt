@@ -1,6 +1,6 @@
 -- What a block holds.
 use Rattle.std.specs.Prelude.{ℕ, List, drop, slice_range}
-use Rattle.amd_lines.specs.declared.blocks.Block.{Block}
+use Rattle.amd_lines.specs.declared.chunks.Block.{Block}
 
 -- the bytes that were passed last
 abbrev pub passed_of : {Z : Type 0} → Block Z → List ℕ

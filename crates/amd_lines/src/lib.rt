@@ -10,7 +10,7 @@
 //! length: it is passed block by block, and none of it is kept.
 #![tactic(auto)]
 
-mod blocks;
+mod chunks;
 pub mod errors;
 pub mod lines;
 pub mod values;

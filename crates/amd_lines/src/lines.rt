@@ -1,7 +1,8 @@
 // A reader of the lines of a text, which counts those that it read. A line is looked at where it stands in the block of
 // bytes that was read in one go.
 
-ghost use Rattle.std.specs.Prelude.{◌≡◌, ◌≢◌, ◌≤◌, ◌<◌, ◌++◌, ◌↔◌, [], ℕ, List, Some, All, IfOk, IfErr, IfSome, IsTrue, length, take, true, false};
+ghost use Rattle.std.specs.Prelude.{◌≡◌, ◌≢◌, ◌≤◌, ◌<◌, ◌++◌, ◌↔◌, [], ℕ, List};
+ghost use Rattle.std.specs.Prelude.{Some, All, IfOk, IfErr, IfSome, IsTrue, length, take, true, false};
 ghost use Rattle.std.specs.Io.KnownBytes.{IsAtEnd};
 ghost use Rattle.memchr.specs.Find.{IsFirstByte, is_byte};
 ghost use Rattle.amd_lines.specs.Words.{words};
@@ -11,7 +12,7 @@ ghost use Rattle.amd_lines.specs.Lines.{one_line_more, lines_read, line_of, rest
 ghost use Rattle.amd_lines.specs.Lines.{MeetsLong, MeetsTelling, IfLong, StandsLong, HoldsLong, KeepsRest};
 ghost use Rattle.amd_lines.specs.Lines.{NoteSoFar, PassesPiece, PassesIf, is_long};
 
-use crate::blocks::Block;
+use crate::chunks::Block;
 use crate::errors::{LineCause, LineError};
 use crate::words::{first_letter, word_start};
 use memchr::memchr;

@@ -7,10 +7,10 @@
 #![tactic(auto)]
 
 pub mod absorption;
-pub mod blocks;
 pub mod bounds;
-pub mod buckets;
-pub mod last;
+pub mod by_bound;
+pub mod held;
+pub mod listed;
 pub mod marks;
 pub mod merging;
 pub mod plain;

@@ -11,8 +11,8 @@ ghost use Rattle.amd_edges.specs.Visits.{AreCounts};
 ghost use Rattle.amd_engine_law.specs.Engine.{IsEngineAnswer};
 ghost use Rattle.amd_plain.specs.Plain.{IsPlainBegun};
 
-use crate::blocks::listing;
-use crate::last::rows_held_last;
+use crate::held::rows_held_last;
+use crate::listed::listing;
 use crate::rounds::eliminate;
 use crate::start::start;
 use crate::work::PlainWork;

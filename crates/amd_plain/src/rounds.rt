@@ -14,7 +14,7 @@ ghost use Rattle.amd_plain.specs.Keeps.{IsPlainSized, PlainStands, IsPlainRound,
 
 use crate::absorption::{absorb, others_left, retire, rows_of};
 use crate::bounds::{renew_bounds, renew_lists};
-use crate::buckets::{choose, place_all};
+use crate::by_bound::{choose, place_all};
 use crate::marks::front_of;
 use crate::merging::{join, made_of, representatives};
 use crate::work::PlainWork;

@@ -1,6 +1,5 @@
 // The postorder of the assembly tree: the places of its elements, children rising but a largest one last, so that an
-// element stands close to the one that it is assembled into. Source: Amestoy, Davis and Duff 2004. Called at the end of
-// an ordering: `postorder_in` by `amd_listing`, and `postorder` by `blocks` of the crate `amd_plain`.
+// element stands close to the one that it is assembled into. Source: Amestoy, Davis and Duff 2004.
 
 ghost use Rattle.std.specs.Prelude.{◌≡◌, ◌^◌, ◌<◌, ◌≤◌, ◌≤ℤ◌, ◌&&◌, List, ℤ, IfSome, MatchResult, None, cond};
 ghost use Rattle.std.specs.Prelude.{is_none, length, pos, unsigned_abs};

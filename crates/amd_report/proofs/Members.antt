@@ -68,5 +68,6 @@ two-line a b =
     ∙ ap (λ z. decimal a ++ (codes " as it stands, " ++ z)) (append_assoc (decimal b) (codes " ordered") (codes "\n"))
 
 pub three-line : (a b c : ℕ) (option : List ℕ) → three_figures a b c option ++ codes "\n"
-    ≡ decimal a ++ (codes " as it stands, " ++ (decimal b ++ (codes " ordered, " ++ (decimal c ++ (codes " by " ++ (option ++ codes "\n"))))))
+    ≡ decimal a ++ (codes " as it stands, " ++ (decimal b ++ (codes " ordered, " ++ (decimal c ++ (codes " by " ++ (option ++ codes
+    "\n"))))))
 three-line a b c option = simp append_assoc

@@ -9,14 +9,14 @@ use Rattle.amd_model.specs.Input.Columns.{IsColumnForm, IsSorted}
 use Rattle.amd_model.specs.Below.{count_below}
 use Rattle.amd_model.specs.Input.Pattern.{diagonal_count, graph_of, is_pair}
 use Rattle.amd_model.proofs.Counting.Below.{count_same}
-use Rattle.amd_types.specs.Counts.{counts, count_graph, is_before, is_entry}
+use Rattle.amd_types.specs.Naturals.{naturals, count_graph, is_before, is_entry}
 use Rattle.amd_edges.proofs.Forms.{IsSortedForm, same_pair, pointer_within, row_in, row_is, same_diagonals, same_graph, sorted_form}
 use Rattle.amd_edges.proofs.Places.{entry_from, entry_gives}
 use Rattle.amd_report.specs.Passes.{IsForm, Met}
 use Rattle.amd_report.specs.Signs.{IsRisingForm}
 
 -- counts are read back as they were
-pub counts-back : (xs : List ℕ) → counts (map pos xs) ≡ xs
+pub counts-back : (xs : List ℕ) → naturals (map pos xs) ≡ xs
 counts-back [] = refl
 counts-back (x ∷ xs) = ap (λ ys. x ∷ ys) (counts-back xs)
 
@@ -120,13 +120,13 @@ module _ (n : ℕ) (ap' ai : List ℕ) (form : IsColumnForm (pos n) n (map pos a
   pub form-rising : IsSorted n (map pos ap') (map pos ai) → IsRisingForm n ap' ai
   form-rising sorted =
       let rising : IsSortedForm n ap' ai = subst (λ z. IsSortedForm n z ai) (counts-back ap')
-      (subst (λ z. IsSortedForm n (counts (map pos ap')) z) (counts-back ai) (sorted_form n (map pos ap') (map pos ai) form sorted)) in
+      (subst (λ z. IsSortedForm n (naturals (map pos ap')) z) (counts-back ai) (sorted_form n (map pos ap') (map pos ai) form sorted)) in
       record { form = form-counts; order = rising.rising; rise = rising.ascend }
 
   -- the graph and the diagonal by counts
   pub graph-same : graph_of n (map pos ap') (map pos ai) ≡ count_graph n ap' ai
   graph-same =
-      same_graph n (map pos ap') (map pos ai) form ∙ ap (λ z. count_graph n z (counts (map pos ai))) (counts-back ap')
+      same_graph n (map pos ap') (map pos ai) form ∙ ap (λ z. count_graph n z (naturals (map pos ai))) (counts-back ap')
       ∙ ap (λ z. count_graph n ap' z) (counts-back ai)
 
   pub diagonal-same : diagonal_count n (map pos ap') (map pos ai)
@@ -134,13 +134,13 @@ module _ (n : ℕ) (ap' ai : List ℕ) (form : IsColumnForm (pos n) n (map pos a
   unfolding is_entry
   diagonal-same =
       same_diagonals n (map pos ap') (map pos ai) form
-      ∙ ap (λ z. count_below n (λ v. is_entry n z (counts (map pos ai)) v v)) (counts-back ap')
+      ∙ ap (λ z. count_below n (λ v. is_entry n z (naturals (map pos ai)) v v)) (counts-back ap')
       ∙ ap (λ z. count_below n (λ v. is_entry n ap' z v v)) (counts-back ai)
       ∙ count_same n (λ v. is_entry n ap' ai v v) (λ v. is_before ap' ai (slice_index ap' (v + 1)) v v) (λ v l. rw (lt-ltb v n l) refl)
 
   entry-of : (i c : ℕ) → is_pair n (map pos ap') (map pos ai) i c ≡ is_entry n ap' ai i c
   entry-of i c =
-      same_pair n (map pos ap') (map pos ai) form i c ∙ ap (λ z. is_entry n z (counts (map pos ai)) i c) (counts-back ap')
+      same_pair n (map pos ap') (map pos ai) form i c ∙ ap (λ z. is_entry n z (naturals (map pos ai)) i c) (counts-back ap')
       ∙ ap (λ z. is_entry n ap' z i c) (counts-back ai)
 
   -- a pair was met in the end, and what was met is a pair

@@ -10,7 +10,7 @@ use Rattle.std.proofs.lemmas.Bool.{ltb-true, lt-ltb, false_from_ne_true}
 use Rattle.std.proofs.lemmas.List.{get_or-set_same, get_or-set_other}
 use Rattle.std.proofs.lemmas.Nat.{and_or_self}
 use Rattle.std.proofs.lemmas.Nat.Bits.{bit_at_and, bit_at_or, same_from_bits}
-use Rattle.amd_types.specs.Counts.{is_before, is_entry, is_edge, count_graph}
+use Rattle.amd_types.specs.Naturals.{is_before, is_entry, is_edge, count_graph}
 use Rattle.amd_model.proofs.Counting.Below.{clash}
 use Rattle.amd_edges.specs.Visits.{IsNewEdge, with_arc, with_edge}
 use Rattle.amd_edges.proofs.Places.{before_from, before_gives, before_none, before_more, entry_from, entry_gives, funext2}

@@ -1,7 +1,7 @@
 -- The signs of columns, and the edges that a pass over the entries of a column form met.
 use Rattle.std.specs.Prelude.{◌≡◌, ◌<◌, ◌≤◌, ◌+◌, ◌*◌, ◌/◌, ◌%◌, ◌^◌, ◌&&◌, ◌||◌, ℕ, Bool, not, nat_eq, nat_lt, cond, List}
 use Rattle.std.specs.Prelude.{slice_index, slice_set, bit_and, bit_or}
-use Rattle.amd_types.specs.Counts.{is_before, is_entry}
+use Rattle.amd_types.specs.Naturals.{is_before, is_entry}
 use Rattle.amd_report.specs.Passes.{IsForm, Met}
 
 -- n columns over n rows, each strictly rising

@@ -3,7 +3,7 @@
 //! workspace stands for.
 #![tactic(auto)]
 
-pub mod compaction;
+pub mod packing;
 pub mod pivot;
 pub mod round;
 pub mod work;

@@ -10,10 +10,10 @@ ghost use Rattle.amd_rounds.specs.Parts.{BeginsElement, MakesRoom, Picks};
 ghost use Rattle.amd_rounds.specs.Premises.{CanBegin};
 ghost use Rattle.amd_rounds.specs.Workspaces.{KeepsLoans, workspace_of};
 
-use crate::compaction::compact;
+use crate::packing::compact;
 use crate::work::Work;
 use amd_elements::beginning::{begin_built, begin_own};
-use amd_elements::room::has_room;
+use amd_elements::fitting::has_room;
 use amd_lists::chains::choose;
 use amd_words::words::named;
 use amd_words::{Cell, Signed, Unsigned, Word};

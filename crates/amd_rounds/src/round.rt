@@ -16,7 +16,7 @@ ghost use Rattle.amd_rounds.specs.Workspaces.{KeepsLoans, workspace_of};
 
 use crate::pivot::{begin, pick};
 use crate::work::Work;
-use amd_fronts::counts::renew_flag;
+use amd_fronts::outside::renew_flag;
 use amd_fronts::turning::turn;
 use amd_merging::closing::close;
 use amd_merging::merging::merge_front;

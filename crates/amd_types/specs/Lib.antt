@@ -2,5 +2,5 @@
 pub mod Records
 pub mod Statuses
 pub mod Permutations
-pub mod Counts
+pub mod Naturals
 pub mod Links

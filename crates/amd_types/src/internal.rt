@@ -9,7 +9,7 @@ ghost use Rattle.std.specs.Int.{FitsUnsignedBits};
 ghost use Rattle.num_traits.specs.Laws.{Checks, ChecksUnsigned};
 ghost use Rattle.amd_model.specs.Figures.{cut, entries, front_sum, ldl_steps, lu_steps};
 ghost use Rattle.amd_model.specs.Input.Columns.{at};
-ghost use Rattle.amd_types.specs.Counts.{counts};
+ghost use Rattle.amd_types.specs.Naturals.{naturals};
 ghost use Rattle.amd_types.specs.Links.{named};
 
 use crate::index::Index;
@@ -72,7 +72,7 @@ pub fn count_at<I: Index>(numbers: &[I], place: usize) -> usize
     requires within { place < length numbers.now }
     requires fits { FitsUnsignedBits 64 (at (map I.value numbers.now) place) }
     ensures value { pos result ≡ at (map I.value numbers.now) place }
-    ensures count { result ≡ slice_index (counts (map I.value numbers.now)) place }
+    ensures count { result ≡ slice_index (naturals (map I.value numbers.now)) place }
 {
     known_count(value_at(numbers, place))
 }

@@ -158,7 +158,7 @@ impl Unsigned for u32 {
     ghost narrow = { Prim.search rules };
 }
 
-/// A word of a workspace: contracts see an integer. It lies in memory as its number does, so that `amd_views` can lend
+/// A word of a workspace: contracts see an integer. It lies in memory as its number does, so that `amd_lending` can lend
 /// a slice of numbers as one of words.
 #[derive(Drop)]
 #[repr(transparent)]

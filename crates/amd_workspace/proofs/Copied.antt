@@ -7,7 +7,7 @@ use Rattle.amd_model.specs.Below.{count_below, list_below}
 use Rattle.amd_model.specs.Input.Columns.{IsColumnForm}
 use Rattle.amd_model.proofs.Counting.Places.{length_below}
 use Rattle.amd_model.proofs.Counting.Below.{sum_stretch}
-use Rattle.amd_types.specs.Counts.{counts, is_entry}
+use Rattle.amd_types.specs.Naturals.{naturals, is_entry}
 use Rattle.amd_edges.proofs.Forms.{IsSortedForm, same_pair}
 use Rattle.amd_edges.proofs.Orders.{list_gap, list_next}
 use Rattle.amd_edges.proofs.Places.{funext2, entry_from, entry_gives}
@@ -27,7 +27,7 @@ others_most n m p l = let a = length_below m p in let b : count_below m p ≤ co
 -- ---- the rows of a column
 
 pub same_other : (n : ℕ) (ap' ai : List ℤ) → IsColumnForm (pos n) n ap' ai → (i : ℕ) →
-    is_other n ap' ai i ≡ own (is_entry n (counts ap') (counts ai)) i
+    is_other n ap' ai i ≡ own (is_entry n (naturals ap') (naturals ai)) i
 unfolding is_other
 same_other n ap' ai form i = ap (λ pair. own pair i) (funext2 _ _ (same_pair n ap' ai form))
 
@@ -87,9 +87,11 @@ module _ (n : ℕ) (ap' ai : List ℕ) (form : IsSortedForm n ap' ai) (i stop m 
         ])
 
 -- the rows before the diagonal, where those from the place on are not
-pub others_before : (n : ℕ) (ap' ai : List ℤ) → IsColumnForm (pos n) n ap' ai → IsSortedForm n (counts ap') (counts ai) →
-    (i m stop p : ℕ) → i < n → stop ≡ get_or (counts ap') (i + 1) 0 → IsReading (counts ai) (get_or (counts ap') i 0) stop n m p → m ≤ i →
-    ((r : ℕ) → p ≤ r → r < stop → i ≤ get_or (counts ai) r 0) →
-    list_below m (own (is_entry n (counts ap') (counts ai)) i) ≡ list_below i (is_other n ap' ai i)
+pub others_before : (n : ℕ) (ap' ai : List ℤ) → IsColumnForm (pos n) n ap' ai → IsSortedForm n (naturals ap') (naturals ai) →
+    (i m stop p : ℕ) → i < n → stop ≡ get_or (naturals ap') (i + 1) 0 → IsReading (naturals ai) (get_or (naturals ap') i 0) stop n m p
+    → m ≤ i →
+    ((r : ℕ) → p ≤ r → r < stop → i ≤ get_or (naturals ai) r 0) →
+    list_below m (own (is_entry n (naturals ap') (naturals ai)) i) ≡ list_below i (is_other n ap' ai i)
 others_before n ap' ai form sorted i m stop p i_in ends so low left =
-    sym (ap (list_below i) (same_other n ap' ai form i) ∙ others_gap n (counts ap') (counts ai) sorted i stop m p i_in ends so i low left)
+    sym (ap (list_below i) (same_other n ap' ai form i) ∙ others_gap n (naturals ap') (naturals ai) sorted i stop m p i_in ends so i
+    low left)

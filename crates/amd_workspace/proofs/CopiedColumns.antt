@@ -8,7 +8,7 @@ use Rattle.amd_model.specs.Below.{count_below, list_below}
 use Rattle.amd_model.specs.Input.Columns.{IsColumnForm}
 use Rattle.amd_model.specs.Input.Pattern.{graph_of}
 use Rattle.amd_model.proofs.Counting.Places.{length_below}
-use Rattle.amd_types.specs.Counts.{counts, is_entry}
+use Rattle.amd_types.specs.Naturals.{naturals, is_entry}
 use Rattle.amd_edges.specs.Visits.{AreCounts, start_of}
 use Rattle.amd_edges.proofs.Forms.{IsSortedForm}
 use Rattle.amd_edges.proofs.Listing.{start_later}
@@ -53,23 +53,24 @@ module _ (n : ℕ) (ap' ai : List ℕ) (form : IsSortedForm n ap' ai) (i p : ℕ
     low = omega (arith, i_in);
   }
 
-module _ (n : ℕ) (ap' ai : List ℤ) (form : IsColumnForm (pos n) n ap' ai) (sorted : IsSortedForm n (counts ap') (counts ai)) (i p : ℕ)
-    (i_in : i < n) (so : IsReading (counts ai) (get_or (counts ap') i 0) (get_or (counts ap') (i + 1) 0) n (i + 1) p) where
+module _ (n : ℕ) (ap' ai : List ℤ) (form : IsColumnForm (pos n) n ap' ai) (sorted : IsSortedForm n (naturals ap') (naturals ai)) (i p : ℕ)
+    (i_in : i < n) (so : IsReading (naturals ai) (get_or (naturals ap') i 0) (get_or (naturals ap') (i + 1) 0) n (i + 1) p) where
   -- the rows before the diagonal, and those behind it
-  pub others_parts : list_below i (is_other n ap' ai i) ++ slice_range (counts ai) p (get_or (counts ap') (i + 1) 0)
+  pub others_parts : list_below i (is_other n ap' ai i) ++ slice_range (naturals ai) p (get_or (naturals ap') (i + 1) 0)
       ≡ list_below n (is_other n ap' ai i)
-  others_parts = let to = so.to in let stop = get_or (counts ap') (i + 1) 0 in
+  others_parts = let to = so.to in let stop = get_or (naturals ap') (i + 1) 0 in
       sym (ap (list_below n) (same_other n ap' ai form i)
-      ∙ own_rest n (counts ap') (counts ai) sorted i stop i_in refl (stop - p) (i + 1) p (omega (arith, to)) (omega arith) so
-      ∙ ap (λ xs. xs ++ take (stop - p) (drop p (counts ai))) (others_past (is_entry n (counts ap') (counts ai)) i
+      ∙ own_rest n (naturals ap') (naturals ai) sorted i stop i_in refl (stop - p) (i + 1) p (omega (arith, to)) (omega arith) so
+      ∙ ap (λ xs. xs ++ take (stop - p) (drop p (naturals ai))) (others_past (is_entry n (naturals ap') (naturals ai)) i
       ∙ sym (ap (list_below i) (same_other n ap' ai form i))))
 
-  pub others_long : length (list_below i (is_other n ap' ai i)) + (get_or (counts ap') (i + 1) 0 - p) ≡ count_below n (is_other n ap' ai i)
-  others_long = let stop = get_or (counts ap') (i + 1) 0 in let within = sorted.within i i_in in
-      let size = length-drop p (counts ai) in
-      let slice : length (slice_range (counts ai) p stop) ≡ stop - p
-      = length-take-le (stop - p) (drop p (counts ai)) (omega (arith, within, size)) in
-      let whole = length-append (list_below i (is_other n ap' ai i)) (slice_range (counts ai) p stop) in
+  pub others_long : length (list_below i (is_other n ap' ai i)) + (get_or (naturals ap') (i + 1) 0 - p) ≡ count_below n (is_other n ap'
+      ai i)
+  others_long = let stop = get_or (naturals ap') (i + 1) 0 in let within = sorted.within i i_in in
+      let size = length-drop p (naturals ai) in
+      let slice : length (slice_range (naturals ai) p stop) ≡ stop - p
+      = length-take-le (stop - p) (drop p (naturals ai)) (omega (arith, within, size)) in
+      let whole = length-append (list_below i (is_other n ap' ai i)) (slice_range (naturals ai) p stop) in
       let all = ap length others_parts in let count = length_below n (is_other n ap' ai i) in omega (arith, slice, whole, all, count)
 
 -- ---- all columns

@@ -187,7 +187,8 @@ module _ (g : Graph) (degrees : List ℕ) (pe : List ℤ) (next : List ℕ) (cou
       omega (arith, a, m, own)
 
   -- a list that was written at the start of a row, and is as long as its degree says
-  pub list_at : (iw : List ℤ) (xs : List ℕ) (i : ℕ) → i < g.size → rows iw (start_of g i) (num degrees i) ≡ xs → list_in iw pe degrees i ≡ xs
+  pub list_at : (iw : List ℤ) (xs : List ℕ) (i : ℕ) → i < g.size → rows iw (start_of g i) (num degrees i) ≡ xs → list_in iw pe degrees
+      i ≡ xs
   list_at iw xs i l e = rows_at iw (start_at i l) refl ∙ e
 
   module _ (iw : List ℤ) (names : HoldRows g.size iw) (room : start_of g g.size ≤ length iw) where

@@ -12,7 +12,7 @@ use Rattle.std.specs.Int.{FitsUnsignedBits}
 use Rattle.amd_model.specs.Input.Columns.{at, IsColumnForm, IsSorted}
 use Rattle.amd_model.specs.Input.Pattern.{is_pair}
 use Rattle.amd_model.proofs.Counting.Below.{clash}
-use Rattle.amd_types.specs.Counts.{counts, is_entry}
+use Rattle.amd_types.specs.Naturals.{naturals, is_entry}
 use Rattle.amd_edges.proofs.Forms.{IsSortedForm, row_read, same_pair, sorted_form}
 use Rattle.amd_edges.proofs.Orders.{list_gap}
 use Rattle.amd_edges.proofs.Places.{entry_from, entry_gives}
@@ -90,91 +90,92 @@ module _ (n : ℕ) (ap' ai : List ℕ) (form : IsSortedForm n ap' ai) (i stop : 
 
 -- the rows of a column are low where its first one is
 module _ (n : ℕ) (ap' ai : List ℤ) (form : IsColumnForm (pos n) n ap' ai) (j : ℕ) (j_in : j < n) where
-  pub no_entry : get_or (counts ap') j 0 ≡ get_or (counts ap') (j + 1) 0 → (i : ℕ) → is_pair n ap' ai i j ≡ true → ⊥
-  no_entry same i e = let r = entry_gives (counts ap') (counts ai) n i j (sym (same_pair n ap' ai form i j) ∙ e) in
+  pub no_entry : get_or (naturals ap') j 0 ≡ get_or (naturals ap') (j + 1) 0 → (i : ℕ) → is_pair n ap' ai i j ≡ true → ⊥
+  no_entry same i e = let r = entry_gives (naturals ap') (naturals ai) n i j (sym (same_pair n ap' ai form i j) ∙ e) in
       let a = r.2 in let b = r.3 in omega (arith, a, b, same)
 
-  pub none_low : get_or (counts ap') j 0 ≡ get_or (counts ap') (j + 1) 0 → (i : ℕ) → is_pair n ap' ai i j ≡ true → j ≤ i
+  pub none_low : get_or (naturals ap') j 0 ≡ get_or (naturals ap') (j + 1) 0 → (i : ℕ) → is_pair n ap' ai i j ≡ true → j ≤ i
   none_low same i e = absurd (no_entry same i e)
 
   module _ (sorted : IsSorted n ap' ai) where
-    rise : IsSortedForm n (counts ap') (counts ai)
+    rise : IsSortedForm n (naturals ap') (naturals ai)
     rise = sorted_form n ap' ai form sorted
 
     -- the first place that is not the end is before it
-    pub first_before : (first stop : ℕ) → first ≡ get_or (counts ap') j 0 → stop ≡ get_or (counts ap') (j + 1) 0 → first ≢ stop →
+    pub first_before : (first stop : ℕ) → first ≡ get_or (naturals ap') j 0 → stop ≡ get_or (naturals ap') (j + 1) 0 → first ≢ stop →
         first < stop
     first_before first stop a b ne = let w = rise.rising j j_in in omega (arith, a, b, ne, w)
 
-    pub all_low : (first stop : ℕ) → first ≡ get_or (counts ap') j 0 → stop ≡ get_or (counts ap') (j + 1) 0 → first < stop →
-        j ≤ get_or (counts ai) first 0 → (i : ℕ) → is_pair n ap' ai i j ≡ true → j ≤ i
+    pub all_low : (first stop : ℕ) → first ≡ get_or (naturals ap') j 0 → stop ≡ get_or (naturals ap') (j + 1) 0 → first < stop →
+        j ≤ get_or (naturals ai) first 0 → (i : ℕ) → is_pair n ap' ai i j ≡ true → j ≤ i
     all_low first stop a b inside low i e =
-        let r = entry_gives (counts ap') (counts ai) n i j (sym (same_pair n ap' ai form i j) ∙ e) in
+        let r = entry_gives (naturals ap') (naturals ai) n i j (sym (same_pair n ap' ai form i j) ∙ e) in
         let x = r.2 in let y = r.3 in let z = r.4 in elim (cases_eq first r.0) [
-          | inl same ↦ (let w = ap (λ q. get_or (counts ai) q 0) same in omega (arith, w, z, low))
+          | inl same ↦ (let w = ap (λ q. get_or (naturals ai) q 0) same in omega (arith, w, z, low))
           | inr ne ↦ (let w = rise.ascend j first r.0 j_in (omega (arith, a)) (omega (arith, x, a, ne)) y in omega (arith, w, z, low))
         ]
 
-    pub low_first : (first stop : ℕ) → first ≡ get_or (counts ap') j 0 → stop ≡ get_or (counts ap') (j + 1) 0 → first < stop →
-        ((i : ℕ) → is_pair n ap' ai i j ≡ true → j ≤ i) → j ≤ get_or (counts ai) first 0
-    low_first first stop a b inside h = h (get_or (counts ai) first 0) (same_pair n ap' ai form (get_or (counts ai) first 0) j
-        ∙ entry_from (counts ap') (counts ai) n (get_or (counts ai) first 0) j first j_in (omega (arith, a))
+    pub low_first : (first stop : ℕ) → first ≡ get_or (naturals ap') j 0 → stop ≡ get_or (naturals ap') (j + 1) 0 → first < stop →
+        ((i : ℕ) → is_pair n ap' ai i j ≡ true → j ≤ i) → j ≤ get_or (naturals ai) first 0
+    low_first first stop a b inside h = h (get_or (naturals ai) first 0) (same_pair n ap' ai form (get_or (naturals ai) first 0) j
+        ∙ entry_from (naturals ap') (naturals ai) n (get_or (naturals ai) first 0) j first j_in (omega (arith, a))
         (omega (arith, inside, b)) refl)
 
     -- no row is behind the last one
-    module _ (first stop : ℕ) (first_is : first ≡ get_or (counts ap') j 0) (stop_is : stop ≡ get_or (counts ap') (j + 1) 0)
+    module _ (first stop : ℕ) (first_is : first ≡ get_or (naturals ap') j 0) (stop_is : stop ≡ get_or (naturals ap') (j + 1) 0)
         (inside : first < stop) where
-      pub all_until : (i : ℕ) → is_pair n ap' ai i j ≡ true → i ≤ get_or (counts ai) (stop - 1) 0
+      pub all_until : (i : ℕ) → is_pair n ap' ai i j ≡ true → i ≤ get_or (naturals ai) (stop - 1) 0
       all_until i e =
-          let r = entry_gives (counts ap') (counts ai) n i j (sym (same_pair n ap' ai form i j) ∙ e) in
+          let r = entry_gives (naturals ap') (naturals ai) n i j (sym (same_pair n ap' ai form i j) ∙ e) in
           let x = r.2 in let y = r.3 in let z = r.4 in elim (cases_eq r.0 (stop - 1)) [
-            | inl same ↦ (let w = ap (λ q. get_or (counts ai) q 0) same in omega (arith, w, z))
+            | inl same ↦ (let w = ap (λ q. get_or (naturals ai) q 0) same in omega (arith, w, z))
             | inr ne ↦ (let w = rise.ascend j r.0 (stop - 1) j_in x (omega (arith, y, ne, stop_is)) (omega (arith, inside, stop_is)) in
                 omega (arith, w, z))
           ]
 
-      pub last_in : get_or (counts ai) (stop - 1) 0 < n
+      pub last_in : get_or (naturals ai) (stop - 1) 0 < n
       last_in = rise.rows j (stop - 1) j_in (omega (arith, inside, first_is)) (omega (arith, inside, stop_is))
 
-      pub last_low : IsLower n ap' ai → j ≤ get_or (counts ai) (stop - 1) 0
-      last_low lower = lower (get_or (counts ai) (stop - 1) 0) j (same_pair n ap' ai form (get_or (counts ai) (stop - 1) 0) j
-          ∙ entry_from (counts ap') (counts ai) n (get_or (counts ai) (stop - 1) 0) j (stop - 1) j_in
+      pub last_low : IsLower n ap' ai → j ≤ get_or (naturals ai) (stop - 1) 0
+      last_low lower = lower (get_or (naturals ai) (stop - 1) 0) j (same_pair n ap' ai form (get_or (naturals ai) (stop - 1) 0) j
+          ∙ entry_from (naturals ap') (naturals ai) n (get_or (naturals ai) (stop - 1) 0) j (stop - 1) j_in
           (omega (arith, inside, first_is)) (omega (arith, inside, stop_is)) refl)
 
     module _ (lower : IsLower n ap' ai) where
-      low_entry : (a b : ℕ) → is_entry n (counts ap') (counts ai) a b ≡ true → b ≤ a
+      low_entry : (a b : ℕ) → is_entry n (naturals ap') (naturals ai) a b ≡ true → b ≤ a
       low_entry a b e = lower a b (same_pair n ap' ai form a b ∙ e)
 
       -- the own column is the stretch behind the diagonal
-      pub own_slice : (p : ℕ) → IsReading (counts ai) (get_or (counts ap') j 0) (get_or (counts ap') (j + 1) 0) n (j + 1) p →
-          own_of n ap' ai j ≡ slice_range (counts ai) p (get_or (counts ap') (j + 1) 0)
+      pub own_slice : (p : ℕ) → IsReading (naturals ai) (get_or (naturals ap') j 0) (get_or (naturals ap') (j + 1) 0) n (j + 1) p →
+          own_of n ap' ai j ≡ slice_range (naturals ai) p (get_or (naturals ap') (j + 1) 0)
       own_slice p so = ap (list_below n) (same_other n ap' ai form j)
-          ∙ own_from n (counts ap') (counts ai) rise j (get_or (counts ap') (j + 1) 0) j_in refl low_entry p so
+          ∙ own_from n (naturals ap') (naturals ai) rise j (get_or (naturals ap') (j + 1) 0) j_in refl low_entry p so
 
-      module _ (first stop : ℕ) (first_is : first ≡ get_or (counts ap') j 0) (stop_is : stop ≡ get_or (counts ap') (j + 1) 0) where
-        pub slice_none : first ≡ stop → own_of n ap' ai j ≡ slice_range (counts ai) first (get_or (counts ap') (j + 1) 0)
-        slice_none e = own_slice first (reading_none n (counts ap') (counts ai) rise j (get_or (counts ap') (j + 1) 0) j_in refl low_entry
+      module _ (first stop : ℕ) (first_is : first ≡ get_or (naturals ap') j 0) (stop_is : stop ≡ get_or (naturals ap') (j + 1) 0) where
+        pub slice_none : first ≡ stop → own_of n ap' ai j ≡ slice_range (naturals ai) first (get_or (naturals ap') (j + 1) 0)
+        slice_none e = own_slice first (reading_none n (naturals ap') (naturals ai) rise j (get_or (naturals ap') (j + 1) 0) j_in refl
+            low_entry
             first first_is (e ∙ stop_is))
 
         module _ (ne : first ≢ stop) where
-          inside : first < get_or (counts ap') (j + 1) 0
+          inside : first < get_or (naturals ap') (j + 1) 0
           inside = let a = first_before first stop first_is stop_is ne in omega (arith, a, stop_is)
 
-          pub slice_on : get_or (counts ai) first 0 ≡ j →
-              own_of n ap' ai j ≡ slice_range (counts ai) (first + 1) (get_or (counts ap') (j + 1) 0)
-          slice_on e = own_slice (first + 1) (reading_on n (counts ap') (counts ai) rise j (get_or (counts ap') (j + 1) 0) j_in refl
+          pub slice_on : get_or (naturals ai) first 0 ≡ j →
+              own_of n ap' ai j ≡ slice_range (naturals ai) (first + 1) (get_or (naturals ap') (j + 1) 0)
+          slice_on e = own_slice (first + 1) (reading_on n (naturals ap') (naturals ai) rise j (get_or (naturals ap') (j + 1) 0) j_in refl
               low_entry first first_is inside e)
 
-          pub slice_below : get_or (counts ai) first 0 ≢ j →
-              own_of n ap' ai j ≡ slice_range (counts ai) first (get_or (counts ap') (j + 1) 0)
-          slice_below e = own_slice first (reading_below n (counts ap') (counts ai) rise j (get_or (counts ap') (j + 1) 0) j_in refl
+          pub slice_below : get_or (naturals ai) first 0 ≢ j →
+              own_of n ap' ai j ≡ slice_range (naturals ai) first (get_or (naturals ap') (j + 1) 0)
+          slice_below e = own_slice first (reading_below n (naturals ap') (naturals ai) rise j (get_or (naturals ap') (j + 1) 0) j_in refl
               low_entry first first_is inside e)
 
       -- its length
-      pub slice_long : (p : ℕ) → own_of n ap' ai j ≡ slice_range (counts ai) p (get_or (counts ap') (j + 1) 0) →
-          length (own_of n ap' ai j) ≡ get_or (counts ap') (j + 1) 0 - p
-      slice_long p e = let within = rise.within j j_in in let size = length-drop p (counts ai) in
-          ap length e ∙ length-take-le (get_or (counts ap') (j + 1) 0 - p) (drop p (counts ai)) (omega (arith, within, size))
+      pub slice_long : (p : ℕ) → own_of n ap' ai j ≡ slice_range (naturals ai) p (get_or (naturals ap') (j + 1) 0) →
+          length (own_of n ap' ai j) ≡ get_or (naturals ap') (j + 1) 0 - p
+      slice_long p e = let within = rise.within j j_in in let size = length-drop p (naturals ai) in
+          ap length e ∙ length-take-le (get_or (naturals ap') (j + 1) 0 - p) (drop p (naturals ai)) (omega (arith, within, size))
 
 module _ (n : ℕ) (ap' ai : List ℕ) (form : IsSortedForm n ap' ai) (j first stop p row : ℕ) (j_in : j < n) (from : get_or ap' j 0 ≤ first)
     (low : first ≤ p) (inside : p < stop) (stop_is : stop ≡ get_or ap' (j + 1) 0) (is : row ≡ get_or ai p 0) where
@@ -195,7 +196,7 @@ module _ (n : ℕ) (ap' ai : List ℕ) (form : IsSortedForm n ap' ai) (j first s
 -- the first row of a column that has one can be read
 pub first_read : {A : Type 0} (value : A → ℤ) (pointers rows : List A) (n : ℕ) →
     IsColumnForm (pos n) n (map value pointers) (map value rows) → IsSorted n (map value pointers) (map value rows) → (j first stop : ℕ) →
-    j < n → first ≡ get_or (counts (map value pointers)) j 0 → stop ≡ get_or (counts (map value pointers)) (j + 1) 0 → first ≢ stop →
+    j < n → first ≡ get_or (naturals (map value pointers)) j 0 → stop ≡ get_or (naturals (map value pointers)) (j + 1) 0 → first ≢ stop →
     n < 2 ^ 64 → (first < length rows) × FitsUnsignedBits 64 (at (map value rows) first)
 first_read value pointers rows n form sorted j first stop h a b ne small = row_read value pointers rows n form j first stop h b
     (first_before n (map value pointers) (map value rows) form j h sorted first stop a b ne) small

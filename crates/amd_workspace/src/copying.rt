@@ -9,7 +9,7 @@ ghost use Rattle.amd_model.specs.Below.{count_below, list_below};
 ghost use Rattle.amd_model.specs.Input.Columns.{IsColumnForm, IsSorted};
 ghost use Rattle.amd_model.specs.Input.Pattern.{graph_of, is_pair, IsSymmetric};
 ghost use Rattle.amd_model.specs.Quotient.{starting_list};
-ghost use Rattle.amd_types.specs.Counts.{counts};
+ghost use Rattle.amd_types.specs.Naturals.{naturals};
 ghost use Rattle.amd_edges.specs.Visits.{AreCounts, start_of};
 ghost use Rattle.amd_words.specs.Words.{num, rows};
 ghost use Rattle.amd_workspace.specs.Copying.{is_other, HoldRows};
@@ -35,12 +35,12 @@ fn push_before<I: Index, S: Signed, A: Allocator>(
     requires room { length iw.old.items + count_below size (is_other size (map I.value a_p.now) (map I.value a_i.now) i)
         ≤ vec_capacity iw.old }
     requires fits { size ≤ S.MOST }
-    ensures from { slice_index (counts (map I.value a_p.now)) i ≤ result }
-    ensures to { result ≤ slice_index (counts (map I.value a_p.now)) (i + 1) }
-    ensures before { (r : ℕ) → slice_index (counts (map I.value a_p.now)) i ≤ r → r < result →
-        slice_index (counts (map I.value a_i.now)) r < i }
-    ensures behind { (r : ℕ) → result ≤ r → r < slice_index (counts (map I.value a_p.now)) (i + 1) →
-        i ≤ slice_index (counts (map I.value a_i.now)) r }
+    ensures from { slice_index (naturals (map I.value a_p.now)) i ≤ result }
+    ensures to { result ≤ slice_index (naturals (map I.value a_p.now)) (i + 1) }
+    ensures before { (r : ℕ) → slice_index (naturals (map I.value a_p.now)) i ≤ r → r < result →
+        slice_index (naturals (map I.value a_i.now)) r < i }
+    ensures behind { (r : ℕ) → result ≤ r → r < slice_index (naturals (map I.value a_p.now)) (i + 1) →
+        i ≤ slice_index (naturals (map I.value a_i.now)) r }
     ensures items { iw.new.items ≡
         iw.old.items ++ map pos (list_below i (is_other size (map I.value a_p.now) (map I.value a_i.now) i)) }
     ensures capacity { vec_capacity iw.old ≤ vec_capacity iw.new }

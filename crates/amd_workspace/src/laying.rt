@@ -6,7 +6,7 @@ ghost use Rattle.std.specs.Prelude.{◌≡◌, ◌<◌, ◌≤◌, ◌+◌, ◌�
 ghost use Rattle.std.specs.Vec.{vec_capacity};
 ghost use Rattle.amd_model.specs.Input.Columns.{IsColumnForm, IsSorted};
 ghost use Rattle.amd_model.specs.Input.Pattern.{is_pair};
-ghost use Rattle.amd_types.specs.Counts.{counts};
+ghost use Rattle.amd_types.specs.Naturals.{naturals};
 ghost use Rattle.amd_model.specs.Below.{sum_below};
 ghost use Rattle.amd_model.specs.Quotient.{starting_list};
 ghost use Rattle.amd_lists.specs.Layout.{list_in};
@@ -115,7 +115,7 @@ fn general_lists<I: Index, S: Signed, U: Unsigned, A: Allocator + Copy>(
     requires degrees { AreNeighbourCounts size (map I.value a_p.now) (map I.value a_i.now) degrees.now }
     requires room { own_start size (map I.value a_p.now) (map I.value a_i.now) size + size ≤ room }
     requires fits { (size ≤ S.MOST) × (room ≤ U.MOST) ×
-        (slice_index (counts (map I.value a_p.now)) size ≤ U.MOST) }
+        (slice_index (naturals (map I.value a_p.now)) size ≤ U.MOST) }
     requires capacity { room ≤ vec_capacity words.old.iw }
     requires empty { (length words.old.iw.items ≡ 0) × (length pointers.old.items ≡ 0) }
     requires wide { size ≤ vec_capacity pointers.old }
@@ -166,7 +166,7 @@ pub fn lay<I: Index, S: Signed, P: Signed, U: Unsigned, A: Allocator + Copy>(
     requires degrees { AreNeighbourCounts size (map I.value a_p.now) (map I.value a_i.now) memory.old.len.items }
     requires words { own_start size (map I.value a_p.now) (map I.value a_i.now) size + size ≤ room }
     requires fits { (size ≤ S.MOST) × (room ≤ P.MOST) × (room ≤ U.MOST) ×
-        (slice_index (counts (map I.value a_p.now)) size ≤ U.MOST) }
+        (slice_index (naturals (map I.value a_p.now)) size ≤ U.MOST) }
     requires room { HasRoomBeside size room memory.old }
     ensures laid { IsLaidOut size memory.new.words.iw.items memory.new.pe.items memory.new.len.items result }
     ensures long { (result + size ≤ length memory.new.words.iw.items) × (length memory.new.words.iw.items ≤ room) }

@@ -9,7 +9,7 @@ ghost use Rattle.std.specs.Prelude.{slice_index, slice_range};
 ghost use Rattle.std.specs.Vec.{vec_capacity};
 ghost use Rattle.amd_model.specs.Input.Columns.{IsColumnForm, IsSorted};
 ghost use Rattle.amd_model.specs.Input.Pattern.{is_pair};
-ghost use Rattle.amd_types.specs.Counts.{counts};
+ghost use Rattle.amd_types.specs.Naturals.{naturals};
 ghost use Rattle.amd_words.specs.Words.{num};
 ghost use Rattle.amd_workspace.specs.Lower.{IsLower, IsLowerForm, AreNeighbourCounts, Matrix, HoldsLists, LaysRows};
 ghost use Rattle.amd_workspace.specs.Lists.{KeepsWords};
@@ -76,10 +76,10 @@ pub fn has_long_lower<I: Index>(size: usize, a_p: &[I], a_i: &[I], free: usize) 
 pub fn own_first<I: Index>(size: usize, a_p: &[I], a_i: &[I], j: usize) -> usize
     requires input { IsLowerForm size (map I.value a_p.now) (map I.value a_i.now) }
     requires row { j < size }
-    ensures from { slice_index (counts (map I.value a_p.now)) j ≤ result }
-    ensures to { result ≤ slice_index (counts (map I.value a_p.now)) (j + 1) }
+    ensures from { slice_index (naturals (map I.value a_p.now)) j ≤ result }
+    ensures to { result ≤ slice_index (naturals (map I.value a_p.now)) (j + 1) }
     ensures rows { own_of size (map I.value a_p.now) (map I.value a_i.now) j ≡
-        slice_range (counts (map I.value a_i.now)) result (slice_index (counts (map I.value a_p.now)) (j + 1)) }
+        slice_range (naturals (map I.value a_i.now)) result (slice_index (naturals (map I.value a_p.now)) (j + 1)) }
 {
     let first = count_at(a_p, j);
     if first == count_at(a_p, j + 1) {
@@ -116,13 +116,13 @@ pub fn push_column<I: Index, S: Signed, A: Allocator>(
     requires form { IsColumnForm (pos size) size (map I.value a_p.now) (map I.value a_i.now) }
     requires sorted { IsSorted size (map I.value a_p.now) (map I.value a_i.now) }
     requires row { j < size }
-    requires from { slice_index (counts (map I.value a_p.now)) j ≤ first }
-    requires to { first ≤ slice_index (counts (map I.value a_p.now)) (j + 1) }
-    requires room { length iw.old.items + (slice_index (counts (map I.value a_p.now)) (j + 1) - first) ≤
+    requires from { slice_index (naturals (map I.value a_p.now)) j ≤ first }
+    requires to { first ≤ slice_index (naturals (map I.value a_p.now)) (j + 1) }
+    requires room { length iw.old.items + (slice_index (naturals (map I.value a_p.now)) (j + 1) - first) ≤
         vec_capacity iw.old }
     requires fits { size ≤ S.MOST }
-    ensures items { iw.new.items ≡ iw.old.items ++ map pos (slice_range (counts (map I.value a_i.now)) first
-        (slice_index (counts (map I.value a_p.now)) (j + 1))) }
+    ensures items { iw.new.items ≡ iw.old.items ++ map pos (slice_range (naturals (map I.value a_i.now)) first
+        (slice_index (naturals (map I.value a_p.now)) (j + 1))) }
     ensures capacity { vec_capacity iw.old ≤ vec_capacity iw.new }
 {
     let stop = count_at(a_p, j + 1);

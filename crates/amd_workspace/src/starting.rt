@@ -102,7 +102,7 @@ fn number_of(holds: bool) -> usize
 
 /// Starts the elimination: `len` has the degree of each row, and `pe` where its list starts. The rows marked in `hold`
 /// and those of a degree above the threshold are held last. Answers how many rows are live, and how many are held last.
-pub fn begin<S: Signed, P: Signed, U: Unsigned>(
+pub fn begin_rows<S: Signed, P: Signed, U: Unsigned>(
     len: &mut [Cell<U>],
     pe: &mut [Word<P>],
     e_len: &mut [Word<P>],

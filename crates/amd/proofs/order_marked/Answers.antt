@@ -32,7 +32,8 @@ order_once-requires-clause-given g c =
     let by = sym c.jumbled_of.ensures ∙ c.in-Some-jumbled_of.is in let jumbled = c.in-Some-jumbled_of.jumbled in
     let not_invalid = jumbled_valid c.class_of-status.result jumbled by in
     is_given (option_copied c.args.hold) c.in-Some.count (g.I.Number.value c.args.n) (map g.I.Number.value c.args.a_p.now)
-    (map g.I.Number.value c.args.a_i.now) c.class_of-status.result c.in-Some.ensures.1 c.if-count-eq0.false (λ some. valid.marks not_invalid)
+    (map g.I.Number.value c.args.a_i.now) c.class_of-status.result c.in-Some.ensures.1 c.if-count-eq0.false (λ some. valid.marks
+    not_invalid)
     (λ some. valid.status (valid.marks not_invalid)) (λ some. not_invalid) jumbled by (length c.deref_mut.result.now)
     (length c.deref_mut-2.result.now) (long g at.After-deref_mut) (long_inverse g at.After-deref_mut-2)
 

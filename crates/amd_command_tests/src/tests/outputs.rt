@@ -1,6 +1,8 @@
 // What is written, writers with a fault at each call, and each request for memory refused in turn.
 
 use amd::{Control, Info};
+use amd_cli::causes::Cause;
+use amd_cli::held::read_held;
 use amd_command::analysis::analyze_matrix;
 use amd_command::faults::cause_of;
 use amd_command::needs::told;
@@ -15,8 +17,6 @@ use amd_report::figures::write_figures;
 use amd_report::pattern::write_matrix;
 use amd_report::rows::write_rows;
 use amd_report::tree::{write_supernodes, write_tree};
-use amd_request::causes::Cause;
-use amd_request::held::read_held;
 use amd_symbolic::supernodes;
 use amd_testing::check;
 use amd_testing::refusing::{Refusing, each_refused};

@@ -3,13 +3,13 @@
 // the larger tree is that of an independent program.
 
 use crate::tests::choices::PATTERN;
+use amd_cli::causes::Cause;
 use amd_command::ordering::order_matrix;
 use amd_command::picture::{MOST_ROWS, Source, write_picture};
 use amd_demos::can_24::{POINTERS, ROWS};
 use amd_market::reader::Matrix;
 use amd_report::shapes::write_shape;
 use amd_report::tree_picture::write_tree_picture;
-use amd_request::causes::Cause;
 use amd_symbolic::supernodes;
 use amd_testing::check;
 use std::alloc::{AllocError, Global};

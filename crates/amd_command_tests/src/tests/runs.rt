@@ -3,8 +3,8 @@
 
 use crate::tests::desk::{Desk, Pages};
 use crate::tests::outputs::{PATH, PATH_FACTS};
+use amd_cli::causes::Cause;
 use amd_command::program::run;
-use amd_request::causes::Cause;
 use amd_testing::check;
 use std::alloc::{AllocError, Global};
 use std::cell::RefCell;

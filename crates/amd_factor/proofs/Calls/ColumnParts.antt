@@ -11,40 +11,40 @@ use Rattle.amd_factor.specs.Columns.{HoldFactor, PassesRoom}
 use Rattle.amd_factor.specs.Neighbours.{HasEarlier}
 use Rattle.amd_factor.specs.Orders.{Order, Permutes}
 use Rattle.amd_factor.specs.Neighbours.{HasLater}
-use Rattle.amd_types.specs.Counts.{counts}
+use Rattle.amd_types.specs.Naturals.{naturals}
 use Rattle.amd_factor.specs.Factors.{IsFactorOf, IsFault}
 use Rattle.amd_factor.specs.declared.factor.Fault.TheVariants.{RoomTooSmall}
 
-module _ (n : ℕ) (ap' ai p : List ℤ) (o : Order) (graph : o.graph ≡ graph_of n ap' ai) (rows : o.rows ≡ counts p) where
+module _ (n : ℕ) (ap' ai p : List ℤ) (o : Order) (graph : o.graph ≡ graph_of n ap' ai) (rows : o.rows ≡ naturals p) where
   pub laws : IsGraph o.graph
   laws = subst IsGraph (sym graph) (pattern_graph n ap' ai)
 
-  pub earlier_of : (starts earlier : List ℕ) → HasEarlier (record { graph = graph_of n ap' ai; rows = counts p }) starts earlier →
+  pub earlier_of : (starts earlier : List ℕ) → HasEarlier (record { graph = graph_of n ap' ai; rows = naturals p }) starts earlier →
       HasEarlier o starts earlier
   earlier_of starts earlier h =
       subst (λ g. HasEarlier (record { graph = g; rows = o.rows }) starts earlier) (sym graph)
       (subst (λ r. HasEarlier (record { graph = graph_of n ap' ai; rows = r }) starts earlier) (sym rows) h)
 
-  pub later_of : (starts later : List ℕ) → HasLater (record { graph = graph_of n ap' ai; rows = counts p }) starts later →
+  pub later_of : (starts later : List ℕ) → HasLater (record { graph = graph_of n ap' ai; rows = naturals p }) starts later →
       HasLater o starts later
   later_of starts later h =
       subst (λ g. HasLater (record { graph = g; rows = o.rows }) starts later) (sym graph)
       (subst (λ r. HasLater (record { graph = graph_of n ap' ai; rows = r }) starts later) (sym rows) h)
 
-  pub factor_of : IsColumnForm (pos n) n ap' ai → Permutes n p (counts p) → (ptr entries : List ℕ) (parent : List (Option ℕ)) →
+  pub factor_of : IsColumnForm (pos n) n ap' ai → Permutes n p (naturals p) → (ptr entries : List ℕ) (parent : List (Option ℕ)) →
       HoldFactor o.graph o.rows ptr entries parent →
       IsFactorOf (pos n) ap' ai p ptr entries parent
   factor_of form permutes ptr entries parent h = record {
     form = λ _. form;
-    order = counts p;
+    order = naturals p;
     permutes = permutes;
-    holds = subst (λ g. HoldFactor g (counts p) ptr entries parent) graph (subst (λ r. HoldFactor o.graph r ptr entries parent) rows h);
+    holds = subst (λ g. HoldFactor g (naturals p) ptr entries parent) graph (subst (λ r. HoldFactor o.graph r ptr entries parent) rows h);
   }
 
-  pub too_many : IsColumnForm (pos n) n ap' ai → Permutes n p (counts p) → (room : ℕ) → PassesRoom o.graph o.rows room →
+  pub too_many : IsColumnForm (pos n) n ap' ai → Permutes n p (naturals p) → (room : ℕ) → PassesRoom o.graph o.rows room →
       IsFault (pos n) ap' ai p room RoomTooSmall
   too_many form permutes room h =
-      ((λ _. form), counts p, permutes, subst (λ g. PassesRoom g (counts p) room) graph (subst (λ r. PassesRoom o.graph r room) rows h))
+      ((λ _. form), naturals p, permutes, subst (λ g. PassesRoom g (naturals p) room) graph (subst (λ r. PassesRoom o.graph r room) rows h))
 
 -- a matrix without rows has the factor without columns
 pub no_rows : (ap' ai p : List ℤ) (ptr entries : List ℕ) (parent : List (Option ℕ)) → p ≡ [] → ptr ≡ 0 ∷ [] → entries ≡ [] →

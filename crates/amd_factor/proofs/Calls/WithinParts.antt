@@ -6,7 +6,7 @@ use Rattle.amd_model.specs.Figures.{entries}
 use Rattle.amd_model.specs.Graph.{Graph}
 use Rattle.amd_model.specs.Input.Columns.{IsColumnForm, IsInput}
 use Rattle.amd_model.specs.Input.Pattern.{graph_of}
-use Rattle.amd_types.specs.Counts.{counts}
+use Rattle.amd_types.specs.Naturals.{naturals}
 use Rattle.amd_factor.specs.Columns.{PassesRoom}
 use Rattle.amd_factor.specs.Counted.{IsCountsOf, IsCutNeed}
 use Rattle.amd_factor.specs.Factors.{WritesFactor}
@@ -114,20 +114,20 @@ unwritten_kept size ap' ai p room K (TooSmall needs) h kept = inl (needs, refl)
 
 -- what fits in a workspace has no more words than it
 pub room_within : (z : ℤ) (size : ℕ) (ap' : List ℤ) (rows most : ℕ) → pos size ≡ z → ¬ (size ≡ 0) → FitsIn z ap' rows most →
-    (size ≤ rows) × (words size (slice_index (counts ap') size) ≤ words rows most)
+    (size ≤ rows) × (words size (slice_index (naturals ap') size) ≤ words rows most)
 room_within z size ap' rows most is some fits =
     let here = subst (λ z. FitsIn z ap' rows most) (sym is) fits (λ zero. some (let same : pos size ≡ pos 0 = zero in cc)) in
     let few = here.0 in let short = here.1 in
     (few, omega (arith, few, short))
 
 module _ (o : Order) (n : ℕ) (ap' ai p : List ℤ) (h : IsPosed o n ap' ai p) where
-  pub too_small : Permutes n p (counts p) → (room : ℕ) (sizes : List ℕ) (parent : List (Option ℕ)) (need : Need) →
+  pub too_small : Permutes n p (naturals p) → (room : ℕ) (sizes : List ℕ) (parent : List (Option ℕ)) (need : Need) →
       PassesRoom o.graph o.rows room → HoldSizes o.graph o.rows sizes parent →
       ((columns : List (List ℕ)) → sizes ≡ map length columns → IsCutNeed columns need) →
       IsUnwritten n ap' ai p room (TooSmall need.lnz)
   too_small permutes room sizes parent need passes held told = (
-    counts p,
+    naturals p,
     permutes,
-    subst (λ g. Needs g (counts p) room need.lnz) h.graph (subst (λ r. Needs o.graph r room need.lnz) h.rows
+    subst (λ g. Needs g (naturals p) room need.lnz) h.graph (subst (λ r. Needs o.graph r room need.lnz) h.rows
         (needs_of o.graph o.rows room sizes parent need passes held (told held.columns held.sizes_are))),
   )

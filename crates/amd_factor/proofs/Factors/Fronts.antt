@@ -7,7 +7,7 @@ use Rattle.std.proofs.lemmas.List.{length-take-le, drop-drop, drop-map, map-appe
 use Rattle.std.proofs.lemmas.List.Elements.{Contains-get_or}
 use Rattle.std.proofs.lemmas.List.Edits.{length-between}
 use Rattle.amd_model.specs.Graph.{IsGraph}
-use Rattle.amd_types.specs.Counts.{counts}
+use Rattle.amd_types.specs.Naturals.{naturals}
 use Rattle.amd_factor.specs.Columns.{HoldFactor, PassesRoom}
 use Rattle.amd_factor.specs.Gathering.{HoldBefore, TellFirst}
 use Rattle.amd_factor.specs.Merging.{merged}
@@ -34,9 +34,9 @@ module _ {N : Type 0} (value : N → ℤ) (o : Order) where
   -- all columns
   pub front_all : IsGraph o.graph → (k : ℕ) (ptr : List ℕ) (rows : List N) (parent link : List (Option ℕ)) (column : Option ℕ)
       (stamp : ℕ) (mark : List ℕ) → FillsFront value o k ptr rows parent link column stamp mark → k ≡ length o.rows →
-      HoldFactor o.graph o.rows ptr (counts (map value (take (slice_index ptr k) rows))) parent
+      HoldFactor o.graph o.rows ptr (naturals (map value (take (slice_index ptr k) rows))) parent
   front_all laws k ptr rows parent link column stamp mark f all =
-      let xs : List ℕ = counts (map value (take (slice_index ptr k) rows)) in
+      let xs : List ℕ = naturals (map value (take (slice_index ptr k) rows)) in
       let long : length xs ≡ slice_index ptr k = counts_long value (take (slice_index ptr k) rows) ∙
       length-take-le (slice_index ptr k) rows f.within in
       let whole : take (slice_index ptr (length o.rows)) xs ≡ xs =
@@ -48,7 +48,7 @@ module _ {N : Type 0} (value : N → ℤ) (o : Order) where
   module _ (laws : IsGraph o.graph) (k m : ℕ) (ptr : List ℕ) (rows : List N) (parent link : List (Option ℕ)) (column : Option ℕ) (stamp : ℕ)
       (mark : List ℕ) (f : FillsFront value o k ptr rows parent link column stamp mark) (all : k ≡ length o.rows) (places : k ≡ m) where
     entries : List ℕ
-    entries = counts (map value (take (slice_index ptr k) rows))
+    entries = naturals (map value (take (slice_index ptr k) rows))
 
     -- all of a list is written
     pub list_written : slice_index ptr k ≡ length rows → (slice_index ptr m ≡ length rows) × (xs : List ℕ) ×

@@ -11,21 +11,21 @@ use Rattle.amd_model.specs.Listing.{ListsEachRow}
 use Rattle.amd_model.proofs.Counting.Below.{count_same, count_none}
 use Rattle.amd_model.proofs.Counting.Pigeonhole.{count_all, permutation_below, permutation_once}
 use Rattle.amd_edges.proofs.Arcs.{count_more}
-use Rattle.amd_types.specs.Counts.{counts}
+use Rattle.amd_types.specs.Naturals.{naturals}
 use Rattle.amd_factor.specs.Orders.{Permutes}
 use Rattle.amd_factor.specs.Places.{ArePlaces}
 
 -- of n rows, those at the first k places of p have their places, and the others have none
 pub record PlacesUpTo (n : ℕ) (p : List ℤ) (k : ℕ) (places : List ℕ) : Type 0 where
   pub room : length places ≡ n
-  pub numbers : (j : ℕ) → j < k → at p j ≡ pos (get_or (counts p) j 0)
-  pub below : (j : ℕ) → j < k → get_or (counts p) j 0 < n
-  pub each : (j : ℕ) → j < k → get_or places (get_or (counts p) j 0) 0 ≡ j
-  pub from : (r : ℕ) → r < n → (get_or places r 0 ≡ n) ⊎ ((get_or places r 0 < k) × (get_or (counts p) (get_or places r 0) 0 ≡ r))
+  pub numbers : (j : ℕ) → j < k → at p j ≡ pos (get_or (naturals p) j 0)
+  pub below : (j : ℕ) → j < k → get_or (naturals p) j 0 < n
+  pub each : (j : ℕ) → j < k → get_or places (get_or (naturals p) j 0) 0 ≡ j
+  pub from : (r : ℕ) → r < n → (get_or places r 0 ≡ n) ⊎ ((get_or places r 0 < k) × (get_or (naturals p) (get_or places r 0) 0 ≡ r))
   pub met : count_below n (λ r. not (eqb (get_or places r 0) n)) ≡ k
 
 -- the number at a place, where it is a row
-count_of : (p : List ℤ) (k row : ℕ) → at p k ≡ pos row → get_or (counts p) k 0 ≡ row
+count_of : (p : List ℤ) (k row : ℕ) → at p k ≡ pos row → get_or (naturals p) k 0 ≡ row
 count_of p k row is = read_map unsigned_abs p k (pos 0) ∙ ap unsigned_abs is
 
 pub places_none : (n : ℕ) (p : List ℤ) (places : List ℕ) → length places ≡ n → ((r : ℕ) → r < n → get_or places r 0 ≡ n) →
@@ -45,11 +45,11 @@ module _ (n : ℕ) (p : List ℤ) (k row : ℕ) (k_in : k < n) (row_in : row < n
   within : row < length places
   within = let r = h.room in omega (arith, r, row_in)
 
-  here : get_or (counts p) k 0 ≡ row
+  here : get_or (naturals p) k 0 ≡ row
   here = count_of p k row is
 
   -- the rows at earlier places are other rows
-  other : (j : ℕ) → j < k → get_or (counts p) j 0 ≢ row
+  other : (j : ℕ) → j < k → get_or (naturals p) j 0 ≢ row
   other j l same = let e : get_or places row 0 ≡ j = rw same at (h.each j l) in omega (arith, e, fresh, l, k_in)
 
   pub places_more : PlacesUpTo n p (k + 1) (set places row k)
@@ -58,7 +58,7 @@ module _ (n : ℕ) (p : List ℤ) (k row : ℕ) (k_in : k < n) (row_in : row < n
     numbers = below_more _ _ h.numbers (is ∙ ap (λ x. pos x) (sym here));
     below = below_more _ _ h.below (rw here row_in);
     each = below_more _ _
-        (λ j l. get_or-set_other places row (get_or (counts p) j 0) k 0 (other j l) ∙ h.each j l)
+        (λ j l. get_or-set_other places row (get_or (naturals p) j 0) k 0 (other j l) ∙ h.each j l)
         (rw here (get_or-set_same places row k 0 within));
     from = λ r l. elim (cases_eq r row) [
       | inl same ↦ (let at_row : get_or (set places row k) row 0 ≡ k = get_or-set_same places row k 0 within in
@@ -85,7 +85,7 @@ module _ (n : ℕ) (p : List ℤ) (k row : ℕ) (k_in : k < n) (row_in : row < n
 
 -- at the end each row was met
 module _ (n : ℕ) (p : List ℤ) (size : length p ≡ n) (places : List ℕ) (h : PlacesUpTo n p n places) where
-  lists : ListsEachRow n (counts p)
+  lists : ListsEachRow n (naturals p)
   lists = record {
     places = length-map p unsigned_abs ∙ size;
     all = λ v l. (
@@ -93,22 +93,22 @@ module _ (n : ℕ) (p : List ℤ) (size : length p ≡ n) (places : List ℕ) (h
         (let m = h.met in omega (arith, m)) v l in
         elim (h.from v l) [
           | inl x ↦ absurd (true≢false (sym seen ∙ ap not (eq-eqb (get_or places v 0) n x)))
-          | inr x ↦ (let x0 = x.0 in let w : get_or places v 0 < length (counts p) =
+          | inr x ↦ (let x0 = x.0 in let w : get_or places v 0 < length (naturals p) =
               (let s = length-map p unsigned_abs in omega (arith, x0, s, size)) in
-              (get_or places v 0, w, get_or_default (counts p) (get_or places v 0) v 0 w ∙ x.1))
+              (get_or places v 0, w, get_or_default (naturals p) (get_or places v 0) v 0 w ∙ x.1))
         ]);
   }
 
-  pub all_permutes : Permutes n p (counts p)
+  pub all_permutes : Permutes n p (naturals p)
   all_permutes = record {
-    listed = same_lists p (map pos (counts p)) (sym (length-map (counts p) pos ∙ length-map p unsigned_abs)) (λ k d l.
+    listed = same_lists p (map pos (naturals p)) (sym (length-map (naturals p) pos ∙ length-map p unsigned_abs)) (λ k d l.
         let small : k < n = omega (arith, l, size) in
-        let inside : k < length (counts p) = (let s = length-map p unsigned_abs in omega (arith, l, s)) in
-        get_or_default p k d (pos 0) l ∙ h.numbers k small ∙ sym (get_or-map pos (counts p) k 0 d inside));
+        let inside : k < length (naturals p) = (let s = length-map p unsigned_abs in omega (arith, l, s)) in
+        get_or_default p k d (pos 0) l ∙ h.numbers k small ∙ sym (get_or-map pos (naturals p) k 0 d inside));
     each = lists;
   }
 
-  pub all_places : ArePlaces n (counts p) places
+  pub all_places : ArePlaces n (naturals p) places
   all_places = record { room = h.room; listing = lists; each = h.each }
 
 -- what makes a list no permutation

@@ -9,7 +9,17 @@ use Rattle.amd_model.specs.Graph.{IsGraph}
 use Rattle.amd_factor.specs.Partitions.{Climbs, HasRow, IsMarkedBy, IsPartition, MarkedBefore, Partition, Written, WrittenTo}
 use Rattle.amd_factor.specs.Partitions.{last_column, last_of}
 use Rattle.amd_factor.proofs.Partitions.Prefixes.{room_at, written_next, written_other, written_skip}
-use Rattle.amd_factor.proofs.Partitions.SupernodeTree.{OverIt, entry-of, goes-on, in-column, last-in, over-it, owned-by, owner-up, parent-of}
+use Rattle.amd_factor.proofs.Partitions.SupernodeTree.{
+  OverIt,
+  entry-of,
+  goes-on,
+  in-column,
+  last-in,
+  over-it,
+  owned-by,
+  owner-up,
+  parent-of,
+}
 use Rattle.amd_factor.proofs.Trees.Ancestry.{over-trans, parents-same}
 use Rattle.amd_factor.proofs.Factors.NewRows.{place_in}
 use Rattle.amd_factor.proofs.Trees.TreePaths.{entry_in_subtree, over_most}

@@ -7,7 +7,7 @@ use Rattle.std.proofs.lemmas.List.{get_or-append-add, get_or-drop, length-drop, 
 use Rattle.std.proofs.lemmas.List.Elements.{Contains-get_or}
 use Rattle.amd_model.specs.Graph.{IsGraph}
 use Rattle.amd_model.specs.Input.Pattern.{graph_of}
-use Rattle.amd_types.specs.Counts.{counts}
+use Rattle.amd_types.specs.Naturals.{naturals}
 use Rattle.amd_factor.specs.Counted.{IsCountsOf}
 use Rattle.amd_factor.specs.Orders.{Order}
 use Rattle.amd_factor.specs.Partitions.{IsCut, IsPartition, Partition, WrittenTo, last_column, last_of}
@@ -100,7 +100,7 @@ back [] = refl
 back (row ∷ rows) = ap (λ xs. row ∷ xs) (back rows)
 
 -- what was counted, of the graph of a matrix and the order that a list tells
-module _ (n : ℤ) (ap' ai p : List ℤ) (o : Order) (graph : o.graph ≡ graph_of (unsigned_abs n) ap' ai) (rows : o.rows ≡ counts p)
+module _ (n : ℤ) (ap' ai p : List ℤ) (o : Order) (graph : o.graph ≡ graph_of (unsigned_abs n) ap' ai) (rows : o.rows ≡ naturals p)
     (sizes : List ℕ) (parent : List (Option ℕ)) (need : Need) (c : IsCountsOf n ap' ai p sizes parent need) where
   same : c.order ≡ o.rows
   same = sym (rows ∙ ap (map unsigned_abs) c.permutes.listed ∙ back c.order)

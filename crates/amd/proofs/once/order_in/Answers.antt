@@ -8,7 +8,8 @@ use Rattle.amd.proofs.once.order_in.Goals.{After-deref-2}
 use Rattle.amd.proofs.once.order_in.Goals as goal
 
 -- the transpose, as it is lent
-clean : (g : Over) (c : After-deref-2 g) → IsCleanForm (length c.args.p.now) (map g.I.Index.value c.args.a_p.now) (map g.I.Index.value c.args.a_i.now)
+clean : (g : Over) (c : After-deref-2 g) → IsCleanForm (length c.args.p.now) (map g.I.Index.value c.args.a_p.now) (map g.I.Index.value
+    c.args.a_i.now)
     (map g.J.Index.value c.deref.result.now) (map g.J.Index.value c.deref-2.result.now)
 clean g c = rw (c.deref.ensures.value, c.deref-2.ensures.value) c.in_ok-c_p.ensures.clean
 

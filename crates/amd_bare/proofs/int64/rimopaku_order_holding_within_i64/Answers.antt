@@ -8,6 +8,7 @@ pub returns : goal.returns
 returns c =
     let a = c.args in
     let order = c.order_within in
-    orders_within (Some c.args.hold.now) _ a.n a.parameters.now a.a_p.now a.a_i.now a.lent.size a.p.now a.p_inv.now order.new.p order.new.p_inv
+    orders_within (Some c.args.hold.now) _ a.n a.parameters.now a.a_p.now a.a_i.now a.lent.size a.p.now a.p_inv.now order.new.p
+    order.new.p_inv
     a.statistics.now
     order.new.statistics _ (to_z-of_z w64 a.n c.ranges.n) order.ensures

@@ -2,7 +2,7 @@
 use Rattle.std.proofs.Common.{◌≡◌, ◌<◌, ◌⊎◌, ◌++◌, drop, take, inl, inr, map, pos, length, refl, sym, ◌∙◌, ap, subst, arith, rules}
 use Rattle.std.specs.Prelude.{slice_index}
 use Rattle.std.proofs.lemmas.List.{length-map}
-use Rattle.amd_types.specs.Counts.{counts}
+use Rattle.amd_types.specs.Naturals.{naturals}
 use Rattle.amd_factor.proofs.Partitions.PartitionEnds.{partition_of, rows_end}
 use Rattle.amd_factor.proofs.Partitions.TypedRows.{count-length}
 use Rattle.amd_calls.specs.Columns.{parent_number}
@@ -81,14 +81,14 @@ returns-clause-left g c =
       places = places;
       first = cut.first.items;
       ptr = cut.ptr.items;
-      rows = counts (map value rows);
+      rows = naturals (map value rows);
       parent = cut.parent.items;
       supernodes = rw e.same e.supernodes;
       begin = c.write_first_numbers.ensures ∙ ap (λ xs. map pos xs ++ drop (length xs) (map value c.args.first.now))
           c.deref-2.ensures.value;
       pointers = c.write_first_numbers-2.ensures ∙ ap (λ xs. map pos xs ++ drop (length xs) (map value c.args.ptr.now))
           c.deref-3.ensures.value;
-      entries = front_values value pos rows c.args.rows.now (counts (map value rows)) c.index-below.result.now (sym e.told)
+      entries = front_values value pos rows c.args.rows.now (naturals (map value rows)) c.index-below.result.now (sym e.told)
           (sym (count-length value rows ∙ long));
       parents = c.write_first_parents.ensures
           ∙ ap (λ xs. map parent_number xs ++ drop (length xs) (map value c.args.parent.now)) c.deref-4.ensures.value;

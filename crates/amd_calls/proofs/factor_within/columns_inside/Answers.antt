@@ -1,5 +1,5 @@
 use Rattle.std.proofs.Common.{ℤ, List, ◌≡◌, ◌++◌, drop, length, map, pos, subst, ◌∙◌}
-use Rattle.amd_types.specs.Counts.{counts}
+use Rattle.amd_types.specs.Naturals.{naturals}
 use Rattle.amd_factor.specs.Orders.{Permutes}
 use Rattle.amd_factor.proofs.Calls.ColumnParts.{factor_of}
 use Rattle.amd_calls.proofs.factor_within.columns_inside.Goals as goal
@@ -10,7 +10,7 @@ returns-in-Some-clause-factor g c =
     let a_p : List ℤ = map value c.args.a_p.now in let a_i : List ℤ = map value c.args.a_i.now in
     let p : List ℤ = map value c.args.p.now in
     let f = c.in-Some.ensures.factor in
-    let permutes = subst (λ n. Permutes n p (counts p)) (c.fill.ensures.len ∙ c.split_at_mut-places.ensures.front_len)
+    let permutes = subst (λ n. Permutes n p (naturals p)) (c.fill.ensures.len ∙ c.split_at_mut-places.ensures.front_len)
     (c.place_rows.ensures.permutation c.if-not-place_rows.false) in
     let posed = c.requires.1.0 in (
       record {

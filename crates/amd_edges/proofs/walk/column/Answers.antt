@@ -4,7 +4,7 @@ use Rattle.std.proofs.Common.{le_refl, le_of_lt, le_trans, le_of_eq}
 use Rattle.std.proofs.lemmas.Bool.{eqb-true, eqb-false, true≢false, le-ltb}
 use Rattle.std.proofs.lemmas.List.{length-map}
 use Rattle.amd_model.specs.Input.Columns.{IsColumnForm, IsSorted}
-use Rattle.amd_types.specs.Counts.{counts, count_graph, is_entry}
+use Rattle.amd_types.specs.Naturals.{naturals, count_graph, is_entry}
 use Rattle.amd_edges.specs.Visits.{arcs_of, with_arc, IsNew}
 use Rattle.amd_edges.specs.Walk.{IsScan, met}
 use Rattle.amd_edges.proofs.Forms.{pointer_fits, row_fits, place_in, place_up, sorted_form}
@@ -65,17 +65,17 @@ record IsNextRow (n : ℕ) (ap' ai t : List ℕ) (k m j : ℕ) : Type 0 where
 
 -- the row at the place, read twice, is the next one
 module _ {n k m end p first j : ℕ} {ap' ai : List ℤ} {t : List ℕ} (form : IsColumnForm (pos n) n ap' ai) (sorted : IsSorted n ap' ai)
-    (k_in : k < n) (scan : IsScan n (counts ap') (counts ai) t k m) (end_is : end ≡ get_or (counts ap') (k + 1) 0)
-    (so : IsReading (counts ai) (get_or (counts ap') k 0) end k m p) (first_is : first ≡ get_or (counts ai) p 0)
-    (is : j ≡ get_or (counts ai) p 0) (inside : p < end) (below : first < k) where
-  next_row : IsNextRow n (counts ap') (counts ai) t k m j
+    (k_in : k < n) (scan : IsScan n (naturals ap') (naturals ai) t k m) (end_is : end ≡ get_or (naturals ap') (k + 1) 0)
+    (so : IsReading (naturals ai) (get_or (naturals ap') k 0) end k m p) (first_is : first ≡ get_or (naturals ai) p 0)
+    (is : j ≡ get_or (naturals ai) p 0) (inside : p < end) (below : first < k) where
+  next_row : IsNextRow n (naturals ap') (naturals ai) t k m j
   next_row = let rising = sorted_form n ap' ai form sorted in
       let low = row_below first_is is below in
-      let u = upper_next n (counts ap') (counts ai) rising t k m k_in scan end p j end_is so is inside low in record {
+      let u = upper_next n (naturals ap') (naturals ai) rising t k m k_in scan end p j end_is so is inside low in record {
         upper = u;
-        new = upper_new n (counts ap') (counts ai) rising t k m k_in scan j u.up u.pair u.low u.gap;
-        after = upper_after n (counts ap') (counts ai) rising t k m k_in scan j u.up u.pair u.low u.gap;
-        scan = upper_scan n (counts ap') (counts ai) rising t k m k_in scan j u.up u.pair u.low u.gap;
+        new = upper_new n (naturals ap') (naturals ai) rising t k m k_in scan j u.up u.pair u.low u.gap;
+        after = upper_after n (naturals ap') (naturals ai) rising t k m k_in scan j u.up u.pair u.low u.gap;
+        scan = upper_scan n (naturals ap') (naturals ai) rising t k m k_in scan j u.up u.pair u.low u.gap;
       }
 
 pub arc-requires : goal.arc-requires
@@ -126,7 +126,7 @@ lower-requires-clause-held g c =
     let row = next_row r.form r.sorted r.k_in i.scan c.count_at-end.ensures.count i.place c.count_at.ensures.count
     c.count_at-j.ensures.count c.upper-test.true c.if-count_at-k.true in
     let n = c.args.size in let k = c.args.k in let j = c.count_at-j.result in
-    let ap' = counts (map g.I.Index.value c.args.a_p.now) in let ai = counts (map g.I.Index.value c.args.a_i.now) in
+    let ap' = naturals (map g.I.Index.value c.args.a_p.now) in let ai = naturals (map g.I.Index.value c.args.a_i.now) in
     let arcs = (arcs_of (edges_until (is_entry n ap' ai) k c.upper.invariant.0) ++ (j, k) ∷ []) ++ (k, j) ∷ [] in (
       arcs,
       subst (λ s. g.V.Visitor.holds (count_graph n ap' ai) s arcs c.arc-in-upper.new.self) row.after
@@ -137,7 +137,7 @@ pub upper-preserved : goal.upper-preserved
 upper-preserved g c =
     let i = c.upper.invariant.1 in let r = c.requires in let m = c.upper.invariant.0 in let k = c.args.k in
     let n = c.args.size in let j = c.count_at-j.result in
-    let ap' = counts (map g.I.Index.value c.args.a_p.now) in let ai = counts (map g.I.Index.value c.args.a_i.now) in
+    let ap' = naturals (map g.I.Index.value c.args.a_p.now) in let ai = naturals (map g.I.Index.value c.args.a_i.now) in
     let form = sorted_form n (map g.I.Index.value c.args.a_p.now) (map g.I.Index.value c.args.a_i.now) r.form r.sorted in
     let row = next_row r.form r.sorted r.k_in i.scan c.count_at-end.ensures.count i.place c.count_at.ensures.count
     c.count_at-j.ensures.count c.upper-test.true c.if-count_at-k.true in
@@ -161,7 +161,7 @@ pub upper-init : goal.upper-init
 upper-init g c =
     let r = c.requires in
     let n = c.args.size in let k = c.args.k in
-    let ap' = counts (map g.I.Index.value c.args.a_p.now) in let ai = counts (map g.I.Index.value c.args.a_i.now) in
+    let ap' = naturals (map g.I.Index.value c.args.a_p.now) in let ai = naturals (map g.I.Index.value c.args.a_i.now) in
     let form = sorted_form n (map g.I.Index.value c.args.a_p.now) (map g.I.Index.value c.args.a_i.now) r.form r.sorted in (
       0,
       record {
@@ -195,7 +195,7 @@ pub returns : goal.returns
 returns g c =
     let v = c.upper.invariant.1 in let i = v.place in let r = c.requires in
     let m = c.upper.invariant.0 in let t = c.upper.next.items in let k = c.args.k in let p = c.upper.place in let n = c.args.size in
-    let ap' = counts (map g.I.Index.value c.args.a_p.now) in let ai = counts (map g.I.Index.value c.args.a_i.now) in
+    let ap' = naturals (map g.I.Index.value c.args.a_p.now) in let ai = naturals (map g.I.Index.value c.args.a_i.now) in
     let form = sorted_form n (map g.I.Index.value c.args.a_p.now) (map g.I.Index.value c.args.a_i.now) r.form r.sorted in
     let ends = c.count_at-end.ensures.count in
     let to = le_trans i.to (le_of_eq ends) in

@@ -3,7 +3,7 @@ use Rattle.std.proofs.Common.{◌≡◌, ◌+◌, ◌<◌, ◌≤◌, ◌++◌, 
 use Rattle.std.proofs.Common.{get_or, set, ap, sym, refl, ◌∙◌, subst, subst₂, le_refl, le_of_eq, lt_irrefl, le_trans, ℕ, List}
 use Rattle.std.proofs.lemmas.List.{length-map}
 use Rattle.std.proofs.lemmas.Grind.{get_or_default_zero}
-use Rattle.amd_types.specs.Counts.{counts, count_graph, is_entry}
+use Rattle.amd_types.specs.Naturals.{naturals, count_graph, is_entry}
 use Rattle.amd_edges.specs.Visits.{arcs_of}
 use Rattle.amd_edges.specs.Walk.{IsScan, met}
 use Rattle.amd_edges.proofs.Orders.{met_above, above_start, above_push, above_end}
@@ -31,7 +31,7 @@ pub rows-init : goal.rows-init
 rows-init g c =
     let r = c.requires in
     let n = c.args.size in let j = c.args.j in let t = c.args.next.now.items in
-    let ap' = counts (map g.I.Index.value c.args.a_p.now) in let ai = counts (map g.I.Index.value c.args.a_i.now) in
+    let ap' = naturals (map g.I.Index.value c.args.a_p.now) in let ai = naturals (map g.I.Index.value c.args.a_i.now) in
     let form = sorted_form n (map g.I.Index.value c.args.a_p.now) (map g.I.Index.value c.args.a_i.now) r.form r.sorted in
     let place = c.number_of-first.result in
     let is : place ≡ get_or t j 0 = c.number_of-first.ensures.is ∙ c.index.ensures
@@ -65,7 +65,7 @@ pub rows-preserved : goal.rows-preserved
 rows-preserved g c =
     let b = c.rows.invariant.0 in let v = c.rows.invariant.1 in let i = v.place in let r = c.requires in
     let n = c.args.size in let j = c.args.j in let q = c.rows.place in let t = c.args.next.now.items in
-    let ap' = counts (map g.I.Index.value c.args.a_p.now) in let ai = counts (map g.I.Index.value c.args.a_i.now) in
+    let ap' = naturals (map g.I.Index.value c.args.a_p.now) in let ai = naturals (map g.I.Index.value c.args.a_i.now) in
     let form = sorted_form n (map g.I.Index.value c.args.a_p.now) (map g.I.Index.value c.args.a_i.now) r.form r.sorted in
     let row = c.count_at.result in let same = c.count_at.ensures.count in
     let below = row_in form r.scan r.row r.row i.from (before_end c.count_at-end.ensures.count c.rows-test.true) same in
@@ -90,7 +90,7 @@ pub returns-clause-scan : goal.returns-clause-scan
 returns-clause-scan g c =
     let i = c.rows.invariant.1.place in let r = c.requires in
     let n = c.args.size in let j = c.args.j in let q = c.rows.place in let t = c.args.next.now.items in
-    let ap' = counts (map g.I.Index.value c.args.a_p.now) in let ai = counts (map g.I.Index.value c.args.a_i.now) in
+    let ap' = naturals (map g.I.Index.value c.args.a_p.now) in let ai = naturals (map g.I.Index.value c.args.a_i.now) in
     let form = sorted_form n (map g.I.Index.value c.args.a_p.now) (map g.I.Index.value c.args.a_i.now) r.form r.sorted in
     let ends = c.count_at-end.ensures.count in let past = c.rows-test.false in let end = reading_end i past ∙ sym c.cell_of.ensures in
     subst (λ x. IsScan n ap' ai (set t j x) n (j + 1)) end
@@ -102,7 +102,7 @@ pub returns-clause-held : goal.returns-clause-held
 returns-clause-held g c =
     let b = c.rows.invariant.0 in let v = c.rows.invariant.1 in let i = v.place in let r = c.requires in
     let n = c.args.size in let j = c.args.j in let q = c.rows.place in let t = c.args.next.now.items in
-    let ap' = counts (map g.I.Index.value c.args.a_p.now) in let ai = counts (map g.I.Index.value c.args.a_i.now) in
+    let ap' = naturals (map g.I.Index.value c.args.a_p.now) in let ai = naturals (map g.I.Index.value c.args.a_i.now) in
     let form = sorted_form n (map g.I.Index.value c.args.a_p.now) (map g.I.Index.value c.args.a_i.now) r.form r.sorted in
     let ends = c.count_at-end.ensures.count in let past = c.rows-test.false in let end = reading_end i past ∙ sym c.cell_of.ensures in
     let left = lower_behind n ap' ai form t n j q r.scan r.row (le_refl n) i.from n (λ inside. absurd (past_end ends past inside)) in

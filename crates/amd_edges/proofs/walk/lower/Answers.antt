@@ -3,7 +3,7 @@ use Rattle.std.proofs.Common.{get_or, set, ap, sym, refl, ◌∙◌, subst, subs
 use Rattle.std.proofs.Common.{le_of_eq, lt_of_lt_of_le}
 use Rattle.std.proofs.lemmas.List.{length-map}
 use Rattle.std.proofs.lemmas.Grind.{get_or_default_zero}
-use Rattle.amd_types.specs.Counts.{counts, count_graph, is_entry}
+use Rattle.amd_types.specs.Naturals.{naturals, count_graph, is_entry}
 use Rattle.amd_edges.specs.Visits.{arcs_of}
 use Rattle.amd_edges.specs.Walk.{IsScan, met}
 use Rattle.amd_edges.proofs.Orders.{met_above, above_start, above_push, above_end}
@@ -60,7 +60,7 @@ pub rows-init : goal.rows-init
 rows-init g c =
     let r = c.requires in
     let n = c.args.size in let j = c.args.j in let k = c.args.k in let t = c.args.next.now.items in
-    let ap' = counts (map g.I.Index.value c.args.a_p.now) in let ai = counts (map g.I.Index.value c.args.a_i.now) in
+    let ap' = naturals (map g.I.Index.value c.args.a_p.now) in let ai = naturals (map g.I.Index.value c.args.a_i.now) in
     let form = sorted_form n (map g.I.Index.value c.args.a_p.now) (map g.I.Index.value c.args.a_i.now) r.form r.sorted in
     let place = c.number_of-place.result in
     let is : place ≡ get_or t j 0 = c.number_of-place.ensures.is ∙ c.index.ensures
@@ -102,7 +102,7 @@ pub rows-preserved : goal.rows-preserved
 rows-preserved g c =
     let b = c.rows.invariant.0 in let v = c.rows.invariant.1 in let i = v.place in let r = c.requires in
     let n = c.args.size in let j = c.args.j in let k = c.args.k in let q = c.rows.place in let t = c.args.next.now.items in
-    let ap' = counts (map g.I.Index.value c.args.a_p.now) in let ai = counts (map g.I.Index.value c.args.a_i.now) in
+    let ap' = naturals (map g.I.Index.value c.args.a_p.now) in let ai = naturals (map g.I.Index.value c.args.a_i.now) in
     let form = sorted_form n (map g.I.Index.value c.args.a_p.now) (map g.I.Index.value c.args.a_i.now) r.form r.sorted in
     let row = c.count_at-in-rows.result in let same = c.count_at-in-rows.ensures.count in
     let next = next_row r.form r.sorted r.before r.k_in r.scan c.count_at-end.ensures.count i c.count_at.ensures.count same
@@ -124,7 +124,7 @@ pub returns : goal.returns
 returns g c =
     let b = c.rows.invariant.0 in let v = c.rows.invariant.1 in let i = v.place in let r = c.requires in
     let n = c.args.size in let j = c.args.j in let k = c.args.k in let q = c.rows.place in let t = c.args.next.now.items in
-    let ap' = counts (map g.I.Index.value c.args.a_p.now) in let ai = counts (map g.I.Index.value c.args.a_i.now) in
+    let ap' = naturals (map g.I.Index.value c.args.a_p.now) in let ai = naturals (map g.I.Index.value c.args.a_i.now) in
     let form = sorted_form n (map g.I.Index.value c.args.a_p.now) (map g.I.Index.value c.args.a_i.now) r.form r.sorted in
     let ends = c.count_at-end.ensures.count in
     let row : j < n = lt_of_lt_of_le r.before r.k_in in

@@ -2,7 +2,7 @@
 use Rattle.std.proofs.Common.{◌≡◌, ◌+◌, map, arith, ap, sym, refl, ◌∙◌, subst, subst₂}
 use Rattle.amd_model.specs.Input.Pattern.{is_pair}
 use Rattle.amd_model.specs.Quotient.{met_edges}
-use Rattle.amd_types.specs.Counts.{counts, count_graph, is_entry}
+use Rattle.amd_types.specs.Naturals.{naturals, count_graph, is_entry}
 use Rattle.amd_edges.specs.Visits.{arcs_of}
 use Rattle.amd_edges.specs.Walk.{IsScan, met}
 use Rattle.amd_edges.proofs.Forms.{sorted_form, same_graph}
@@ -28,7 +28,7 @@ column_rest-requires-clause-scan g c = c.columns.invariant.scan
 pub column_rest-requires-clause-held : goal.column_rest-requires-clause-held
 column_rest-requires-clause-held g c =
     let n = c.args.size in let j = c.columns.j in let t = c.columns.next.items in
-    let ap' = counts (map g.I.Index.value c.args.a_p.now) in let ai = counts (map g.I.Index.value c.args.a_i.now) in
+    let ap' = naturals (map g.I.Index.value c.args.a_p.now) in let ai = naturals (map g.I.Index.value c.args.a_i.now) in
     let form = sorted_form n (map g.I.Index.value c.args.a_p.now) (map g.I.Index.value c.args.a_i.now) c.requires.form
     c.requires.sorted in
     let arcs = arcs_of (edges_after (is_entry n ap' ai) n j) in (
@@ -40,7 +40,7 @@ column_rest-requires-clause-held g c =
 pub columns-init : goal.columns-init
 columns-init g c =
     let n = c.args.size in
-    let ap' = counts (map g.I.Index.value c.args.a_p.now) in let ai = counts (map g.I.Index.value c.args.a_i.now) in
+    let ap' = naturals (map g.I.Index.value c.args.a_p.now) in let ai = naturals (map g.I.Index.value c.args.a_i.now) in
     record {
       room = refl;
       kept = refl;
@@ -52,7 +52,7 @@ columns-init g c =
 pub columns-preserved : goal.columns-preserved
 columns-preserved g c =
     let n = c.args.size in let j = c.columns.j in let t = c.columns.next.items in
-    let ap' = counts (map g.I.Index.value c.args.a_p.now) in let ai = counts (map g.I.Index.value c.args.a_i.now) in
+    let ap' = naturals (map g.I.Index.value c.args.a_p.now) in let ai = naturals (map g.I.Index.value c.args.a_i.now) in
     let form = sorted_form n (map g.I.Index.value c.args.a_p.now) (map g.I.Index.value c.args.a_i.now) c.requires.form
     c.requires.sorted in
     let arcs = arcs_of (edges_after (is_entry n ap' ai) n j) in
@@ -70,7 +70,7 @@ columns-preserved g c =
 pub returns : goal.returns
 returns g c =
     let n = c.args.size in let j = c.columns.j in let t = c.columns.next.items in
-    let ap' = counts (map g.I.Index.value c.args.a_p.now) in let ai = counts (map g.I.Index.value c.args.a_i.now) in
+    let ap' = naturals (map g.I.Index.value c.args.a_p.now) in let ai = naturals (map g.I.Index.value c.args.a_i.now) in
     let form = sorted_form n (map g.I.Index.value c.args.a_p.now) (map g.I.Index.value c.args.a_i.now) c.requires.form
     c.requires.sorted in
     let i = c.columns.invariant in

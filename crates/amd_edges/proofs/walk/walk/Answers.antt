@@ -1,6 +1,6 @@
 use Rattle.std.proofs.Common.{◌≡◌, ◌+◌, ℕ, Bool, map, arith, sym, ◌∙◌, refl, ap, add-one, suc, cond}
 use Rattle.amd_model.specs.Below.{sum_below, count_below}
-use Rattle.amd_types.specs.Counts.{counts, is_entry}
+use Rattle.amd_types.specs.Naturals.{naturals, is_entry}
 use Rattle.amd_edges.proofs.Forms.{sorted_form, same_graph, same_diagonals}
 use Rattle.amd_edges.proofs.Ends.{start_met, start_scan, start_zeros}
 use Rattle.amd_edges.proofs.Orders.{start_edges}
@@ -37,7 +37,7 @@ unfolding count_below sum_below
 columns-init g c =
     let r = c.requires in
     let n = c.args.size in
-    let ap' = counts (map g.I.Index.value c.args.a_p.now) in let ai = counts (map g.I.Index.value c.args.a_i.now) in
+    let ap' = naturals (map g.I.Index.value c.args.a_p.now) in let ai = naturals (map g.I.Index.value c.args.a_i.now) in
     let form = sorted_form n _ _ r.form r.sorted in
     let graph = same_graph n _ _ r.form in
     record {
@@ -60,7 +60,7 @@ columns-preserved g c =
     let i = c.columns.invariant in
     let e = c.column.ensures in
     let n = c.args.size in
-    let ap' = counts (map g.I.Index.value c.args.a_p.now) in let ai = counts (map g.I.Index.value c.args.a_i.now) in
+    let ap' = naturals (map g.I.Index.value c.args.a_p.now) in let ai = naturals (map g.I.Index.value c.args.a_i.now) in
     let last : count_below (suc c.columns.k) (λ j. is_entry n ap' ai j j) ≡ one_if (is_entry n ap' ai c.columns.k c.columns.k) + count_below
     c.columns.k (λ j. is_entry n ap' ai j j) = refl in
     let here : one_if c.column.result ≡ one_if (is_entry n ap' ai c.columns.k c.columns.k) = ap one_if e.diagonal in

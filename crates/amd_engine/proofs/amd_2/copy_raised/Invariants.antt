@@ -1,5 +1,5 @@
 use Rattle.std.proofs.Common.{◌≡◌, length, map, take}
-use Rattle.amd_views.specs.Views.{raised}
+use Rattle.amd_lending.specs.Views.{raised}
 use Rattle.amd_engine.proofs.amd_2.copy_raised.Given as goal
 
 abbrev pub invariant-words : goal.invariant-words

@@ -2,7 +2,7 @@ use Rattle.std.proofs.Common.{ℕ, ℤ, List, None, pos, map, length, take, drop
 use Rattle.std.proofs.lemmas.Int.{ints}
 use Rattle.std.proofs.lemmas.List.{take_at, length-map, length-replicate}
 use Rattle.amd_model.specs.Graph.{Graph}
-use Rattle.amd_views.specs.Views.{raised}
+use Rattle.amd_lending.specs.Views.{raised}
 use Rattle.amd_words.specs.Words.{word, is_place}
 use Rattle.amd_engine.specs.InPlace.{LaysGraph}
 use Rattle.amd_engine.proofs.EndingLaw.{laid_same}

@@ -16,7 +16,8 @@ push_reserved-requires g c =
 
 pub rows-preserved : goal.rows-preserved
 rows-preserved g c =
-    let i = c.rows.invariant in let n = c.rows.degree-index in let degrees = c.args.degrees.now in let e = c.push_reserved.ensures in record {
+    let i = c.rows.invariant in let n = c.rows.degree-index in let degrees = c.args.degrees.now in let e = c.push_reserved.ensures in
+    record {
       items = e.items ∙ ap (λ x. c.rows.len.items ++ x ∷ []) c.cell_of.ensures ∙ ap (λ xs. xs ++ get_or degrees n 0 ∷ []) i.items
           ∙ sym (take_more degrees n 0 c.rows-test.true);
       capacity = e.capacity ∙ i.capacity;

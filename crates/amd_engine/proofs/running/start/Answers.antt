@@ -4,14 +4,14 @@ use Rattle.amd_workspace.specs.Starting.{Rows}
 use Rattle.amd_engine.proofs.InPlaceLaw.{degrees_small, stands_start}
 use Rattle.amd_engine.proofs.running.start.Goals as goal
 
-pub begin-live-requires-clause-degrees : goal.begin-live-requires-clause-degrees
-begin-live-requires-clause-degrees g c =
+pub begin_rows-live-requires-clause-degrees : goal.begin_rows-live-requires-clause-degrees
+begin_rows-live-requires-clause-degrees g c =
     let can = c.requires.can.1 in let lays = can.graph in let rows = c.args.rows.now in
     degrees_small lays.0 lays.1 c.requires.can.0 rows.pe.now rows.len.now lays.2
 
 pub returns-clause-starts : goal.returns-clause-starts
 returns-clause-starts g c = λ iw can gr lists lays.
-    let a = c.args in let old = a.rows.now in let e = c.begin-live.ensures in let empty = can.empty in
+    let a = c.args in let old = a.rows.now in let e = c.begin_rows-live.ensures in let empty = can.empty in
     let p : Rows = record {
       pe = old.pe.now;
       e_len = old.e_len.now;

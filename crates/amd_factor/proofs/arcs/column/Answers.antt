@@ -1,7 +1,7 @@
 use Rattle.std.proofs.Common.{◌≡◌, ◌≢◌, ◌+◌, ◌<◌, ◌≤◌, ℕ, map, length, get_or, arith, add-one}
 use Rattle.std.proofs.lemmas.List.{length-map}
 use Rattle.std.proofs.lemmas.Grind.{common_steps}
-use Rattle.amd_types.specs.Counts.{counts}
+use Rattle.amd_types.specs.Naturals.{naturals}
 use Rattle.amd_edges.proofs.Forms.{pointer_fits, row_fits, place_within}
 use Rattle.amd_factor.proofs.Lists.Entries.{far_first, far_last}
 use Rattle.amd_factor.proofs.Lists.Steps.{pointers_rise, row_below, far_arc, far_same, next_arc}
@@ -17,8 +17,8 @@ count_at-entry-requires-clause-fits g c = pointer_fits _ _ _ c.requires.form c.a
 
 pub entries-init : goal.entries-init
 entries-init g c =
-    let ap' = counts (map g.I.Index.value c.args.a_p.now) in
-    let ai = counts (map g.I.Index.value c.args.a_i.now) in
+    let ap' = naturals (map g.I.Index.value c.args.a_p.now) in
+    let ai = naturals (map g.I.Index.value c.args.a_i.now) in
     let start = c.count_at-entry.ensures.count in
     record {
       from = omega (arith, start);
@@ -78,7 +78,7 @@ entries-preserved g c =
     let j = c.args.column in
     let q = c.entries.entry in
     let places = c.args.places.now in
-    let high : q < get_or (counts (map g.I.Index.value c.args.a_p.now)) (j + 1) 0 =
+    let high : q < get_or (naturals (map g.I.Index.value c.args.a_p.now)) (j + 1) 0 =
     (let x = c.entries-test.true in omega (arith, x, end)) in
     let order = c.requires.places in
     record {
@@ -88,7 +88,7 @@ entries-preserved g c =
             let o = w.in_order-later.ensures in
             let later : ℕ = w.in_order-later.result.0 in
             let earlier : ℕ = w.in_order-later.result.1 in
-            let there : ℕ = get_or places (get_or (counts (map g.I.Index.value c.args.a_i.now)) q 0) 0 in
+            let there : ℕ = get_or places (get_or (naturals (map g.I.Index.value c.args.a_i.now)) q 0) 0 in
             let up : there < get_or places j 0 → (later ≡ get_or places j 0) × (earlier ≡ there) = rw (← row) o.up in
             let down : get_or places j 0 ≤ there → (later ≡ there) × (earlier ≡ get_or places j 0) = rw (← row) o.down in
             let differ : there ≢ get_or places j 0 = rw (← row) w.if-there-here.true in
@@ -101,7 +101,7 @@ entries-preserved g c =
             (w.arc.ensures _ _ _ c.entries.invariant.held
             (next_arc n _ _ c.requires.form j q c.requires.column_in high order.0 places order.1 from later earlier up down differ)))
         | else-there-here w ↦ (
-            let same : get_or places (get_or (counts (map g.I.Index.value c.args.a_i.now)) q 0) 0 ≡ get_or places j 0 =
+            let same : get_or places (get_or (naturals (map g.I.Index.value c.args.a_i.now)) q 0) 0 ≡ get_or places j 0 =
             rw (← row) w.if-there-here.false in
             rw (
               w.starts-is,
@@ -114,8 +114,8 @@ entries-preserved g c =
 
 pub returns : goal.returns
 returns g c =
-    let ap' = counts (map g.I.Index.value c.args.a_p.now) in
-    let ai = counts (map g.I.Index.value c.args.a_i.now) in
+    let ap' = naturals (map g.I.Index.value c.args.a_p.now) in
+    let ai = naturals (map g.I.Index.value c.args.a_i.now) in
     let end = c.count_at-end.ensures.count in
     let start = c.count_at-entry.ensures.count in
     let rise = pointers_rise c.args.size _ _ c.requires.form c.args.column c.requires.column_in in

@@ -1,7 +1,7 @@
 use Rattle.std.proofs.Common.{◌+◌, inl, inr, ap, subst, sym, arith, length, map, set}
 use Rattle.std.specs.Prelude.{slice_index}
 use Rattle.std.proofs.lemmas.Bool.{cases_eq}
-use Rattle.amd_types.specs.Counts.{counts}
+use Rattle.amd_types.specs.Naturals.{naturals}
 use Rattle.amd_factor.specs.Partitions.{Climbs, IsMarkedBy}
 use Rattle.amd_factor.proofs.Partitions.RowClimbs.{climbs-begin, climbs-end, climbs-from}
 use Rattle.amd_factor.proofs.Partitions.SupernodeTree.{begins}
@@ -10,7 +10,7 @@ use Rattle.amd_factor.proofs.below.add_row.Goals as goal
 
 pub earlier-init : goal.earlier-init
 earlier-init g c =
-    let rows = counts (map g.I.Index.value c.args.rows.now) in record {
+    let rows = naturals (map g.I.Index.value c.args.rows.now) in record {
       climbs = subst (λ xs. Climbs g.b c.args.j (slice_index g.b.owner c.args.j) c.args.next.now
           (set c.args.mark.now (slice_index xs c.args.j) (c.args.j + 1)) rows) (sym c.requires.1.1.1.1.0)
           (climbs-begin g.b c.args.j c.args.next.now rows c.requires.1.1.0 c.args.mark.now c.requires.1.1.1.1.1.1.1.0
@@ -32,7 +32,7 @@ bounds-owner-i g c =
 pub climb-requires : goal.climb-requires
 climb-requires g c κs within =
     let i = c.earlier.invariant.climbs in
-    let rows = counts (map g.I.Index.value c.earlier.rows) in
+    let rows = naturals (map g.I.Index.value c.earlier.rows) in
     let e = thin-neighbour g.b.order c.args.j c.args.earlier.now c.earlier.i-index c.requires.1.1.1.1.1.1.0 c.earlier-test.true in
     let place = slice_index c.args.earlier.now c.earlier.i-index in (
       within,
@@ -73,6 +73,6 @@ earlier-preserved g c =
 pub returns-clause-written : goal.returns-clause-written
 returns-clause-written g c =
     let t = c.earlier-test.false in
-    climbs-end g.b c.args.j c.earlier.next (counts (map g.I.Index.value c.earlier.rows)) c.requires.1.1.0 c.requires.1.0
+    climbs-end g.b c.args.j c.earlier.next (naturals (map g.I.Index.value c.earlier.rows)) c.requires.1.1.0 c.requires.1.0
     c.earlier.mark c.earlier.invariant.climbs
     c.args.earlier.now c.requires.1.1.1.1.1.1.0 (λ s l. c.earlier.invariant.marked s (omega (arith, l, t)))

@@ -1,6 +1,6 @@
 use Rattle.std.proofs.Common.{ℕ, inl, inr, ◌∙◌, subst, sym, map}
 use Rattle.std.proofs.lemmas.Bool.{cases_eq}
-use Rattle.amd_types.specs.Counts.{counts}
+use Rattle.amd_types.specs.Naturals.{naturals}
 use Rattle.amd_factor.specs.Partitions.{IsMarkedBy}
 use Rattle.amd_factor.proofs.Partitions.RowClimbs.{climbs-over}
 use Rattle.amd_factor.proofs.below.climb.Goals as goal
@@ -22,5 +22,5 @@ up-preserved g c =
     }
 
 pub returns-clause-climbs : goal.returns-clause-climbs
-returns-clause-climbs g c = climbs-over g.b c.args.j c.up.s c.up.next c.up.mark (counts (map g.I.Index.value c.up.rows))
+returns-clause-climbs g c = climbs-over g.b c.args.j c.up.s c.up.next c.up.mark (naturals (map g.I.Index.value c.up.rows))
     c.up.invariant.climbs c.up-test.false

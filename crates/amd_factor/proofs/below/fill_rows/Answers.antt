@@ -1,5 +1,5 @@
 use Rattle.std.proofs.Common.{pos, ap, subst, length, map}
-use Rattle.amd_types.specs.Counts.{counts}
+use Rattle.amd_types.specs.Naturals.{naturals}
 use Rattle.amd_types.proofs.Fitting.{fits_below}
 use Rattle.amd_factor.specs.Partitions.{WrittenTo}
 use Rattle.amd_factor.proofs.Partitions.SupernodeRows.{hold-supernodes}
@@ -51,5 +51,5 @@ pub returns-clause-rows : goal.returns-clause-rows
 returns-clause-rows g c =
     let all = at_end c.rows.j (length c.args.owner.now) (length g.b.owner) c.rows-test.false c.rows.auto.j-end
     (ap length c.requires.1.1.1.1.0) in
-    hold-supernodes g.b c.requires.1.0 c.rows.next (counts (map g.I.Index.value c.rows.rows))
-    (subst (λ m. WrittenTo g.b m c.rows.next (counts (map g.I.Index.value c.rows.rows))) all c.rows.invariant.written)
+    hold-supernodes g.b c.requires.1.0 c.rows.next (naturals (map g.I.Index.value c.rows.rows))
+    (subst (λ m. WrittenTo g.b m c.rows.next (naturals (map g.I.Index.value c.rows.rows))) all c.rows.invariant.written)

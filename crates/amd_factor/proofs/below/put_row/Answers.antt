@@ -1,6 +1,6 @@
 use Rattle.std.proofs.Common.{ap, subst, sym, ◌∙◌, arith, length, map}
 use Rattle.std.specs.Prelude.{slice_index, slice_index_or, None, IsSome}
-use Rattle.amd_types.specs.Counts.{counts}
+use Rattle.amd_types.specs.Naturals.{naturals}
 use Rattle.amd_factor.specs.Partitions.{Climbs}
 use Rattle.amd_factor.proofs.Partitions.RowClimbs.{climbs-on, higher, row-in, told}
 use Rattle.amd_factor.proofs.Partitions.TypedRows.{count-length, in-range, set-count, told-more}
@@ -9,7 +9,7 @@ use Rattle.amd_factor.proofs.below.put_row.Goals as goal
 
 pub offset_bounds-rows-next : goal.offset_bounds-rows-next
 offset_bounds-rows-next g c =
-    let i = row-in g.b c.args.j c.args.s c.args.next.now c.args.mark.now (counts (map g.I.Index.value c.args.rows.now)) c.requires.1.0
+    let i = row-in g.b c.args.j c.args.s c.args.next.now c.args.mark.now (naturals (map g.I.Index.value c.args.rows.now)) c.requires.1.0
     c.requires.1.1.0 c.requires.1.1.1.1.1.0 c.requires.1.1.1.1.1.1.0 in
     let n = count-length g.I.Index.value c.args.rows.now in
     offset_fits _ (length c.args.rows.now) _ (in-range _ _ _ i n) (omega arith)
@@ -17,21 +17,21 @@ offset_bounds-rows-next g c =
 pub bounds-rows-next : goal.bounds-rows-next
 bounds-rows-next g c =
     let n = count-length g.I.Index.value c.args.rows.now in
-    let i = row-in g.b c.args.j c.args.s c.args.next.now c.args.mark.now (counts (map g.I.Index.value c.args.rows.now)) c.requires.1.0
+    let i = row-in g.b c.args.j c.args.s c.args.next.now c.args.mark.now (naturals (map g.I.Index.value c.args.rows.now)) c.requires.1.0
     c.requires.1.1.0 c.requires.1.1.1.1.1.0 c.requires.1.1.1.1.1.1.0 in
     omega (arith, i, n)
 
 pub overflow_add-next : goal.overflow_add-next
 overflow_add-next g c =
     let n = count-length g.I.Index.value c.args.rows.now in
-    let i = row-in g.b c.args.j c.args.s c.args.next.now c.args.mark.now (counts (map g.I.Index.value c.args.rows.now)) c.requires.1.0
+    let i = row-in g.b c.args.j c.args.s c.args.next.now c.args.mark.now (naturals (map g.I.Index.value c.args.rows.now)) c.requires.1.0
     c.requires.1.1.0 c.requires.1.1.1.1.1.0 c.requires.1.1.1.1.1.1.0 in
     omega (arith, i, n)
 
 pub unwrap-requires : goal.unwrap-requires
 unwrap-requires g c =
     subst (λ xs. IsSome (slice_index_or xs c.args.s None)) (sym c.requires.1.1.1.1.0)
-    (told g.b c.args.j c.args.s c.args.next.now c.args.mark.now (counts (map g.I.Index.value c.args.rows.now)) c.requires.1.0
+    (told g.b c.args.j c.args.s c.args.next.now c.args.mark.now (naturals (map g.I.Index.value c.args.rows.now)) c.requires.1.0
     c.requires.1.1.0 c.requires.1.1.1.1.1.0 c.requires.1.1.1.1.1.1.0)
 
 pub returns-clause-told : goal.returns-clause-told
@@ -43,13 +43,13 @@ pub returns-clause-climbs : goal.returns-clause-climbs
 returns-clause-climbs g c =
     subst (Climbs g.b c.args.j c.unwrap.result _ _)
     (sym (set-count g.I.Index.value c.args.rows.now (slice_index c.args.next.now c.args.s) c.args.j c.args.number c.requires.1.1.1.0))
-    (climbs-on g.b c.args.j c.args.s c.args.next.now c.args.mark.now (counts (map g.I.Index.value c.args.rows.now)) c.requires.1.0
+    (climbs-on g.b c.args.j c.args.s c.args.next.now c.args.mark.now (naturals (map g.I.Index.value c.args.rows.now)) c.requires.1.0
     c.requires.1.1.0
     c.requires.1.1.1.1.1.0 c.requires.1.1.1.1.1.1.0 c.unwrap.result
     (ap (λ xs. slice_index_or xs c.args.s None) (sym c.requires.1.1.1.1.0) ∙ c.unwrap.ensures))
 
 pub returns-clause-higher : goal.returns-clause-higher
 returns-clause-higher g c =
-    higher g.b c.args.j c.args.s c.args.next.now c.args.mark.now (counts (map g.I.Index.value c.args.rows.now)) c.requires.1.0
+    higher g.b c.args.j c.args.s c.args.next.now c.args.mark.now (naturals (map g.I.Index.value c.args.rows.now)) c.requires.1.0
     c.requires.1.1.0 c.requires.1.1.1.1.1.0 c.requires.1.1.1.1.1.1.0 c.unwrap.result
     (ap (λ xs. slice_index_or xs c.args.s None) (sym c.requires.1.1.1.1.0) ∙ c.unwrap.ensures)

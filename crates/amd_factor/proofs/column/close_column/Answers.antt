@@ -7,11 +7,11 @@ use Rattle.amd_factor.specs.Trees.{IsParent}
 use Rattle.amd_factor.proofs.Factors.PlaceNumbers.{counts_long}
 use Rattle.amd_factor.proofs.Factors.Standing.{hold_next, tell_first_next, first_at, first_parent}
 use Rattle.amd_factor.proofs.column.close_column.Goals as goal
-use Rattle.amd_types.specs.Counts.{counts}
+use Rattle.amd_types.specs.Naturals.{naturals}
 
 -- the end of a column is within the counts that the numbers are
 stands_within : {N : Type 0} (value : N → ℤ) (numbers : List N) (end : ℕ) → end ≤ length numbers →
-    end ≤ length (counts (map value numbers))
+    end ≤ length (naturals (map value numbers))
 stands_within value numbers end l = let n = counts_long value numbers in omega (arith, n, l)
 
 below : (a b : ℕ) → a ≤ b → (a ≡ b → ⊥) → a < b
@@ -31,20 +31,20 @@ module _ (o : Order) (k : ℕ) (rows : List ℕ) (begin end : ℕ) (low : begin 
 
 pub returns-then-begin-end-clause-columns : goal.returns-then-begin-end-clause-columns
 returns-then-begin-end-clause-columns g c =
-    hold_next g.o c.args.k c.args.ptr.now (counts (map g.N.Index.value c.args.rows.now)) c.args.end c.requires.1.1.1.1.0
+    hold_next g.o c.args.k c.args.ptr.now (naturals (map g.N.Index.value c.args.rows.now)) c.args.end c.requires.1.1.1.1.0
     c.requires.1.1.0 c.requires.1.1.1.1.1.1.1.0
     (stands_within g.N.Index.value c.args.rows.now c.args.end c.requires.1.1.1.1.1.1.1.1.0) c.requires.1.1.1.1.1.1.1.1.1
 
 pub place_at-first-requires-clause-small : goal.place_at-first-requires-clause-small
 place_at-first-requires-clause-small g c =
-    parent_small g.o c.args.k (counts (map g.N.Index.value c.args.rows.now)) (slice_index c.args.ptr.now c.args.k) c.args.end
+    parent_small g.o c.args.k (naturals (map g.N.Index.value c.args.rows.now)) (slice_index c.args.ptr.now c.args.k) c.args.end
     (below (slice_index c.args.ptr.now c.args.k) c.args.end c.requires.1.1.1.1.1.1.1.0 c.if-begin-end.false)
     (stands_within g.N.Index.value c.args.rows.now c.args.end c.requires.1.1.1.1.1.1.1.1.0)
     c.requires.1.1.1.1.1.1.1.1.1 (length c.args.parent.now) c.requires.1.1.1.1.1.0.room c.well_formed.1.1.1.1.0.0
 
 pub link_child-requires : goal.link_child-requires
 link_child-requires g c = (
-  parent_is g.o c.args.k (counts (map g.N.Index.value c.args.rows.now)) (slice_index c.args.ptr.now c.args.k) c.args.end
+  parent_is g.o c.args.k (naturals (map g.N.Index.value c.args.rows.now)) (slice_index c.args.ptr.now c.args.k) c.args.end
       (below (slice_index c.args.ptr.now c.args.k) c.args.end c.requires.1.1.1.1.1.1.1.0 c.if-begin-end.false)
       (stands_within g.N.Index.value c.args.rows.now c.args.end c.requires.1.1.1.1.1.1.1.1.0) c.requires.1.1.1.1.1.1.1.1.1
       c.place_at-first.result c.place_at-first.ensures,
@@ -53,17 +53,17 @@ link_child-requires g c = (
 
 pub returns-clause-columns : goal.returns-clause-columns
 returns-clause-columns g c =
-    hold_next g.o c.args.k c.args.ptr.now (counts (map g.N.Index.value c.args.rows.now)) c.args.end c.requires.1.1.1.1.0
+    hold_next g.o c.args.k c.args.ptr.now (naturals (map g.N.Index.value c.args.rows.now)) c.args.end c.requires.1.1.1.1.0
     c.requires.1.1.0 c.requires.1.1.1.1.1.1.1.0
     (stands_within g.N.Index.value c.args.rows.now c.args.end c.requires.1.1.1.1.1.1.1.1.0) c.requires.1.1.1.1.1.1.1.1.1
 
 pub returns-clause-parents : goal.returns-clause-parents
 returns-clause-parents g c =
-    tell_first_next g.o c.args.k c.args.ptr.now (counts (map g.N.Index.value c.args.rows.now)) c.args.end c.requires.1.1.1.1.0
+    tell_first_next g.o c.args.k c.args.ptr.now (naturals (map g.N.Index.value c.args.rows.now)) c.args.end c.requires.1.1.1.1.0
     c.requires.1.1.0 c.requires.1.1.1.1.1.1.1.0
     (stands_within g.N.Index.value c.args.rows.now c.args.end c.requires.1.1.1.1.1.1.1.1.0) c.requires.1.1.1.1.1.1.1.1.1
     c.args.parent.now (Some c.place_at-first.result) c.requires.1.1.1.1.1.0
-    (sym (first_is g.o c.args.k (counts (map g.N.Index.value c.args.rows.now)) (slice_index c.args.ptr.now c.args.k) c.args.end
+    (sym (first_is g.o c.args.k (naturals (map g.N.Index.value c.args.rows.now)) (slice_index c.args.ptr.now c.args.k) c.args.end
     (below (slice_index c.args.ptr.now c.args.k) c.args.end c.requires.1.1.1.1.1.1.1.0 c.if-begin-end.false)
     (stands_within g.N.Index.value c.args.rows.now c.args.end c.requires.1.1.1.1.1.1.1.1.0)
     c.place_at-first.result c.place_at-first.ensures))

@@ -10,7 +10,7 @@ use Rattle.amd_factor.proofs.Factors.PlaceNumbers.{are_append, are_range, counts
 use Rattle.amd_factor.proofs.Factors.Standing.{merged_column, hold_same, tell_same}
 use Rattle.amd_factor.proofs.Factors.Tails.{range_before, range_last}
 use Rattle.amd_factor.proofs.column.finish_column.Goals as goal
-use Rattle.amd_types.specs.Counts.{counts}
+use Rattle.amd_types.specs.Naturals.{naturals}
 
 pub write_merged-requires-clause-numbers : goal.write_merged-requires-clause-numbers
 write_merged-requires-clause-numbers g c =
@@ -21,10 +21,10 @@ write_merged-requires-clause-numbers g c =
 pub write_merged-requires-clause-small : goal.write_merged-requires-clause-small
 write_merged-requires-clause-small g c =
     let value = g.N.Index.value in let done = c.split_at_mut-done.result.0.now in
-    let plans = subst (λ ys. Plans g.o c.args.k c.args.ptr.now (counts (map value ys)) c.args.from c.args.to c.args.fresh.now)
+    let plans = subst (λ ys. Plans g.o c.args.k c.args.ptr.now (naturals (map value ys)) c.args.from c.args.to c.args.fresh.now)
     (sym c.split_at_mut-done.ensures.front) c.requires.1.1.1.1.0 in λ k l. (
     let part = slice_range done c.args.from c.args.to in
-    let x = slice_index (counts (map value part)) k in
+    let x = slice_index (naturals (map value part)) k in
     let entry = (plans.completes.members x).0 (inl (subst (λ ys. Contains ys x) (counts_range value done c.args.from c.args.to)
     (place_of value part k l))) in
     let low = entry.1 in let room = c.requires.1.1.1.1.1.1.1.1.0.room in omega (arith, low, room))
@@ -40,19 +40,19 @@ pub close_column-requires : goal.close_column-requires
 close_column-requires g c κs inside =
     let value = g.N.Index.value in let done = c.split_at_mut-done.result.0.now in
     let front = sym c.split_at_mut-done.ensures.front in
-    let plans = subst (λ ys. Plans g.o c.args.k c.args.ptr.now (counts (map value ys)) c.args.from c.args.to c.args.fresh.now) front
+    let plans = subst (λ ys. Plans g.o c.args.k c.args.ptr.now (naturals (map value ys)) c.args.from c.args.to c.args.fresh.now) front
     c.requires.1.1.1.1.0 in
     let numbers = subst (λ ys. AreNonNegative (map value ys)) front c.requires.1.1.1.1.1.1.0 in
-    let columns = subst (λ ys. HoldBefore g.o c.args.k c.args.ptr.now (counts (map value ys))) front c.requires.1.1.1.1.1.1.1.0 in
-    let parents = subst (λ ys. TellFirst g.o c.args.k c.args.ptr.now (counts (map value ys)) c.args.parent.now) front
+    let columns = subst (λ ys. HoldBefore g.o c.args.k c.args.ptr.now (naturals (map value ys))) front c.requires.1.1.1.1.1.1.1.0 in
+    let parents = subst (λ ys. TellFirst g.o c.args.k c.args.ptr.now (naturals (map value ys)) c.args.parent.now) front
     c.requires.1.1.1.1.1.1.1.1.0 in
-    let rows = counts (map value done) in
+    let rows = naturals (map value done) in
     let fresh = c.args.fresh.now in
     let part = slice_range rows c.args.from c.args.to in
     let out = c.write_merged.new.out in
     let written : map value out ≡ map pos (merged part fresh) =
     c.write_merged.ensures ∙ ap (λ zs. map pos (merged zs fresh)) (counts_range value done c.args.from c.args.to) in
-    let new = counts (map value (done ++ out)) in
+    let new = naturals (map value (done ++ out)) in
     let is : new ≡ rows ++ merged part fresh = counts_append value done out (merged part fresh) written in
     let begin : slice_index c.args.ptr.now c.args.k ≡ length rows =
     sym c.split_at_mut-done.ensures.front_len ∙ sym (counts_long value done) in
@@ -93,5 +93,5 @@ pub returns-clause-numbers : goal.returns-clause-numbers
 returns-clause-numbers g c =
     let value = g.N.Index.value in let done = c.split_at_mut-done.result.0.now in
     are_append value done c.write_merged.new.out
-    (merged (counts (map value (slice_range done c.args.from c.args.to))) c.args.fresh.now)
+    (merged (naturals (map value (slice_range done c.args.from c.args.to))) c.args.fresh.now)
     (subst (λ ys. AreNonNegative (map value ys)) (sym c.split_at_mut-done.ensures.front) c.requires.1.1.1.1.1.1.0) c.write_merged.ensures

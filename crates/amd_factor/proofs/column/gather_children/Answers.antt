@@ -7,7 +7,7 @@ use Rattle.amd_factor.specs.Gathering.{IsChild, IsLastChild}
 use Rattle.amd_factor.proofs.Trees.ByChildren.{entry_by_child}
 use Rattle.amd_factor.proofs.Trees.Descent.{IsAhead, LeadsTo, ahead_past, leads}
 use Rattle.amd_factor.proofs.Factors.PlaceNumbers.{are_range, counts_range}
-use Rattle.amd_types.specs.Counts.{counts}
+use Rattle.amd_types.specs.Naturals.{naturals}
 use Rattle.amd_factor.proofs.column.gather_children.Goals as goal
 use Rattle.amd_factor.proofs.column.gather_children.Goals.{then-child-base, else-child-base}
 
@@ -16,7 +16,7 @@ gather-count-requires g c κs within =
     let value = g.N.Index.value in
     let from = c.inherited-from.result.0 in let to = c.inherited-from.result.1 in
     let is : IsChild g.c c.in-Some.child = subst (LeadsTo g.c.order g.c.place) c.in-Some.is c.children.invariant.leads in
-    let has = (c.inherited-from.ensures.inherits (counts (map value c.args.rows.now)) c.requires.1.1.1.1.1.1.0).1 in (
+    let has = (c.inherited-from.ensures.inherits (naturals (map value c.args.rows.now)) c.requires.1.1.1.1.1.1.0).1 in (
       within,
       (
         are_range value c.args.rows.now from to c.requires.1.1.1.1.1.0,
@@ -55,7 +55,7 @@ children-preserved g c =
             | inl q ↦ inr (w.gather-count.ensures.all j
                 (subst (λ xs. Contains xs j) (sym (counts_range value c.args.rows.now w.inherited-from.result.0
                 w.inherited-from.result.1))
-                (((w.inherited-from.ensures.inherits (counts (map value c.args.rows.now)) c.requires.1.1.1.1.1.1.0).1 j).1
+                (((w.inherited-from.ensures.inherits (naturals (map value c.args.rows.now)) c.requires.1.1.1.1.1.1.0).1 j).1
                 (behind, at m j q entry))))
             | inr a ↦ inl a
           ]

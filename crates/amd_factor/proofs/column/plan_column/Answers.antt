@@ -1,6 +1,6 @@
 use Rattle.std.proofs.Common.{ℕ, ℤ, ◌≤◌, List, arith, [], length, map, refl}
 use Rattle.std.specs.Prelude.{MatchOption, None, Option, Some, slice_index}
-use Rattle.amd_types.specs.Counts.{counts}
+use Rattle.amd_types.specs.Naturals.{naturals}
 use Rattle.amd_factor.specs.Gathering.{Column, HoldBefore, IsChild}
 use Rattle.amd_factor.specs.Orders.{Order}
 use Rattle.amd_factor.proofs.Factors.PlaceNumbers.{counts_long}
@@ -14,7 +14,7 @@ is_child c (Some child) h = h
 
 -- what ends before a column ends within the numbers
 ends_within : {N : Type 0} (value : N → ℤ) (numbers : List N) (o : Order) (k : ℕ) (ptr : List ℕ) (to : ℕ) →
-    HoldBefore o k ptr (counts (map value numbers)) → to ≤ slice_index ptr k → to ≤ length numbers
+    HoldBefore o k ptr (naturals (map value numbers)) → to ≤ slice_index ptr k → to ≤ length numbers
 ends_within value numbers o k ptr to h l = let w = h.within in let n = counts_long value numbers in omega (arith, l, w, n)
 
 pub inherited-from-requires : goal.inherited-from-requires
@@ -25,7 +25,7 @@ inherited-from-requires g c = (
     (
       c.requires.1.1.0,
       (
-        (counts (map g.N.Index.value c.args.rows.now), c.requires.1.1.1.1.1.1.0),
+        (naturals (map g.N.Index.value c.args.rows.now), c.requires.1.1.1.1.1.1.0),
         is_child (record { order = g.o; place = c.args.k; inherited = [] }) c.greatest_child-base.result
             c.greatest_child-base.ensures.child,
       ),
@@ -58,7 +58,7 @@ new_rows-count-requires g c κs inside = (
                       ends_within g.N.Index.value c.args.rows.now g.o c.args.k c.args.ptr.now c.inherited-from.result.1
                           c.requires.1.1.1.1.1.1.0 c.inherited-from.ensures.before,
                       (
-                        c.inherited-from.ensures.inherits (counts (map g.N.Index.value c.args.rows.now))
+                        c.inherited-from.ensures.inherits (naturals (map g.N.Index.value c.args.rows.now))
                             c.requires.1.1.1.1.1.1.0,
                         (
                           c.requires.1.1.1.0,
@@ -81,6 +81,6 @@ pub returns-clause-plans : goal.returns-clause-plans
 returns-clause-plans g c = record {
   range = c.inherited-from.ensures.range;
   before = c.inherited-from.ensures.before;
-  rising = c.inherited-from.ensures.rising (counts (map g.N.Index.value c.args.rows.now)) c.requires.1.1.1.1.1.1.0;
+  rising = c.inherited-from.ensures.rising (naturals (map g.N.Index.value c.args.rows.now)) c.requires.1.1.1.1.1.1.0;
   completes = c.new_rows-count.ensures.completes;
 }

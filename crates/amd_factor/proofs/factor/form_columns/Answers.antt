@@ -1,6 +1,6 @@
 use Rattle.std.proofs.Common.{ℤ, pos, ◌≡◌, List, map, rules}
 use Rattle.std.specs.Prelude.{IfErr}
-use Rattle.amd_types.specs.Counts.{counts}
+use Rattle.amd_types.specs.Naturals.{naturals}
 use Rattle.amd_factor.specs.declared.factor.Fault.TheVariants.{OutOfMemory}
 use Rattle.amd_factor.specs.Factors.{IsFault}
 use Rattle.amd_factor.proofs.Calls.Faults.{memory_of}
@@ -31,7 +31,7 @@ written_factor-requires g c κs within =
         laws c.args.size a_p a_i p g.o c.requires.1.1.1.0 c.requires.1.1.1.1,
         later_of c.args.size a_p a_i p g.o c.requires.1.1.1.0 c.requires.1.1.1.1 c.deref-2.result.now c.deref-3.result.now
             (rw (c.deref-2.ensures.value, c.deref-3.ensures.value)
-            (c.in_ok-lists.ensures (counts p) (rw c.deref.ensures.value (rw c.in-Some.is at c.in_ok-places.ensures.places)))),
+            (c.in_ok-lists.ensures (naturals p) (rw c.deref.ensures.value (rw c.in-Some.is at c.in_ok-places.ensures.places)))),
       ),
     )
 

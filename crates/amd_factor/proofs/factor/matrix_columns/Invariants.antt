@@ -1,10 +1,10 @@
 use Rattle.std.proofs.Common.{map}
 use Rattle.amd_model.specs.Input.Pattern.{graph_of}
-use Rattle.amd_types.specs.Counts.{counts}
+use Rattle.amd_types.specs.Naturals.{naturals}
 use Rattle.amd_factor.proofs.factor.matrix_columns.Given as goal
 
 abbrev pub ghost-form_columns : goal.ghost-form_columns
 ghost-form_columns g a = record {
   graph = graph_of a.size (map g.I.Index.value a.a_p.now) (map g.I.Index.value a.a_i.now);
-  rows = counts (map g.I.Index.value a.p.now);
+  rows = naturals (map g.I.Index.value a.p.now);
 }

@@ -2,7 +2,7 @@ use Rattle.std.proofs.Common.{ℕ, ℤ, List, ◌≡◌, ◌∙◌, sym, subst, 
 use Rattle.std.specs.Prelude.{slice_index}
 use Rattle.std.proofs.lemmas.List.{length-take-le}
 use Rattle.std.proofs.lemmas.Grind.{common_steps}
-use Rattle.amd_types.specs.Counts.{counts}
+use Rattle.amd_types.specs.Naturals.{naturals}
 use Rattle.amd_factor.specs.Gathering.{HoldBefore}
 use Rattle.amd_factor.specs.Numbers.{AreNonNegative}
 use Rattle.amd_factor.specs.Orders.{Order}
@@ -18,8 +18,8 @@ module _ {N : Type 0} (value : N → ℤ) (o : Order) (k : ℕ) (ptr : List ℕ)
   numbers_now : AreNonNegative (map value (take (slice_index ptr k) items)) → AreNonNegative (map value now)
   numbers_now = subst (λ xs. AreNonNegative (map value xs)) whole
 
-  columns_now : HoldBefore o k ptr (counts (map value (take (slice_index ptr k) items))) → HoldBefore o k ptr (counts (map value now))
-  columns_now = subst (λ xs. HoldBefore o k ptr (counts (map value xs))) whole
+  columns_now : HoldBefore o k ptr (naturals (map value (take (slice_index ptr k) items))) → HoldBefore o k ptr (naturals (map value now))
+  columns_now = subst (λ xs. HoldBefore o k ptr (naturals (map value xs))) whole
 
 pub plan_column-plan-requires : goal.plan_column-plan-requires
 plan_column-plan-requires g c κs inside = (
@@ -54,7 +54,7 @@ returns-then-room-begin-clause-filled g c =
     c.deref.ensures.value c.requires.1.1.1.1.1.1.0.filled.columns in
     let count = length-take-le plan.count c.plan_column-plan.new.fresh c.plan_column-plan.ensures.count in
     let begin = c.len-begin.ensures in let more = c.if-room-begin.true in let within = c.requires.1.1.1.1.1.1.1.1.1.0 in
-    passes g.o c.requires.1.1.0 c.args.k c.args.ptr.now (counts (map g.N.Index.value c.deref.result.now))
+    passes g.o c.requires.1.1.0 c.args.k c.args.ptr.now (naturals (map g.N.Index.value c.deref.result.now))
     (take plan.count c.plan_column-plan.new.fresh) plan.from plan.to c.args.room c.requires.1.1.1.0 columns
     c.plan_column-plan.ensures.plans (omega (arith, count, begin, more, within, full))
 

@@ -2,7 +2,7 @@ use Rattle.std.proofs.Common.{ℕ, ℤ, List, ◌≡◌, ◌≤◌, ◌+◌, ◌
 use Rattle.std.specs.Prelude.{Option, slice_index}
 use Rattle.std.proofs.lemmas.Grind.{common_steps}
 use Rattle.std.proofs.lemmas.List.{length-take-le, take-take}
-use Rattle.amd_types.specs.Counts.{counts}
+use Rattle.amd_types.specs.Naturals.{naturals}
 use Rattle.amd_factor.specs.Gathering.{HoldBefore, TellFirst}
 use Rattle.amd_factor.specs.Numbers.{AreNonNegative, Plans}
 use Rattle.amd_factor.specs.Orders.{Order}
@@ -18,17 +18,17 @@ module _ {N : Type 0} (value : N → ℤ) (o : Order) (k : ℕ) (ptr : List ℕ)
       AreNonNegative (map value (take (slice_index ptr k) (take (slice_index ptr k + size) rows)))
   numbers_here = subst (λ xs. AreNonNegative (map value xs)) same
 
-  columns_here : HoldBefore o k ptr (counts (map value (take (slice_index ptr k) rows))) →
-      HoldBefore o k ptr (counts (map value (take (slice_index ptr k) (take (slice_index ptr k + size) rows))))
-  columns_here = subst (λ xs. HoldBefore o k ptr (counts (map value xs))) same
+  columns_here : HoldBefore o k ptr (naturals (map value (take (slice_index ptr k) rows))) →
+      HoldBefore o k ptr (naturals (map value (take (slice_index ptr k) (take (slice_index ptr k + size) rows))))
+  columns_here = subst (λ xs. HoldBefore o k ptr (naturals (map value xs))) same
 
-  parents_here : (parent : List (Option ℕ)) → TellFirst o k ptr (counts (map value (take (slice_index ptr k) rows))) parent →
-      TellFirst o k ptr (counts (map value (take (slice_index ptr k) (take (slice_index ptr k + size) rows)))) parent
-  parents_here parent = subst (λ xs. TellFirst o k ptr (counts (map value xs)) parent) same
+  parents_here : (parent : List (Option ℕ)) → TellFirst o k ptr (naturals (map value (take (slice_index ptr k) rows))) parent →
+      TellFirst o k ptr (naturals (map value (take (slice_index ptr k) (take (slice_index ptr k + size) rows)))) parent
+  parents_here parent = subst (λ xs. TellFirst o k ptr (naturals (map value xs)) parent) same
 
-  plans_here : (from to : ℕ) (fresh : List ℕ) → Plans o k ptr (counts (map value (take (slice_index ptr k) rows))) from to fresh →
-      Plans o k ptr (counts (map value (take (slice_index ptr k) (take (slice_index ptr k + size) rows)))) from to fresh
-  plans_here from to fresh = subst (λ xs. Plans o k ptr (counts (map value xs)) from to fresh) same
+  plans_here : (from to : ℕ) (fresh : List ℕ) → Plans o k ptr (naturals (map value (take (slice_index ptr k) rows))) from to fresh →
+      Plans o k ptr (naturals (map value (take (slice_index ptr k) (take (slice_index ptr k + size) rows)))) from to fresh
+  plans_here from to fresh = subst (λ xs. Plans o k ptr (naturals (map value xs)) from to fresh) same
 
 -- how many numbers these are
 size_is : {N : Type 0} (rows : List N) (fresh : List ℕ) (begin taken count : ℕ) → begin ≤ length rows →
@@ -66,7 +66,7 @@ pub overflow_add-size : goal.overflow_add-size
 overflow_add-size g c =
     let filled = c.requires.1.1.1.1.1.0 in
     let plan = c.plan_column-plan.result in let count = c.plan_column-plan.ensures.count in
-    let short = taken_short g.o c.args.k c.args.ptr.now (counts (map g.N.Index.value (take (slice_index c.args.ptr.now c.args.k)
+    let short = taken_short g.o c.args.k c.args.ptr.now (naturals (map g.N.Index.value (take (slice_index c.args.ptr.now c.args.k)
     c.args.rows.now))) (take plan.count c.plan_column-plan.new.fresh) plan.from plan.to filled.filled.columns
     c.plan_column-plan.ensures.plans in
     let room = filled.filled.parents.room in let same = c.plan_column-plan.auto.fresh in let all = c.requires.1.1.1.1.1.1 in
@@ -79,7 +79,7 @@ returns-then-rows-begin-clause-filled g c =
     c.plan_column-plan.ensures.count in
     let more = c.if-rows-begin.true in let within = filled.within in
     passes g.o c.requires.1.0 c.args.k c.args.ptr.now
-    (counts (map g.N.Index.value (take (slice_index c.args.ptr.now c.args.k) c.args.rows.now)))
+    (naturals (map g.N.Index.value (take (slice_index c.args.ptr.now c.args.k) c.args.rows.now)))
     (take plan.count c.plan_column-plan.new.fresh) plan.from plan.to (length c.args.rows.now) c.requires.1.1.0 filled.filled.columns
     c.plan_column-plan.ensures.plans
     (omega (arith, count, more, within))

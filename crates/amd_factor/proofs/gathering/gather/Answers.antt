@@ -1,6 +1,6 @@
 use Rattle.std.proofs.Common.{◌≡◌, subst, sym, ◌∙◌, arith, map}
 use Rattle.std.specs.Prelude.{slice_index}
-use Rattle.amd_types.specs.Counts.{counts}
+use Rattle.amd_types.specs.Naturals.{naturals}
 use Rattle.amd_factor.specs.Gathering.{EntryOf}
 use Rattle.amd_factor.proofs.Factors.NewRows.{place_in}
 use Rattle.amd_factor.proofs.Factors.PlaceNumbers.{counts_long, place_of}
@@ -20,6 +20,6 @@ list_row-listed-requires g c = (
 
 pub returns-clause-all : goal.returns-clause-all
 returns-clause-all g c = λ j h.
-    let p = place_in (counts (map g.N.Index.value c.args.rows.now)) j h in
+    let p = place_in (naturals (map g.N.Index.value c.args.rows.now)) j h in
     let t = c.rows-test.false in let n = counts_long g.N.Index.value c.args.rows.now in
     subst (λ x. slice_index c.rows.mark x ≡ c.args.stamp) p.2 (c.rows.invariant.all p.0 (let l = p.1 in omega (arith, l, t, n)))

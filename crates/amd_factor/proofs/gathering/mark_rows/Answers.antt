@@ -2,7 +2,7 @@ use Rattle.std.proofs.Common.{◌≡◌, ◌<◌, inl, inr, ap, subst, sym, ◌�
 use Rattle.std.specs.Prelude.{slice_index, Contains}
 use Rattle.std.proofs.lemmas.Bool.{cases_eq}
 use Rattle.std.proofs.lemmas.List.{get_or-set_same, get_or-set_other}
-use Rattle.amd_types.specs.Counts.{counts}
+use Rattle.amd_types.specs.Naturals.{naturals}
 use Rattle.amd_factor.proofs.Factors.NewRows.{place_in}
 use Rattle.amd_factor.proofs.Factors.PlaceNumbers.{counts_long, place_of}
 use Rattle.amd_factor.proofs.gathering.mark_rows.Goals as goal
@@ -24,7 +24,7 @@ bounds-mark-place_at g c =
 
 pub rows-preserved : goal.rows-preserved
 rows-preserved g c =
-    let rows = counts (map g.N.Index.value c.args.rows.now) in
+    let rows = naturals (map g.N.Index.value c.args.rows.now) in
     let row = slice_index rows c.rows.k in
     let w = c.requires.within _ (place_of g.N.Index.value c.args.rows.now c.rows.k c.rows-test.true) in
     let same = c.rows.auto.mark in
@@ -45,11 +45,11 @@ rows-preserved g c =
 
 pub returns-clause-marked : goal.returns-clause-marked
 returns-clause-marked g c = λ j h.
-    let p = place_in (counts (map g.N.Index.value c.args.rows.now)) j h in
+    let p = place_in (naturals (map g.N.Index.value c.args.rows.now)) j h in
     let t = c.rows-test.false in let n = counts_long g.N.Index.value c.args.rows.now in
     subst (λ x. slice_index c.rows.mark x ≡ c.args.stamp) p.2 (c.rows.invariant.marked p.0 (let l = p.1 in omega (arith, l, t, n)))
 
 pub returns-clause-others : goal.returns-clause-others
 returns-clause-others g c = λ j none. c.rows.invariant.others j (λ k l q. none (subst (λ x. Contains
-    (counts (map g.N.Index.value c.args.rows.now)) x) q
+    (naturals (map g.N.Index.value c.args.rows.now)) x) q
     (place_of g.N.Index.value c.args.rows.now k (let t = c.rows.auto.k-end in omega (arith, l, t)))))

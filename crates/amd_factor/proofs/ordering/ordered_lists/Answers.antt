@@ -1,7 +1,7 @@
 use Rattle.std.proofs.Common.{pos, ◌≡◌, map, rules, arith}
 use Rattle.std.specs.Prelude.{IfErr}
 use Rattle.std.proofs.lemmas.Grind.{common_steps}
-use Rattle.amd_types.specs.Counts.{counts}
+use Rattle.amd_types.specs.Naturals.{naturals}
 use Rattle.amd_factor.specs.declared.factor.Fault.TheVariants.{OutOfMemory}
 use Rattle.amd_factor.specs.Counted.{IsCountsFault}
 use Rattle.amd_factor.proofs.Calls.Faults.{memory_of}
@@ -19,7 +19,7 @@ returns-in_default-clause-fault g c = ((λ _. c.requires.form), rw c.in_default.
 
 pub earlier_lists-requires-clause-places : goal.earlier_lists-requires-clause-places
 earlier_lists-requires-clause-places g c =
-    (counts (map g.I.Index.value c.args.p.now), rw c.deref.ensures.value (rw c.in-Some.is at c.in_ok-places.ensures.places))
+    (naturals (map g.I.Index.value c.args.p.now), rw c.deref.ensures.value (rw c.in-Some.is at c.in_ok-places.ensures.places))
 
 pub returns-clause-lists : goal.returns-clause-lists
 returns-clause-lists g c = grind (arith, common_steps)

@@ -2,7 +2,7 @@ use Rattle.std.proofs.Common.{ℕ, ℤ, pos, ◌≡◌, ◌∙◌, List, Option,
 use Rattle.std.proofs.lemmas.List.{take_at}
 use Rattle.amd_model.specs.Input.Columns.{IsColumnForm}
 use Rattle.amd_model.specs.Input.Pattern.{graph_of}
-use Rattle.amd_types.specs.Counts.{counts}
+use Rattle.amd_types.specs.Naturals.{naturals}
 use Rattle.amd_factor.specs.Orders.{Order, Permutes}
 use Rattle.amd_factor.specs.Partitions.{IsCut, IsPartitionOf, ordered_matrix}
 use Rattle.amd_factor.specs.Thinning.{HasThinned}
@@ -11,14 +11,14 @@ use Rattle.amd_factor.proofs.Partitions.SupernodeTree.{places}
 use Rattle.amd_factor.proofs.supernodal.form_partition.Goals as goal
 
 -- a cut of an order, said of the matrix that the order is of
-partition_of : (n : ℕ) (ap' ai p : List ℤ) (o : Order) → o.graph ≡ graph_of n ap' ai → o.rows ≡ counts p →
+partition_of : (n : ℕ) (ap' ai p : List ℤ) (o : Order) → o.graph ≡ graph_of n ap' ai → o.rows ≡ naturals p →
     (first owner ptr : List ℕ) (parent : List (Option ℕ)) (starts earlier : List ℕ) → IsColumnForm (pos n) n ap' ai →
-    Permutes n p (counts p) → HasThinned o starts earlier →
+    Permutes n p (naturals p) → HasThinned o starts earlier →
     IsCut (record { order = o; first = first; owner = owner; ptr = ptr; parent = parent }) →
     IsPartitionOf (ordered_matrix (pos n) ap' ai p) first owner ptr parent starts earlier
 partition_of n ap' ai p o graph rows first owner ptr parent starts earlier form permutes near cut =
     let all = subst (λ g. IsCut (record {
-      order = record { graph = g; rows = counts p };
+      order = record { graph = g; rows = naturals p };
       first = first;
       owner = owner;
       ptr = ptr;
@@ -33,7 +33,7 @@ partition_of n ap' ai p o graph rows first owner ptr parent starts earlier form 
       form = λ _. form;
       size = ap pos (sym (places _ all.columns all.partition ∙ permutes.each.places));
       permutes = permutes;
-      near = subst (λ g. HasThinned (record { graph = g; rows = counts p }) starts earlier) graph
+      near = subst (λ g. HasThinned (record { graph = g; rows = naturals p }) starts earlier) graph
           (subst (λ r. HasThinned (record { graph = o.graph; rows = r }) starts earlier) rows near);
       cut = all;
     }

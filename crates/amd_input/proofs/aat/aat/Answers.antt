@@ -4,7 +4,7 @@ use Rattle.std.proofs.lemmas.List.{length-map}
 use Rattle.amd_model.specs.Below.{sum_below}
 use Rattle.amd_model.specs.Input.Columns.{at, IsColumnForm, IsSorted}
 use Rattle.amd_model.specs.Input.Pattern.{graph_of, diagonal_count}
-use Rattle.amd_types.specs.Counts.{counts}
+use Rattle.amd_types.specs.Naturals.{naturals}
 use Rattle.amd_edges.proofs.Forms.{pointer_fits}
 use Rattle.amd_edges.specs.Visits.{AreCounts}
 use Rattle.amd_input.specs.Degrees.{AreDegrees}
@@ -47,7 +47,7 @@ write_figures-requires g c =
     diagonal_within n ap' ai (input_form (g.I.Number.value c.args.n) ap' ai c.requires.form)
     (input_sorted (g.I.Number.value c.args.n) ap' ai c.requires.sorted) c.in_ok-diagonals.diagonals c.count_at-entries.result
     (subst (λ k. c.in_ok-diagonals.diagonals ≡ diagonal_count k ap' ai) size c.in_ok-diagonals.ensures.diagonals)
-    (subst (λ k. c.count_at-entries.result ≡ get_or (counts ap') k 0) size c.count_at-entries.ensures.count)
+    (subst (λ k. c.count_at-entries.result ≡ get_or (naturals ap') k 0) size c.count_at-entries.ensures.count)
 
 pub returns : goal.returns
 returns g c =
@@ -63,7 +63,7 @@ returns g c =
       degrees = subst (AreDegrees n ap' ai c.in-Some.sum) (sym copied) counted;
       figures = rw c.write_figures.ensures (figures_are n ap' ai (input_form (g.I.Number.value c.args.n) ap' ai c.requires.form)
           (input_sorted (g.I.Number.value c.args.n) ap' ai c.requires.sorted) _ size
-          (subst (λ k. c.count_at-entries.result ≡ get_or (counts ap') k 0) size c.count_at-entries.ensures.count)
+          (subst (λ k. c.count_at-entries.result ≡ get_or (naturals ap') k 0) size c.count_at-entries.ensures.count)
           (subst (λ k. c.in_ok-diagonals.diagonals ≡ diagonal_count k ap' ai) size c.in_ok-diagonals.ensures.diagonals) counted.sum refl);
       others = rw c.write_figures.ensures refl;
       refused = tt;

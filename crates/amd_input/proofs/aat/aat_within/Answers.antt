@@ -3,7 +3,7 @@ use Rattle.std.proofs.lemmas.List.{length-map}
 use Rattle.amd_model.specs.Below.{sum_below}
 use Rattle.amd_model.specs.Input.Columns.{IsColumnForm, IsSorted}
 use Rattle.amd_model.specs.Input.Pattern.{graph_of}
-use Rattle.amd_types.specs.Counts.{counts}
+use Rattle.amd_types.specs.Naturals.{naturals}
 use Rattle.amd_edges.specs.Visits.{AreCounts}
 use Rattle.amd_edges.proofs.Forms.{pointer_fits}
 use Rattle.amd_input.proofs.PatternLemmas.{degrees_are, figures_are, diagonal_within}
@@ -16,7 +16,7 @@ count_at-entries-requires-clause-fits g c = pointer_fits c.args.size (map g.I.In
 
 -- the sum of the degrees is at most twice the entries, and so it is a count
 sum_small : (n : ℕ) (ap' ai : List ℤ) (numbers : List ℕ) → IsColumnForm (pos n) n ap' ai → IsSorted n ap' ai →
-    AreCounts (graph_of n ap' ai) ((graph_of n ap' ai).edge) numbers → 2 * get_or (counts ap') n 0 < 2 ^ 64 →
+    AreCounts (graph_of n ap' ai) ((graph_of n ap' ai).edge) numbers → 2 * get_or (naturals ap') n 0 < 2 ^ 64 →
     sum_below (length numbers) (λ k. get_or numbers k 0) < 2 ^ 64
 sum_small n ap' ai numbers form sorted held small =
     let sum = (degrees_are n ap' ai numbers (sum_below (length numbers) (λ k. get_or numbers k 0)) held refl).sum in

@@ -3,7 +3,7 @@ use Rattle.std.proofs.Common.{◌≡◌, ◌≢◌, ◌+◌, ◌<◌, ◌^◌, �
 use Rattle.std.proofs.lemmas.Bool.{eqb-true, eqb-false, true≢false, le-ltb}
 use Rattle.std.proofs.lemmas.List.{length-map}
 use Rattle.amd_model.specs.Below.{count_below}
-use Rattle.amd_types.specs.Counts.{counts, is_entry}
+use Rattle.amd_types.specs.Naturals.{naturals, is_entry}
 use Rattle.amd_edges.proofs.Forms.{pointer_fits, row_fits, place_in, place_up, sorted_form}
 use Rattle.amd_edges.proofs.Reading.{before_end, past_end}
 use Rattle.amd_input.specs.Mirrors.{HaveMirrors, CountOthers, is_beside}
@@ -57,7 +57,7 @@ cell_of-requires-2 g c =
 pub returns : goal.returns
 returns g c =
     let n = c.args.size in let k = c.args.k in let p = c.in-Some.place in
-    let ap' = counts (map g.I.Index.value c.args.a_p.now) in let ai = counts (map g.I.Index.value c.args.a_i.now) in
+    let ap' = naturals (map g.I.Index.value c.args.a_p.now) in let ai = naturals (map g.I.Index.value c.args.a_i.now) in
     let r = c.requires in let ends = c.count_at-end.ensures.count in let starts = c.count_at-start.ensures.count in
     let t = c.uppers.new.next.items in
     let form = sorted_form n (map g.I.Index.value c.args.a_p.now) (map g.I.Index.value c.args.a_i.now) r.form r.sorted in

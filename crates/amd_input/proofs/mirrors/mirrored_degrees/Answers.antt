@@ -1,7 +1,7 @@
 -- the goals of mirrors::mirrored_degrees.
 use Rattle.std.proofs.Common.{◌≡◌, ◌+◌, suc, map, get_or, arith, ap, sym, refl, ◌∙◌, subst, add-one}
 use Rattle.amd_model.specs.Below.{sum_below, count_below}
-use Rattle.amd_types.specs.Counts.{counts, is_entry}
+use Rattle.amd_types.specs.Naturals.{naturals, is_entry}
 use Rattle.amd_edges.specs.Visits.{AreCounts}
 use Rattle.amd_edges.proofs.Forms.{sorted_form, same_graph, same_diagonals}
 use Rattle.amd_input.specs.Mirrors.{HaveMirrors, CountOthers}
@@ -13,7 +13,7 @@ use Rattle.amd_input.proofs.mirrors.mirrored_degrees.Goals.{then-diagonal, else-
 pub columns-init : goal.columns-init
 unfolding count_below sum_below
 columns-init g c =
-    let ap' = counts (map g.I.Index.value c.args.a_p.now) in let ai = counts (map g.I.Index.value c.args.a_i.now) in record {
+    let ap' = naturals (map g.I.Index.value c.args.a_p.now) in let ai = naturals (map g.I.Index.value c.args.a_i.now) in record {
       count = refl;
       small = omega arith;
       next = refl;
@@ -26,7 +26,7 @@ pub columns-preserved : goal.columns-preserved
 unfolding count_below sum_below
 columns-preserved g c =
     let i = c.columns.invariant in let e = c.in-Some.ensures in let n = c.args.size in let k = c.columns.k in
-    let ap' = counts (map g.I.Index.value c.args.a_p.now) in let ai = counts (map g.I.Index.value c.args.a_i.now) in
+    let ap' = naturals (map g.I.Index.value c.args.a_p.now) in let ai = naturals (map g.I.Index.value c.args.a_i.now) in
     let last : count_below (suc k) (λ j. is_entry n ap' ai j j) ≡ one_if (is_entry n ap' ai k k) + count_below k
     (λ j. is_entry n ap' ai j j)
     = refl in
@@ -51,7 +51,7 @@ pub returns-then-all_read-clause-degrees : goal.returns-then-all_read-clause-deg
 returns-then-all_read-clause-degrees g c =
     let n = c.args.size in let i = c.columns.invariant in let r = c.requires in
     let az = map g.I.Index.value c.args.a_p.now in let bz = map g.I.Index.value c.args.a_i.now in
-    let ap' = counts az in let ai = counts bz in let form = sorted_form n az bz r.form r.sorted in
+    let ap' = naturals az in let ai = naturals bz in let form = sorted_form n az bz r.form r.sorted in
     let end : c.columns.k ≡ n = (let x = c.columns-test.false in let y = c.columns.auto.k-end in omega (arith, x, y)) in
     let t = c.columns.next.items in let numbers = c.columns.degrees.items in
     let mirror = mirrors_all n ap' ai form t (subst (λ z. HaveMirrors n ap' ai t z 0) end i.read)
@@ -64,5 +64,5 @@ returns-then-all_read-clause-diagonals g c =
     let n = c.args.size in
     let az = map g.I.Index.value c.args.a_p.now in let bz = map g.I.Index.value c.args.a_i.now in
     let end : c.columns.k ≡ n = (let x = c.columns-test.false in let y = c.columns.auto.k-end in omega (arith, x, y)) in
-    subst (λ z. c.columns.diagonals ≡ count_below z (λ j. is_entry n (counts az) (counts bz) j j)) end c.columns.invariant.count
+    subst (λ z. c.columns.diagonals ≡ count_below z (λ j. is_entry n (naturals az) (naturals bz) j j)) end c.columns.invariant.count
     ∙ sym (same_diagonals n az bz c.requires.form)

@@ -1,7 +1,7 @@
 -- the goals of mirrors::uppers.
 use Rattle.std.proofs.Common.{◌≡◌, ◌+◌, ◌<◌, ◌^◌, arith, map, get_or, set, sym, subst, le_refl}
 use Rattle.std.proofs.lemmas.List.{length-map}
-use Rattle.amd_types.specs.Counts.{counts}
+use Rattle.amd_types.specs.Naturals.{naturals}
 use Rattle.amd_edges.proofs.Forms.{pointer_fits, row_fits, place_in, place_up, sorted_form}
 use Rattle.amd_edges.proofs.Places.{entry_from}
 use Rattle.amd_edges.proofs.Reading.{row_below, before_end, reading_next}
@@ -62,7 +62,7 @@ cell_of-requires g c =
 pub uppers-preserved : goal.uppers-preserved
 uppers-preserved g c =
     let n = c.args.size in let k = c.args.k in let t = c.uppers.next.items in let j = c.count_at-j.result in let p = c.uppers.place in
-    let ap' = counts (map g.I.Index.value c.args.a_p.now) in let ai = counts (map g.I.Index.value c.args.a_i.now) in
+    let ap' = naturals (map g.I.Index.value c.args.a_p.now) in let ai = naturals (map g.I.Index.value c.args.a_i.now) in
     let r = c.requires in let m = c.uppers.invariant.0 in let v = c.uppers.invariant.1 in
     let form = sorted_form n (map g.I.Index.value c.args.a_p.now) (map g.I.Index.value c.args.a_i.now) r.form r.sorted in
     let ends = c.count_at-end.ensures.count in let row = c.count_at-j.ensures.count in
@@ -76,7 +76,8 @@ uppers-preserved g c =
         place = reading_next n ap' ai form k (get_or ap' k 0) c.count_at-end.result k m p j r.k_in (le_refl (get_or ap' k 0)) ends v.place
             row c.uppers-test.true up;
         room = v.room;
-        read = subst (λ x. HaveMirrors n ap' ai (set t j x) k (j + 1)) (sym c.cell_of.ensures) (mirrors_next n ap' ai t k m v.read j c.number_of-mirror.result up (omega (arith, low, row)) entry
+        read = subst (λ x. HaveMirrors n ap' ai (set t j x) k (j + 1)) (sym c.cell_of.ensures) (mirrors_next n ap' ai t k m v.read j
+            c.number_of-mirror.result up (omega (arith, low, row)) entry
             (λ a x e. let w = (unread_from n ap' ai form k m p c.count_at-end.result a r.k_in ends v.place x e).1 in
             omega (arith, w, row))
             reads (let e = c.count_at-else-mirror-count_at.ensures.count in let s = c.if-count_at-k-2.false in
@@ -87,7 +88,7 @@ uppers-preserved g c =
 pub returns-else-count_at-k-clause-read : goal.returns-else-count_at-k-clause-read
 returns-else-count_at-k-clause-read g c =
     let n = c.args.size in let k = c.args.k in let t = c.uppers.next.items in let p = c.uppers.place in
-    let ap' = counts (map g.I.Index.value c.args.a_p.now) in let ai = counts (map g.I.Index.value c.args.a_i.now) in
+    let ap' = naturals (map g.I.Index.value c.args.a_p.now) in let ai = naturals (map g.I.Index.value c.args.a_i.now) in
     let r = c.requires in let m = c.uppers.invariant.0 in let v = c.uppers.invariant.1 in
     let form = sorted_form n (map g.I.Index.value c.args.a_p.now) (map g.I.Index.value c.args.a_i.now) r.form r.sorted in
     mirrors_over n ap' ai t k m v.read v.place.low (λ a x y e.
@@ -97,7 +98,7 @@ returns-else-count_at-k-clause-read g c =
 pub returns-after-uppers-clause-read : goal.returns-after-uppers-clause-read
 returns-after-uppers-clause-read g c =
     let n = c.args.size in let k = c.args.k in let t = c.uppers.next.items in let p = c.uppers.place in
-    let ap' = counts (map g.I.Index.value c.args.a_p.now) in let ai = counts (map g.I.Index.value c.args.a_i.now) in
+    let ap' = naturals (map g.I.Index.value c.args.a_p.now) in let ai = naturals (map g.I.Index.value c.args.a_i.now) in
     let r = c.requires in let m = c.uppers.invariant.0 in let v = c.uppers.invariant.1 in
     let form = sorted_form n (map g.I.Index.value c.args.a_p.now) (map g.I.Index.value c.args.a_i.now) r.form r.sorted in
     mirrors_over n ap' ai t k m v.read v.place.low (λ a x y e.

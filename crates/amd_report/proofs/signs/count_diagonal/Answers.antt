@@ -3,7 +3,7 @@ use Rattle.std.proofs.Common.{◌≡◌, ◌+◌, ℕ, Bool, true, false, arith,
 use Rattle.std.specs.Prelude.{slice_index}
 use Rattle.amd_model.specs.Below.{count_below}
 use Rattle.amd_model.proofs.Counting.Below.{count_most}
-use Rattle.amd_types.specs.Counts.{is_before}
+use Rattle.amd_types.specs.Naturals.{is_before}
 use Rattle.amd_report.proofs.Summing.{count-next, count-none}
 use Rattle.amd_report.proofs.signs.count_diagonal.Goals as goal
 use Rattle.amd_report.proofs.signs.count_diagonal.Goals.{then-has_row, else-has_row}

@@ -2,7 +2,7 @@
 use Rattle.std.proofs.Common.{◌≡◌, ◌+◌}
 use Rattle.std.specs.Prelude.{slice_index}
 use Rattle.amd_model.specs.Below.{count_below}
-use Rattle.amd_types.specs.Counts.{is_before}
+use Rattle.amd_types.specs.Naturals.{is_before}
 use Rattle.amd_report.proofs.signs.count_diagonal.Given as goal
 
 abbrev pub invariant-columns : goal.invariant-columns

@@ -1,6 +1,6 @@
 -- Before the first column nothing was met, and behind the last one each entry.
 use Rattle.std.proofs.Common.{◌≡◌, ◌∙◌, ℕ, List, length, ap, refl, sym, subst}
-use Rattle.amd_types.specs.Counts.{count_graph}
+use Rattle.amd_types.specs.Naturals.{count_graph}
 use Rattle.amd_edges.specs.Visits.{AreCounts}
 use Rattle.amd_input.proofs.Counting.{counts_none, zeros_of}
 use Rattle.amd_lines.proofs.WrittenLists.{written}

@@ -2,7 +2,7 @@
 use Rattle.std.proofs.Common.{◌≡◌, ◌+◌, ℕ, length, set, refl, subst, sym, arith}
 use Rattle.std.specs.Prelude.{slice_index}
 use Rattle.std.proofs.lemmas.List.{set-get_or}
-use Rattle.amd_types.specs.Counts.{count_graph}
+use Rattle.amd_types.specs.Naturals.{count_graph}
 use Rattle.amd_edges.specs.Visits.{AreCounts}
 use Rattle.amd_report.specs.Signs.{edge_met}
 use Rattle.amd_report.proofs.Signing.{edges-start, edges-stop, signs-begin, signs-end}

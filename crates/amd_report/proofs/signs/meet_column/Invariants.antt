@@ -1,7 +1,7 @@
 -- The signs and the degrees with the entries so far.
 use Rattle.std.proofs.Common.{◌≡◌, length}
 use Rattle.std.specs.Prelude.{slice_set}
-use Rattle.amd_types.specs.Counts.{count_graph}
+use Rattle.amd_types.specs.Naturals.{count_graph}
 use Rattle.amd_edges.specs.Visits.{AreCounts}
 use Rattle.amd_report.specs.Signs.{HaveSigns, edge_met}
 use Rattle.amd_report.proofs.signs.meet_column.Given as goal

@@ -1,6 +1,6 @@
 -- The signs and the degrees with the entries of the columns so far.
 use Rattle.std.proofs.Common.{◌≡◌, length}
-use Rattle.amd_types.specs.Counts.{count_graph}
+use Rattle.amd_types.specs.Naturals.{count_graph}
 use Rattle.amd_edges.specs.Visits.{AreCounts}
 use Rattle.amd_report.specs.Signs.{HaveSigns, edge_met}
 use Rattle.amd_report.proofs.signs.meet_columns.Given as goal

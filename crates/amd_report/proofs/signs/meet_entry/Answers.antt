@@ -4,7 +4,7 @@ use Rattle.std.proofs.Common.{subst, sym, arith, ltb-true, ltb, ◌&&◌, get_or
 use Rattle.std.specs.Prelude.{slice_index}
 use Rattle.std.proofs.lemmas.Bool.{and_parts}
 use Rattle.std.proofs.lemmas.Grind.{get_or_default_zero}
-use Rattle.amd_types.specs.Counts.{count_graph, is_before}
+use Rattle.amd_types.specs.Naturals.{count_graph, is_before}
 use Rattle.amd_edges.specs.Visits.{AreCounts, IsNewEdge}
 use Rattle.amd_input.proofs.Counting.{mark_room, other_room, run_more}
 use Rattle.amd_report.specs.Signs.{IsRisingForm, edge_met, was_met}

@@ -14,7 +14,8 @@ none g c = elim (cases_eq c.eliminate_within.new.work.live 0) [
 ]
 
 pub returns-clause-end : goal.returns-clause-end
-returns-clause-end g c = none_live (workspace_of c.eliminate_within.new.work) (none g (goal.at.returns-clause-end g c).After-eliminate_within)
+returns-clause-end g c = none_live (workspace_of c.eliminate_within.new.work) (none g (goal.at.returns-clause-end g
+    c).After-eliminate_within)
 
 pub returns-clause-none : goal.returns-clause-none
 returns-clause-none g c = none g (goal.at.returns-clause-none g c).After-eliminate_within

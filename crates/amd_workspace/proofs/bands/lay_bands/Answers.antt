@@ -83,7 +83,8 @@ returns-clause-lists g c = let r = c.requires in
     r.degrees r.some r.fits.0 r.fits.1 (c.push_until.ensures.laid _ _
     (lays_none c.args.size ap' ai r.input.lower c.args.next.now c.args.iw.now.items r.some r.empty.0 r.next r.starts))
     c.push_rows.ensures.items c.deref_mut.ensures.value)
-    (subst (HasHeads (record { n = c.args.size; ap = ap'; ai = ai }) (λ j. 0)) (sym c.deref_mut-2.ensures.value) c.push_heads.ensures.heads) in (
+    (subst (HasHeads (record { n = c.args.size; ap = ap'; ai = ai }) (λ j. 0)) (sym c.deref_mut-2.ensures.value)
+    c.push_heads.ensures.heads) in (
       subst (HoldRows c.args.size) (sym same) lists.0,
       λ i l. ap (λ xs. rows xs (own_start c.args.size ap' ai i) (num c.args.degrees.now i)) same ∙ lists.1 i l,
     )

@@ -66,8 +66,10 @@ columns-preserved g c =
     let head = head_is n ap' ai j c.columns.end (num c.args.degrees.now j) (c.count_at.result - c.own_first.result) i.end
     (degree_is n ap' ai c.requires.input.lower c.args.degrees.now c.requires.degrees j c.columns-test.true) (omega (arith, long, count)) in
     let items =
-    c.push_reserved.ensures.items ∙ ap (λ x. c.columns.heads.items ++ x ∷ []) (c.cell_of.ensures ∙ ap (λ x. c.columns.end + x - (c.count_at.result - c.own_first.result)) c.cell_at-end.ensures.is) in record {
-      end = rw c.cell_at-end.ensures.is (next_end n ap' ai c.requires.input.lower c.args.degrees.now c.requires.degrees j c.columns.end c.columns-test.true i.end);
+    c.push_reserved.ensures.items ∙ ap (λ x. c.columns.heads.items ++ x ∷ []) (c.cell_of.ensures ∙ ap (λ x. c.columns.end + x -
+    (c.count_at.result - c.own_first.result)) c.cell_at-end.ensures.is) in record {
+      end = rw c.cell_at-end.ensures.is (next_end n ap' ai c.requires.input.lower c.args.degrees.now c.requires.degrees j c.columns.end
+          c.columns-test.true i.end);
       long = ap length items ∙ length-append c.columns.heads.items (v ∷ []) ∙ (let l = i.long in omega (arith, l));
       capacity = c.push_reserved.ensures.capacity ∙ i.capacity;
       each = λ k l. ap (λ xs. num xs k) items ∙ elim (cases_lt k j) [

@@ -4,7 +4,7 @@ use Rattle.std.proofs.Common.{le_refl, length, append_assoc, w64, le_of_lt}
 use Rattle.std.proofs.lemmas.Int.{to_z_pos}
 use Rattle.std.proofs.lemmas.List.{length-map, length-append, append-nil}
 use Rattle.amd_model.specs.Below.{count_below, list_below}
-use Rattle.amd_types.specs.Counts.{counts, is_entry}
+use Rattle.amd_types.specs.Naturals.{naturals, is_entry}
 use Rattle.amd_edges.proofs.Forms.{sorted_form, pointer_read, row_read}
 use Rattle.amd_edges.proofs.Reading.{reading_start, reading_next, row_below}
 use Rattle.amd_workspace.proofs.SymmetricLists.{own}
@@ -28,7 +28,7 @@ rows-init g c =
     let a = c.count_at-place.ensures.count in let b = c.count_at-stop.ensures.count in let rising = form.rising i c.requires.row in (
       0,
       record {
-        place = reading_start (counts ai) (get_or (counts ap') i 0) c.count_at-stop.result c.args.size c.count_at-place.result a
+        place = reading_start (naturals ai) (get_or (naturals ap') i 0) c.count_at-stop.result c.args.size c.count_at-place.result a
             (omega (arith, b, rising));
         low = omega arith;
         capacity = omega arith;
@@ -67,8 +67,8 @@ push_reserved-requires g c =
     let form = sorted_form c.args.size ap' ai c.requires.form c.requires.sorted in
     let n = c.args.size in let i = c.args.i in let m = c.rows.invariant.0 in let v = c.rows.invariant.1 in
     let is = c.count_at-in-rows.ensures.count in let below = row_below c.count_at.ensures.count is c.if-count_at-i.true in
-    let part = list_below m (own (is_entry n (counts ap') (counts ai)) i) in
-    let more = others_room n (counts ap') (counts ai) form i c.count_at-stop.result m c.rows.place c.requires.row
+    let part = list_below m (own (is_entry n (naturals ap') (naturals ai)) i) in
+    let more = others_room n (naturals ap') (naturals ai) form i c.count_at-stop.result m c.rows.place c.requires.row
     c.count_at-stop.ensures.count v.place c.count_at-in-rows.result is c.rows-test.true (λ e. omega (arith, e, below)) in
     let same = ap (count_below n) (same_other n ap' ai c.requires.form i) in let room = c.requires.room in
     let whole = ap length v.items in let both = length-append c.args.iw.now.items (map pos part) in let long = length-map part pos in
@@ -84,22 +84,22 @@ rows-preserved g c =
     let n = c.args.size in let i = c.args.i in let m = c.rows.invariant.0 in let v = c.rows.invariant.1 in
     let row = c.count_at-in-rows.result in let is = c.count_at-in-rows.ensures.count in let stop = c.count_at-stop.ensures.count in
     let below = row_below c.count_at.ensures.count is c.if-count_at-i.true in
-    let small = row_small n (counts ap') (counts ai) form i c.count_at-stop.result m c.rows.place c.requires.row stop v.place row is
+    let small = row_small n (naturals ap') (naturals ai) form i c.count_at-stop.result m c.rows.place c.requires.row stop v.place row is
     c.rows-test.true in
     let r = c.requires.row in let fits = c.requires.fits in let narrow = g.met.S.Signed.narrow in
     let low : row < 2 ^ 63 = omega (arith, below, r, fits, narrow) in
-    let part = list_below m (own (is_entry n (counts ap') (counts ai)) i) in
+    let part = list_below m (own (is_entry n (naturals ap') (naturals ai)) i) in
     let e = c.push_reserved.ensures in let old = c.args.iw.now.items in (
       row + 1,
       record {
-        place = reading_next n (counts ap') (counts ai) form i (get_or (counts ap') i 0) c.count_at-stop.result n m c.rows.place row
-            c.requires.row (le_refl (get_or (counts ap') i 0)) stop v.place is c.rows-test.true small;
+        place = reading_next n (naturals ap') (naturals ai) form i (get_or (naturals ap') i 0) c.count_at-stop.result n m c.rows.place row
+            c.requires.row (le_refl (get_or (naturals ap') i 0)) stop v.place is c.rows-test.true small;
         low = omega (arith, below);
         capacity = (let x = v.capacity in let y = e.capacity in omega (arith, x, y));
         items = e.items ∙ ap (λ x. c.rows.iw.items ++ x ∷ []) (c.word_of.ensures ∙ to_z_pos w64 row low)
             ∙ ap (λ xs. xs ++ pos row ∷ []) v.items ∙ append_assoc old (map pos part) (pos row ∷ [])
             ∙ ap (λ xs. old ++ xs) (words_next (map pos part) part row refl)
-            ∙ ap (λ xs. old ++ map pos xs) (sym (others_more n (counts ap') (counts ai) form i c.count_at-stop.result m c.rows.place
+            ∙ ap (λ xs. old ++ map pos xs) (sym (others_more n (naturals ap') (naturals ai) form i c.count_at-stop.result m c.rows.place
             c.requires.row stop v.place row is c.rows-test.true (λ s. omega (arith, s, below))));
       },
     )
@@ -109,7 +109,7 @@ returns-else-count_at-i-clause-behind g c =
     let ap' = map g.I.Index.value c.args.a_p.now in let ai = map g.I.Index.value c.args.a_i.now in
     let form = sorted_form c.args.size ap' ai c.requires.form c.requires.sorted in
     let ends = c.count_at-stop.ensures.count in let past = c.if-count_at-i.false in λ r a b. (
-    let least = left_of c.args.size (counts ap') (counts ai) form c.args.i c.count_at-stop.result c.rows.invariant.0 c.rows.place
+    let least = left_of c.args.size (naturals ap') (naturals ai) form c.args.i c.count_at-stop.result c.rows.invariant.0 c.rows.place
     c.requires.row ends c.rows.invariant.1.place c.count_at.result c.count_at.ensures.count c.rows-test.true r a
     (omega (arith, b, ends)) in omega (arith, least, past))
 
@@ -121,7 +121,7 @@ returns-else-count_at-i-clause-items g c =
     v.items ∙ ap (λ xs. c.args.iw.now.items ++ map pos xs)
     (others_before c.args.size ap' ai c.requires.form form c.args.i c.rows.invariant.0 c.count_at-stop.result c.rows.place
     c.requires.row ends v.place v.low (λ r a b.
-    let least = left_of c.args.size (counts ap') (counts ai) form c.args.i c.count_at-stop.result c.rows.invariant.0 c.rows.place
+    let least = left_of c.args.size (naturals ap') (naturals ai) form c.args.i c.count_at-stop.result c.rows.invariant.0 c.rows.place
     c.requires.row ends v.place c.count_at.result c.count_at.ensures.count c.rows-test.true r a b in omega (arith, least, past)))
 
 pub returns-after-rows-clause-items : goal.returns-after-rows-clause-items

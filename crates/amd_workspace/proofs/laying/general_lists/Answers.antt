@@ -43,7 +43,8 @@ taken_none is empty = ap (λ w. length w.iw.items) is ∙ empty
 
 pub returns-then-copied-clause-long : goal.returns-then-copied-clause-long
 returns-then-copied-clause-long g c = let r = c.requires in let e = c.copy_symmetric-copied.ensures in
-    let long = (are_filled c.args.size c.args.size c.replace-own.result.iw.items _ _ r.some (taken_none c.replace-own.ensures.value r.empty.0) e.words c.push_rows.ensures.items).long in
+    let long = (are_filled c.args.size c.args.size c.replace-own.result.iw.items _ _ r.some (taken_none c.replace-own.ensures.value
+    r.empty.0) e.words c.push_rows.ensures.items).long in
     let all = e.all c.if-copied.true in let most = e.long in let room = r.room in
     (omega (arith, long, all), omega (arith, long, most, room))
 
@@ -59,7 +60,8 @@ unfolding graph_of
 returns-then-copied-clause-lists g c =
     let ap' = map g.I.Index.value c.args.a_p.now in let ai = map g.I.Index.value c.args.a_i.now in let n = c.args.size in
     let r = c.requires in let e = c.copy_symmetric-copied.ensures in let all = e.all c.if-copied.true in
-    let filled = are_filled n n c.replace-own.result.iw.items _ _ r.some (taken_none c.replace-own.ensures.value r.empty.0) e.words c.push_rows.ensures.items in (
+    let filled = are_filled n n c.replace-own.result.iw.items _ _ r.some (taken_none c.replace-own.ensures.value r.empty.0) e.words
+    c.push_rows.ensures.items in (
       filled.words,
       λ i l. (let later = start_later (graph_of n ap' ai) i n l in let own = r.degrees.each i l in
           filled.same (own_start n ap' ai i) (num c.args.degrees.now i) (omega (arith, all, later, own)) ∙ e.lists c.if-copied.true i l),
@@ -69,12 +71,14 @@ pub walk-requires-clause-held : goal.walk-requires-clause-held
 unfolding graph_of
 walk-requires-clause-held g c = let r = c.requires in let e = c.copy_symmetric-copied.ensures in
     let ap' = map g.I.Index.value c.args.a_p.now in let ai = map g.I.Index.value c.args.a_i.now in
-    let filled = are_filled c.args.size (c.args.room - c.len.result) c.replace-own.result.iw.items _ _ r.some (taken_none c.replace-own.ensures.value r.empty.0) e.words
+    let filled = are_filled c.args.size (c.args.room - c.len.result) c.replace-own.result.iw.items _ _ r.some (taken_none
+    c.replace-own.ensures.value r.empty.0) e.words
     c.push_rows-2.ensures.items in
     let long = filled_up _ c.args.size c.args.room c.len.result _ _ e.long r.room
     (c.len.ensures ∙ c.copy_symmetric-copied.new.iw.ok.0) filled.long in
     let room = r.room in let fits = r.fits.1 in
-    rw c.replace-own.ensures.value (lays_none (graph_of c.args.size ap' ai) c.args.words.now.next.items r.long r.starts g.S.Signed.MOST g.U.Unsigned.MOST
+    rw c.replace-own.ensures.value (lays_none (graph_of c.args.size ap' ai) c.args.words.now.next.items r.long r.starts g.S.Signed.MOST
+    g.U.Unsigned.MOST
     c.push_rows-2.new.iw.items filled.words (omega (arith, room, long)) r.fits.0 (omega (arith, fits, long)))
 
 -- the words that a walk goes on with
@@ -89,7 +93,8 @@ kept_room e = (cc, cc, cc)
 
 pub returns-clause-long : goal.returns-clause-long
 returns-clause-long g c = let r = c.requires in let e = c.copy_symmetric-copied.ensures in
-    let filled = are_filled c.args.size (c.args.room - c.len.result) c.replace-own.result.iw.items _ _ r.some (taken_none c.replace-own.ensures.value r.empty.0) e.words
+    let filled = are_filled c.args.size (c.args.room - c.len.result) c.replace-own.result.iw.items _ _ r.some (taken_none
+    c.replace-own.ensures.value r.empty.0) e.words
     c.push_rows-2.ensures.items in
     walked_long _ c.args.size c.args.room r.room _ _ (kept_room c.walk.ensures.kept).0 (filled_up _ c.args.size c.args.room c.len.result _ _
     e.long r.room (c.len.ensures ∙ c.copy_symmetric-copied.new.iw.ok.0) filled.long)

@@ -74,7 +74,8 @@ columns-preserved g c =
     λ k e. let all = c.past_column.ensures.all k e in omega (arith, all, most) in
     let laid = c.push_until.ensures.laid _ _ i.laid in record {
       reach = omega (arith, past, most);
-      end = rw c.cell_at-end.ensures.is (next_end n ap' ai c.requires.input.lower c.args.degrees.now c.requires.degrees c.columns.j c.columns.end c.columns-test.true
+      end = rw c.cell_at-end.ensures.is (next_end n ap' ai c.requires.input.lower c.args.degrees.now c.requires.degrees c.columns.j
+          c.columns.end c.columns-test.true
           i.end);
       capacity = (let x = i.capacity in let y = c.push_until.ensures.capacity in let z = c.spread_in.ensures.capacity in
           omega (arith, x, y, z));

@@ -31,7 +31,8 @@ pub rows-preserved : goal.rows-preserved
 rows-preserved g c = let b = c.rows-test.true in let all = c.requires.rows.1 in
     let ap' = map g.I.Index.value c.args.a_p.now in let ai = map g.I.Index.value c.args.a_i.now in let i = c.rows.invariant in record {
       laid = λ early next h. subst (LaysRows c.args.size ap' ai (c.rows.row + 1) early next) (sym c.push_list.ensures.items)
-          (rw c.cell_at.ensures.is (lays_row c.args.size ap' ai c.requires.input.lower c.rows.row (num c.args.degrees.now c.rows.row) early next c.rows.iw.items
+          (rw c.cell_at.ensures.is (lays_row c.args.size ap' ai c.requires.input.lower c.rows.row (num c.args.degrees.now c.rows.row)
+          early next c.rows.iw.items
           (omega (arith, b, all)) (degree_is c.args.size ap' ai c.requires.input.lower c.args.degrees.now c.requires.degrees c.rows.row
           (omega (arith, b, all))) (i.laid early next h)));
       capacity = (let x = i.capacity in let y = c.push_list.ensures.capacity in omega (arith, x, y));

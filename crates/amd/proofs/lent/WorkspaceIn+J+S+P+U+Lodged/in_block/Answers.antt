@@ -17,7 +17,11 @@ memory_in-memory-requires-clause-words g c = let few = c.requires.few in (
 
 pub split_list-pointers-requires-clause-cut : goal.split_list-pointers-requires-clause-cut
 split_list-pointers-requires-clause-cut g c =
-    let w = c.requires.whole in let r = c.requires.room in let rest = c.memory_in-memory.ensures.rest in (omega (arith, w), omega (arith, r, rest))
+    let w = c.requires.whole in let r = c.requires.room in let rest = c.memory_in-memory.ensures.rest in (
+      omega (arith, w),
+      omega
+          (arith, r, rest),
+    )
 
 pub split_list-pointers-requires-clause-room : goal.split_list-pointers-requires-clause-room
 split_list-pointers-requires-clause-room g c = let few = c.requires.narrow.2 in let most = g.met.S.Signed.narrow in (

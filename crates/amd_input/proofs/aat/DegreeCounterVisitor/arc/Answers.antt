@@ -21,6 +21,7 @@ pub returns-clause-held : goal.returns-clause-held
 returns-clause-held g c = λ gr seen arcs h new.
     let numbers = c.args.self.now.degrees.items in (
       subst (λ v. AreCounts gr (with_arc seen c.args.i c.args.j) (set numbers c.args.i v)) (sym c.cell_of.ensures)
-          (counts_more gr seen c.args.i c.args.j new numbers c.number_of.result (read_again c.args.i c.args.self.now.degrees.items c.number_of.ensures.is c.index.ensures) h.0),
+          (counts_more gr seen c.args.i c.args.j new numbers c.number_of.result (read_again c.args.i c.args.self.now.degrees.items
+          c.number_of.ensures.is c.index.ensures) h.0),
       h.1,
     )

@@ -70,7 +70,20 @@ use Rattle.std_alloc.specs.Vec.Ownership.{lodged}
 use Rattle.std_alloc.specs.declared.vec.lodged.Lodged.{Lodged}
 use Rattle.linked_list_allocator.specs.Ownership.{bytes_at}
 use Rattle.linked_list_allocator.proofs.Values.{sized_val, sized_own, sized_told}
-use Rattle.amd_lent.proofs.Lodging.{Row, row_laws, Good, lodge_key, items, tells, lodges, Lodges, at_lodge, IsLodged, lodge_goes, lodge_gives}
+use Rattle.amd_lent.proofs.Lodging.{
+  Row,
+  row_laws,
+  Good,
+  lodge_key,
+  items,
+  tells,
+  lodges,
+  Lodges,
+  at_lodge,
+  IsLodged,
+  lodge_goes,
+  lodge_gives,
+}
 use Rattle.amd_lent.specs.contracts.piece.Piece as piece
 use Rattle.amd_lent.specs.contracts.piece.Piece.list.Key.{name as #self}
 use Rattle.amd_lent.proofs.piece.Piece.list.Statement as stated

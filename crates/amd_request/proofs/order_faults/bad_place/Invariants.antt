@@ -1,6 +1,0 @@
--- The rows so far are marked.
-use Rattle.amd_request.specs.Orders.{AreSeen}
-use Rattle.amd_request.proofs.order_faults.bad_place.Given as goal
-
-abbrev pub invariant-rows : goal.invariant-rows
-invariant-rows l = AreSeen l.rows l.place l.seen
