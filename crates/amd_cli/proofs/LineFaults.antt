@@ -1,12 +1,12 @@
 -- What the error of a list says of the lines that were read.
-use Rattle.std.proofs.Common.{◌≡◌, ◌+◌, ℕ, Option, Some, None, List, [], ◌∷◌, ◌++◌, inl, inr, length, refl, sym}
-use Rattle.std.proofs.Common.{ap, subst, ◌∙◌, append_assoc, append-nil, arith}
+use Rattle.std.proofs.Common.{◌≡◌, ◌+◌, ℕ, Option, Some, None, List, [], ◌∷◌, ◌++◌, inl, inr, refl, sym}
+use Rattle.std.proofs.Common.{ap, subst, ◌∙◌, append_assoc, append-nil}
 use Rattle.std.specs.Prelude.{IfSome}
 use Rattle.std.specs.List.{AllZip}
-use Rattle.std.proofs.lemmas.List.{length-append}
 use Rattle.amd_lines.specs.Lines.{BeginsWith, FailsAt, TakesLines, TakesTelling, line_number, percent, rest_of, telling}
 use Rattle.amd_lines.proofs.LineLemmas.{takes-append, telling-both, telling-one}
 use Rattle.amd_lines.specs.declared.lines.LineReader.{LineReader}
+use Rattle.amd_market.proofs.FaultLemmas.{alone}
 use Rattle.amd_market.specs.Faults.{IsOfReading, IsTold, IsUnread, named_line}
 use Rattle.amd_market.specs.declared.faults.ReadFault.{ReadFault}
 use Rattle.amd_market.specs.declared.faults.ReadError.{ReadError}
@@ -57,11 +57,6 @@ fails-unread remaining Spells a e h u = record {
   took = h.took;
   cause = blames-unread Spells e h.lines u;
 }
-
--- what comes before the one element of a list is empty
-alone : (xs : List (List ℕ)) (y z : List ℕ) → xs ++ y ∷ [] ≡ z ∷ [] → xs ≡ []
-alone [] y z h = refl
-alone (x ∷ xs) y z h = (let e = ap length h in let k = length-append xs (y ∷ []) in absurd (omega (arith, e, k)))
 
 -- a line that is no such thing, behind lines whose telling ones are
 pub fails-none : {R Z X : Type 0} (remaining : R → Option (List ℕ)) (Spells : List ℕ → X → Type 0) (a b c : LineReader R Z)

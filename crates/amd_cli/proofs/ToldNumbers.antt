@@ -1,11 +1,11 @@
 -- The numbers that lines tell, one line after another.
-use Rattle.std.proofs.Common.{◌≡◌, ◌++◌, ◌+◌, ◌<◌, ◌∙◌, ℕ, suc, List, [], ◌∷◌, ap, arith, get_or, length, map, refl, subst, sym, take}
-use Rattle.std.proofs.lemmas.List.{length-append, map-append, take_more}
+use Rattle.std.proofs.Common.{◌≡◌, ◌++◌, ◌+◌, ◌<◌, ◌∙◌, ℕ, suc, List, [], ◌∷◌, ap, arith, get_or, length, subst, sym, take}
+use Rattle.std.proofs.lemmas.List.{take_more}
 use Rattle.std.specs.List.{AllZip}
 use Rattle.amd_cli.specs.declared.listed.Listed.{Listed}
 use Rattle.amd_cli.specs.declared.listed.Numbers.{Numbers}
 use Rattle.amd_cli.specs.declared.listed.Numbers.TheVariants.{One, Two}
-use Rattle.amd_cli.specs.Orders.{AreNumbers, ArePairsFrom, IsCountedFrom, IsSingle, SpellsUpTo}
+use Rattle.amd_cli.specs.Orders.{AreNumbers, ArePairsFrom, IsSingle, SpellsUpTo}
 use Rattle.amd_cli.proofs.ListedLines.{each-more}
 
 -- the first word is no number
@@ -58,12 +58,3 @@ pairs-next v ls k l told new wanted place inside h same one pushed =
     subst (ArePairsFrom v (take (k + 1) ls)) (sym pushed)
     (subst (λ z. ArePairsFrom v z (told ++ place ∷ [])) (sym (take_more ls k l inside))
     (pairs-more v (take k ls) told (get_or ls k l) place h (one ∙ ap (λ z. Two z place) same)))
-
--- one number more
-pub counted-next : (base : ℕ) (told : List ℕ) (k number : ℕ) (rows : List ℕ) (row : ℕ) → k < length told →
-    IsCountedFrom base (take k told) rows → get_or told k number ≡ row + base → IsCountedFrom base (take (k + 1) told) (rows ++ row ∷ [])
-counted-next base told k number rows row inside h one =
-    take_more told k number inside
-    ∙ ap (λ z. z ++ get_or told k number ∷ []) h
-    ∙ ap (λ z. map (λ r. r + base) rows ++ z ∷ []) one
-    ∙ sym (map-append (λ r. r + base) rows (row ∷ []))

@@ -2,7 +2,7 @@
 //! rows or places that a text lists, the files of a run, and why a run ends early.
 //!
 //! What is read from a text, and what the options that were found choose, is told by contracts. What is tested alone:
-//! which options there are (`request`), the files (`inputs`, `places`, `putting`), what is told meanwhile (`progress`)
+//! which options there are (`request`), the files (`inputs`, `paths`, `putting`), what is told meanwhile (`progress`)
 //! and what leads on after a message (`advice`). The matrix of a file is read by `amd_market`.
 #![tactic(auto)]
 

@@ -371,13 +371,6 @@ last-same (x ∷ f) (y ∷ g) l m e =
     let more = last-same f g l m rest in
     (rw (same, more.0) refl, more.1)
 
-pub no-skip-empty : (text : List ℕ) → text ≡ [] → (s : ℕ) → SpellsSkip text s → ⊥
-no-skip-empty text e s h = short h.front (sym e ∙ h.parts)
-  where
-    short : (v : List ℕ) → [] ≡ v ++ h.letter ∷ [] → ⊥
-    short [] k = cc
-    short (z ∷ v) k = cc
-
 pub skip-parts : (text front : List ℕ) (letter : ℕ) → text ≡ front ++ letter ∷ [] → (s : ℕ) → (h : SpellsSkip text s) →
     (front ≡ h.front) × (letter ≡ h.letter)
 skip-parts text front letter parts s h = last-same front h.front letter h.letter (sym parts ∙ h.parts)

@@ -177,7 +177,7 @@ at-end ls None rest h k = tt
 at-end ls (Some bytes) rest h k = subst (BeginsWith ls bytes) k h
 
 -- what comes before the one element of a list is empty
-alone : (xs : List (List ℕ)) (y z : List ℕ) → xs ++ y ∷ [] ≡ z ∷ [] → xs ≡ []
+pub alone : (xs : List (List ℕ)) (y z : List ℕ) → xs ++ y ∷ [] ≡ z ∷ [] → xs ≡ []
 alone [] y z h = refl
 alone (x ∷ xs) y z h = (let e = ap length h in let k = length-append xs (y ∷ []) in absurd (omega (arith, e, k)))
 
