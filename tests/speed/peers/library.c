@@ -4,12 +4,11 @@
 
 static struct rimopaku_parameters parameters;
 
-static uint64_t order(const struct matrix *m, const char *kind, int64_t *p) {
+static uint64_t order_i32(const struct matrix *m, int64_t *p) {
     int64_t n = m->n, entries = m->pointers[n];
     int32_t *pointers = (int32_t *)room(n + 1, 4), *found = (int32_t *)room(n, 4), *inverse = (int32_t *)room(n, 4);
     struct rimopaku_statistics told;
     uint64_t start, time;
-    if (strcmp(kind, "i32")) exit(2);
     for (int64_t k = 0; k <= n; k++) pointers[k] = m->pointers[k];
     start = now();
     if (rimopaku_order_i32(n, pointers, n + 1, m->rows, entries, &parameters, found, n, inverse, n, &told) < 0) exit(1);
@@ -19,6 +18,24 @@ static uint64_t order(const struct matrix *m, const char *kind, int64_t *p) {
     free(found);
     free(inverse);
     return time;
+}
+
+static uint64_t order_i64(const struct matrix *m, int64_t *p) {
+    int64_t n = m->n, entries = m->pointers[n];
+    int64_t *rows = (int64_t *)room(entries, 8), *inverse = (int64_t *)room(n, 8);
+    struct rimopaku_statistics told;
+    uint64_t start, time;
+    for (int64_t k = 0; k < entries; k++) rows[k] = m->rows[k];
+    start = now();
+    if (rimopaku_order_i64(n, m->pointers, n + 1, rows, entries, &parameters, p, n, inverse, n, &told) < 0) exit(1);
+    time = now() - start;
+    free(rows);
+    free(inverse);
+    return time;
+}
+
+static uint64_t order(const struct matrix *m, const char *kind, int64_t *p) {
+    return strcmp(kind, "i32") ? order_i64(m, p) : order_i32(m, p);
 }
 
 int main(int count, char **words) {
