@@ -145,7 +145,7 @@ fn paths_and_rows(alloc: Global) -> Result<(Vec<i64>, Vec<i64>), AllocError> {
     }
     for row in ON_PATHS..ON_PATHS + 100 {
         for path in 0..8i64 {
-            entries.push((row, path.saturating_mul(64)))?;
+            entries.push((row, path * 64))?;
         }
     }
     columns_of(alloc, ON_PATHS + 100, &entries)
