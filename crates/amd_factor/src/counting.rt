@@ -1,6 +1,6 @@
 // How many entries each column of a factor has, and what the factor needs, without its columns: the input is tested as
-// for `columns`, the lists of earlier neighbours are made, and `counted` counts. Source: Liu 1986; Gilbert, Ng and
-// Peyton 1994; AMD user guide (the figures of `Info`).
+// for `columns`, the lists of earlier and of later neighbours are made, and `counted` counts. Source: Liu 1986;
+// Gilbert, Ng and Peyton 1994; AMD user guide (the figures of `Info`).
 
 ghost use Rattle.std.specs.Prelude.{◌≡◌, pos, map, IfOk, IfErr};
 ghost use Rattle.amd_model.specs.Input.Columns.{IsColumnForm};
@@ -68,9 +68,9 @@ pub fn matrix_counts<I: Index, A: Allocator + Copy>(
 /// parents; the sum of the sizes is the room that `columns` needs. For `n = 0` the pointers and row indices are not
 /// looked at, and `p` must be empty.
 ///
-/// No entry is written: a few numbers a row are taken beside the lists of neighbours, and more of them where rows climb
-/// far in the elimination tree, which a first try to count may tell. The steps are as many as there are rows and entries
-/// of the matrix, times at most the logarithm of the number of rows.
+/// No entry is written: beside the lists of neighbours, a few numbers a row are taken, all of them before the first
+/// count. The steps are as many as there are rows and entries of the matrix, times at most the logarithm of the number
+/// of rows.
 ///
 /// # Errors
 ///

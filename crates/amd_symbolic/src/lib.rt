@@ -21,11 +21,11 @@ pub mod supernode_laws;
 
 pub use amd_factor::{
     Counts, Factor, FactorWorkspace, Fault, Frame, Partitioned, Refusal, SupernodeSizes,
-    Supernodes, arcs, below, children, climbing, column, columns, columns_into, counted, counts,
-    entrance, expand, expanding, factor, factor_bytes, fill, forms, gathering, inside, into, lent,
-    levels, meeting, merge, needs, neighbours, numbers, ordering, partition, places, ranks,
-    refusal, rows_below, sizes, sizing, supernodal, supernode_partition, supernode_sizes,
-    supernodes, sweep, thinning, tree, turning, workspace, write_rows,
+    Supernodes, arcs, below, children, column, columns, columns_into, counted, counts, entrance,
+    expand, expanding, factor, factor_bytes, fill, forms, gathering, inside, into, lent, meeting,
+    merge, needs, neighbours, numbers, ordering, partition, places, ranks, refusal, rows_below,
+    sizes, sizing, supernodal, supernode_partition, supernode_sizes, supernodes, sweep, thinning,
+    tree, turning, workspace, write_rows,
 };
 pub use analysis::{analyze, analyze_holding};
 pub use counting::{analyze_counts, analyze_counts_holding};

@@ -1,19 +1,16 @@
-// The counts of the columns: on worked matrices, with each request refused in turn, also where the rows climb far in
-// the elimination tree, and where the input or the order is none. And whether counts are those of a factor that searches
-// for paths find.
+// The counts of the columns: on worked matrices, with each request refused in turn, and where the input or the order is
+// none. And whether counts are those of a factor that searches for paths find.
 
-use crate::tests::orders::{NO_ORDERS, rows_of};
+use crate::tests::orders::NO_ORDERS;
 use crate::tests::refusals::NO_FORMS;
 use crate::tests::worked::{FOUR_CYCLE, FactorCase, WORKED};
 use amd::Control;
 use amd_symbolic::{Counts, Fault, analyze_counts, counts};
 use amd_testing::check;
 use amd_testing::factors::{SearchedFactor, need_of};
-use amd_testing::inputs::{columns_of, star};
 use amd_testing::refusing::{Refusing, each_refused};
-use std::alloc::{AllocError, Allocator, Global};
+use std::alloc::{Allocator, Global};
 use std::process::Abort;
-use std::test::Fail;
 
 /// Whether counts are those of the slow factor: the sizes of its columns, their first entries, and what they need.
 pub fn are_counts(counted: &Counts<Global>, slow: &SearchedFactor<Global>) -> bool {
@@ -91,80 +88,6 @@ fn each_request_of_analyze_counts(rt: HostRuntime) {
         Ok(count) => check!(&rt; 0 < count),
         Err(_) => panic!(&rt; "a four-cycle"),
     }
-}
-
-/// Asks for the counts of a matrix under the order of its rows, whose factor has that many entries, and says whether
-/// there was an answer.
-fn asks_for_entries(
-    rt: &impl Abort,
-    heap: &Refusing<Global>,
-    a_p: &[i64],
-    a_i: &[i64],
-    p: &[i64],
-    entries: u128,
-) -> bool {
-    let n = i64::try_from(p.len()).unwrap_or(0);
-    match counts(heap, n, a_p, a_i, p) {
-        Ok(counted) => {
-            check!(rt; counted.need.lnz == entries);
-            true
-        }
-        Err(fault) => {
-            check!(rt; fault == Fault::OutOfMemory);
-            false
-        }
-    }
-}
-
-/// A star whose centre comes first: each row climbs past all before it, so that they climb too far together for counts
-/// by climbs. Each column has all later rows.
-#[test]
-fn each_request_where_rows_climb_far(rt: HostRuntime) -> Result<(), Fail> {
-    let alloc = rt.alloc();
-    let (a_p, a_i) = star(alloc, 64)?;
-    let p = rows_of(alloc, 64)?;
-    match each_refused(alloc, |heap| {
-        asks_for_entries(&rt, heap, &a_p, &a_i, &p, 2016)
-    }) {
-        Ok(count) => check!(&rt; 0 < count),
-        Err(_) => panic!(&rt; "a star"),
-    }
-    Ok(())
-}
-
-/// The number of rows of the eight paths.
-const ON_PATHS: i64 = 512;
-
-/// Eight paths of 64 rows each, and 100 rows, each with an edge to the first row of each path.
-fn paths_and_rows(alloc: Global) -> Result<(Vec<i64>, Vec<i64>), AllocError> {
-    let mut entries = Vec::new(alloc);
-    for row in 1..ON_PATHS {
-        if row % 64 != 0 {
-            entries.push((row, row - 1))?;
-        }
-    }
-    for row in ON_PATHS..ON_PATHS + 100 {
-        for path in 0..8i64 {
-            entries.push((row, path * 64))?;
-        }
-    }
-    columns_of(alloc, ON_PATHS + 100, &entries)
-}
-
-/// Each row behind the paths climbs all of them, and its longest climb is up one: counts by climbs begin, and stop. A
-/// row of a path has the 100 rows and, but for the last one, the next row.
-#[test]
-fn each_request_where_rows_climb_many_ways(rt: HostRuntime) -> Result<(), Fail> {
-    let alloc = rt.alloc();
-    let (a_p, a_i) = paths_and_rows(alloc)?;
-    let p = rows_of(alloc, ON_PATHS + 100)?;
-    match each_refused(alloc, |heap| {
-        asks_for_entries(&rt, heap, &a_p, &a_i, &p, 56_654)
-    }) {
-        Ok(count) => check!(&rt; 0 < count),
-        Err(_) => panic!(&rt; "paths"),
-    }
-    Ok(())
 }
 
 /// Inputs that are no column form make no request, and neither do no rows.
