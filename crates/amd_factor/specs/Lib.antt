@@ -20,12 +20,11 @@ pub mod Trees
 pub mod Gathering
 pub mod Merging
 pub mod Numbers
--- The counts, by the tree and the climbs of rows or the meetings of arcs.
+-- The counts, by the tree and the meetings of arcs.
 pub mod Walks
 pub mod Ancestors
 pub mod Ranks
 pub mod Thinning
-pub mod Climbs
 pub mod Meetings
 -- The columns by supernodes.
 pub mod Supernodes

@@ -1,8 +1,7 @@
 // What is counted of the columns of a factor: the number of entries of each, the parents, and the figures of the AMD
-// user guide, summed over the columns. Where climbs in the elimination tree are short the entries are counted by these,
-// and else by the meetings of arcs. Source: Liu 1986 and 1990; AMD user guide (the figures of `Info`).
+// user guide, summed over the columns. Source: Liu 1986 and 1990; AMD user guide (the figures of `Info`).
 
-ghost use Rattle.std.specs.Prelude.{◌≡◌, ◌+◌, ◌*◌, ◌/◌, true, [], length, map, max, List, ℕ, IfOk, MatchOption};
+ghost use Rattle.std.specs.Prelude.{◌≡◌, ◌+◌, ◌*◌, ◌/◌, [], length, map, max, List, ℕ, IfOk, MatchOption};
 ghost use Rattle.amd_model.specs.Graph.{IsGraph};
 ghost use Rattle.amd_factor.specs.Neighbours.{HasEarlier};
 ghost use Rattle.amd_factor.specs.Orders.{Order};
@@ -11,18 +10,12 @@ ghost use Rattle.amd_factor.specs.Sizes.{HoldSizes};
 ghost use Rattle.amd_factor.specs.Thinning.{HasThinned, Thins};
 ghost use Rattle.amd_factor.specs.Walks.{TellParents};
 
-use crate::climbing::count_by_climbs;
-use crate::levels::are_climbs_short;
 use crate::needs::Need;
 use crate::neighbours::turned_lists;
 use crate::sizes::count_by_tree;
 use crate::thinning::thin_lists;
 use crate::tree::elimination_tree;
 use std::alloc::{AllocError, Allocator};
-
-// Where a factor has about so many entries for each arc and each row, both ways to count take equally long: climbs take
-// a step for each entry, and meetings as much for each arc and each row as so many of these steps.
-const ENTRIES: usize = 10;
 
 /// How many entries the columns of a factor have below its diagonal, and what the factor needs.
 ///
@@ -102,32 +95,7 @@ fn work_words(columns: usize) -> Option<usize>
     columns.checked_mul(8)?.checked_add(5)
 }
 
-/// Writes the number of entries of each column by climbs, and says whether it did: not where these are long.
-///
-/// `earlier[starts[j]..starts[j + 1]]` names earlier neighbours of the place `j`; one that stands over another may be
-/// left out. `mark`, which is for the work alone, and `sizes` have as many places as there are rows.
-fn climbed_sizes(
-    starts: &[usize],
-    earlier: &[usize],
-    parent: &[Option<usize>],
-    mark: &mut [usize],
-    sizes: &mut [usize],
-) -> bool
-    ghost o: { Order }
-    requires laws { IsGraph o.graph }
-    requires earlier { HasThinned o starts.now earlier.now }
-    requires parents { TellParents o (length o.rows) parent.now }
-    requires marks { length mark.old ≡ length o.rows }
-    requires sizes { length sizes.old ≡ length o.rows }
-    ensures { result ≡ true → HoldSizes o.graph o.rows sizes.new parent.now }
-{
-    let arcs = starts[parent.len()];
-    let most = arcs.saturating_add(parent.len()).saturating_mul(ENTRIES);
-    are_climbs_short(starts, earlier, parent, sizes, most)
-        && count_by_climbs(starts, earlier, parent, mark, sizes, most.saturating_mul(2))
-}
-
-/// Takes memory, and writes the number of entries of each column by the meetings of arcs.
+/// The number of entries of each column, by lists of earlier neighbours and the parents. `work` is for the work alone.
 ///
 /// # Errors
 ///
@@ -137,27 +105,23 @@ fn tree_sizes<A: Allocator + Copy>(
     starts: &[usize],
     earlier: &[usize],
     parent: &[Option<usize>],
-    sizes: &mut [usize],
-) -> Result<(), AllocError>
+    work: &mut [usize],
+) -> Result<Vec<usize, A>, AllocError>
     ghost at: { Order × Order }
     requires laws { IsGraph at.0.graph }
     requires thins { Thins at.0 at.1 }
     requires earlier { HasEarlier at.1 starts.now earlier.now }
     requires parents { TellParents at.0 (length at.0.rows) parent.now }
-    requires sizes { length sizes.old ≡ length at.0.rows }
-    ensures { IfOk result (λ _. HoldSizes at.0.graph at.0.rows sizes.new parent.now) }
+    requires work { length work.old ≡ 8 * length at.0.rows + 5 }
+    ensures { IfOk result (λ sizes. HoldSizes at.0.graph at.0.rows sizes.items parent.now) }
 {
-    let Some(words) = work_words(parent.len()) else {
-        return Err(AllocError);
-    };
-    let mut work = vec![in alloc; 0; words]?;
     let later = turned_lists(alloc, starts, earlier)?;
-    count_by_tree(&later.starts, &later.neighbours, parent, sizes, &mut work);
-    Ok(())
+    let mut sizes = vec![in alloc; 0; parent.len()]?;
+    count_by_tree(&later.starts, &later.neighbours, parent, &mut sizes, work);
+    Ok(sizes)
 }
 
-/// Counts by the lists of earlier neighbours, which are thinned out first, and stay so. Where climbs are long, more
-/// memory is taken after a first try by climbs.
+/// Takes all memory, and counts by the lists of earlier neighbours, which are thinned out first. They stay so.
 ///
 /// # Errors
 ///
@@ -175,21 +139,17 @@ pub fn thinned_sizes<A: Allocator + Copy>(
 {
     let columns = starts.len() - 1;
     let mut parent = vec![in alloc; None; columns]?;
-    let mut sizes = vec![in alloc; 0; columns]?;
-    let done = {
-        let mut mark = vec![in alloc; 0; columns]?;
-        elimination_tree(starts, earlier, &mut parent, &mut mark);
-        thin_lists(starts, earlier, &parent, &mut mark);
-        climbed_sizes(starts, earlier, &parent, &mut mark, &mut sizes)
+    let Some(words) = work_words(columns) else {
+        return Err(AllocError);
     };
-    if done {
-        return Ok(Sized { sizes, parent });
-    }
-    tree_sizes(alloc, starts, earlier, &parent, &mut sizes)?;
+    let mut work = vec![in alloc; 0; words]?;
+    elimination_tree(starts, earlier, &mut parent, &mut work[..columns]);
+    thin_lists(starts, earlier, &parent, &mut work[..columns]);
+    let sizes = tree_sizes(alloc, starts, earlier, &parent, &mut work)?;
     Ok(Sized { sizes, parent })
 }
 
-/// Counts by the lists of earlier neighbours, which are thinned out, and sums up what a factor needs.
+/// Takes all memory, counts by the lists of earlier neighbours, which are thinned out, and sums up what a factor needs.
 ///
 /// # Errors
 ///

@@ -19,7 +19,6 @@
 //!   taken, and `fill` writes.
 //! - `tree`, `ranks`, `meeting`, `sweep`, `sizes`: how many entries the columns have, in slices: the elimination tree,
 //!   its postorder, and a sweep over all arcs.
-//! - `levels`, `climbing`: the same by climbs of the rows in the tree, where these are short.
 //! - `needs`, `counted`, `counting`: what a factor needs; [`counts`].
 //! - `partition`, `below`, `rows_below`, `supernodal`: [`supernodes`]: the places are cut into supernodes by the counts,
 //!   and the rows climb through these; [`supernode_partition`] and [`write_rows`] do the two apart.
@@ -33,7 +32,6 @@
 pub mod arcs;
 pub mod below;
 pub mod children;
-pub mod climbing;
 pub mod column;
 pub mod counted;
 pub mod counting;
@@ -47,7 +45,6 @@ pub mod inside;
 pub mod into;
 pub mod laws;
 pub mod lent;
-pub mod levels;
 pub mod meeting;
 pub mod merge;
 pub mod needs;

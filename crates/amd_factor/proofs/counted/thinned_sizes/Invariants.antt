@@ -8,8 +8,5 @@ ghost-elimination_tree g a = g.o
 abbrev pub ghost-thin_lists : goal.ghost-thin_lists
 ghost-thin_lists g a = g.o
 
-abbrev pub ghost-climbed_sizes : goal.ghost-climbed_sizes
-ghost-climbed_sizes g a = g.o
-
 abbrev pub ghost-tree_sizes : goal.ghost-tree_sizes
 ghost-tree_sizes g a = (g.o, order_of_lists (length g.o.rows) a.starts.now a.earlier.now)
