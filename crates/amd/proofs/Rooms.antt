@@ -1,6 +1,6 @@
 -- Memory that has room for some words has room for fewer, and for as many as a list that is put in their place.
 use Rattle.std.proofs.Common.{ℕ, ◌≤◌, arith, le_trans}
-use Rattle.amd_merging.proofs.BucketKeys.{buckets_rise}
+use Rattle.amd_lists.proofs.BucketCounts.{buckets_rise}
 use Rattle.amd_workspace.specs.Lists.{HasRoom, HasRows}
 use Rattle.amd_workspace.specs.declared.lists.Memory.{Memory}
 use Rattle.amd_workspace.specs.declared.lists.Lists.{Lists}

@@ -5,7 +5,7 @@ use Rattle.std.specs.Mem.{type_size}
 use Rattle.std.specs.Vec.{vec_capacity}
 use denote.RattleType.{RattleType}
 use Rattle.amd_types.specs.Naturals.{naturals}
-use Rattle.amd_merging.specs.Merging.{bucket_count}
+use Rattle.amd_lists.specs.Sizes.{bucket_count}
 use Rattle.amd_workspace.specs.declared.lists.Memory.{Memory}
 use Rattle.amd.specs.Within.{IsCall}
 use Rattle.amd.specs.declared.refusal.Refusal.{Refusal}

@@ -6,7 +6,7 @@ use Rattle.std.specs.Prelude.{slice_index, unsigned_abs}
 use Rattle.amd_model.specs.Input.Columns.{IsColumnForm, IsSorted}
 use Rattle.amd_model.specs.Input.Held.{HasMarks}
 use Rattle.amd_model.specs.Input.Pattern.{is_pair}
-use Rattle.amd_rounds.specs.Laid.{AreWideEnough}
+use Rattle.amd_lists.specs.Sizes.{AreWideEnough}
 use Rattle.amd_types.specs.Naturals.{naturals}
 use Rattle.amd_workspace.specs.Lists.{HasRoom}
 use Rattle.amd_workspace.specs.declared.lists.Memory.{Memory}

@@ -5,7 +5,7 @@ ghost use Rattle.std.specs.Prelude.{◌≡◌, ◌≤◌, ◌<◌, ◌+◌, ◌*
 ghost use Rattle.std.specs.Mem.{type_size};
 ghost use Rattle.std.specs.Option.{SomeIff};
 ghost use Rattle.amd_lent.specs.Pieces.{IsWhole};
-ghost use Rattle.amd_rounds.specs.Laid.{AreWideEnough};
+ghost use Rattle.amd_lists.specs.Sizes.{AreWideEnough};
 ghost use Rattle.amd_words.specs.contracts.Word.{the_row as word_row};
 ghost use Rattle.amd_words.specs.contracts.Cell.{the_row as cell_row};
 ghost use Rattle.amd_words.specs.contracts.sides.Sides.{the_row as sides_row};

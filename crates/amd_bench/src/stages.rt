@@ -6,7 +6,7 @@ ghost use Rattle.std.specs.Prelude.{◌≡◌, ◌≢◌, ◌<◌, ◌≤◌, �
 ghost use Rattle.std.specs.Option.{SomeIff};
 ghost use Rattle.amd_model.specs.Graph.{Graph};
 ghost use Rattle.amd_model.specs.Input.Columns.{IsInput, IsSortedInput};
-ghost use Rattle.amd_rounds.specs.Laid.{AreWideEnough};
+ghost use Rattle.amd_lists.specs.Sizes.{AreWideEnough};
 ghost use Rattle.amd_workspace.specs.Laying.{IsLaidOut};
 ghost use Rattle.amd_workspace.specs.Lists.{HasRoom};
 ghost use Rattle.amd_engine.specs.InPlace.{AreOver, LaysGraph};

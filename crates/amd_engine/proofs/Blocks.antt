@@ -8,7 +8,7 @@ use Rattle.amd_model.proofs.Counting.Below.{count_most}
 use Rattle.amd_model.specs.Run.{last_state}
 use Rattle.amd_model.specs.State.{is_element, in_block}
 use Rattle.amd_words.specs.Words.{num, word, is_place}
-use Rattle.amd_rounds.specs.Workspaces.{flipped}
+use Rattle.amd_rounds.specs.Views.{flipped}
 use Rattle.amd_workspace.specs.Ending.{block_in, named_word}
 use Rattle.amd_engine.specs.declared.rows.RowLists.{RowLists}
 use Rattle.amd_engine.specs.InPlace.{AreOver}

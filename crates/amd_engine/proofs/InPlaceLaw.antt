@@ -13,9 +13,10 @@ use Rattle.amd_model.proofs.States.RunsExist.{first_state, starts}
 use Rattle.amd_types.specs.declared.figures.Figures.{Figures}
 use Rattle.amd_words.specs.Words.{num}
 use Rattle.amd_lists.specs.Chains.{DegreeLists}
-use Rattle.amd_merging.specs.Merging.{bucket_count}
-use Rattle.amd_rounds.specs.Workspaces.{Workspace}
-use Rattle.amd_rounds.specs.Laid.{IsSized, IsLaid}
+use Rattle.amd_lists.specs.Sizes.{bucket_count}
+use Rattle.amd_lists.specs.Workspaces.{Workspace}
+use Rattle.amd_lists.specs.Sizes.{IsSized}
+use Rattle.amd_rounds.specs.Laid.{IsLaid}
 use Rattle.amd_rounds.proofs.Rounds.{StandsForSome}
 use Rattle.amd_rounds.specs.Keeps.{Stands, AreRounds, NoRowIsLive}
 use Rattle.amd_workspace.specs.Laying.{IsLaidOut}

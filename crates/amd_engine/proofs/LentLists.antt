@@ -7,7 +7,7 @@ use Rattle.amd_types.specs.Permutations.{AreInverse}
 use Rattle.amd_types.specs.declared.amd.Control.{Control}
 use Rattle.amd_types.specs.declared.amd.Info.{Info}
 use Rattle.amd_words.specs.Sides.{nexts, lasts}
-use Rattle.amd_merging.specs.Merging.{bucket_count}
+use Rattle.amd_lists.specs.Sizes.{bucket_count}
 use Rattle.amd_workspace.specs.Ending.{EndsRows}
 use Rattle.amd_workspace.specs.declared.lists.Lists.{Lists}
 use Rattle.amd_engine.specs.declared.rows.RowLists.{RowLists}

@@ -16,8 +16,8 @@ use Rattle.amd_words.specs.Sides.{nexts, lasts}
 use Rattle.amd_words.specs.Words.{num, word}
 use Rattle.amd_lists.specs.Layout.{list_in}
 use Rattle.amd_lists.specs.Lengths.{HasLinks}
-use Rattle.amd_merging.specs.Merging.{bucket_count}
-use Rattle.amd_rounds.specs.Workspaces.{Workspace}
+use Rattle.amd_lists.specs.Sizes.{bucket_count}
+use Rattle.amd_lists.specs.Workspaces.{Workspace}
 use Rattle.amd_rounds.specs.Keeps.{Stands}
 use Rattle.amd_listing.specs.Ended.{HasEnded, LinksAre, ListsEnded, Shortens}
 use Rattle.amd_workspace.specs.Ending.{EndsRows}

@@ -7,7 +7,7 @@ ghost use Rattle.amd_model.specs.Graph.{Graph};
 ghost use Rattle.amd_model.specs.Input.Held.{HasMarks};
 ghost use Rattle.amd_lending.specs.Views.{raised};
 ghost use Rattle.amd_words.specs.Words.{is_place, word};
-ghost use Rattle.amd_rounds.specs.Laid.{AreWideEnough};
+ghost use Rattle.amd_lists.specs.Sizes.{AreWideEnough};
 ghost use Rattle.amd_workspace.specs.Laying.{IsLaidOut};
 ghost use Rattle.amd_engine.specs.InPlace.{AnswersInPlace, CanRun, KeepsLaid, LaysGraph, rows_in, told_info};
 

@@ -6,7 +6,7 @@ ghost use Rattle.amd_words.specs.Words.{num};
 ghost use Rattle.amd_workspace.specs.Lists.{HasRoom, HasRows};
 ghost use Rattle.amd_engine.specs.InPlace.{AreFresh};
 
-use amd_merging::buckets::bucket_count;
+use amd_lists::work::bucket_count;
 use amd_types::index::Index;
 use amd_words::{Cell, Signed, Unsigned, cell_of};
 use amd_workspace::filling::{fill_cells, fill_sides, fill_words};

@@ -9,14 +9,14 @@ ghost use Rattle.amd_model.specs.Input.Held.{HasMarks};
 ghost use Rattle.amd_model.specs.Quotient.{QuotientGraph};
 ghost use Rattle.amd_model.specs.State.{State};
 ghost use Rattle.amd_rounds.specs.Keeps.{AreRounds, Stands};
-ghost use Rattle.amd_rounds.specs.Laid.{AreWideEnough, IsNarrow};
-ghost use Rattle.amd_rounds.specs.Workspaces.{KeepsLoans, workspace_of};
+ghost use Rattle.amd_lists.specs.Sizes.{AreWideEnough, IsNarrow};
+ghost use Rattle.amd_lists.specs.Workspaces.{KeepsLoans, workspace_of};
 ghost use Rattle.amd_engine.specs.InPlace.{AreOver, CanRun, KeepsRows, RunsInPlace, StandsAtStart, first_sums};
 ghost use Rattle.amd_engine.specs.InPlace.{workspace_in};
 
 use crate::rows::{Choice, RowLists};
+use amd_lists::work::Work;
 use amd_rounds::round::{eliminate, eliminate_within};
-use amd_rounds::work::Work;
 use amd_types::amd::Control;
 use amd_types::figures::Figures;
 use amd_words::{Signed, Unsigned, Word, word_of};

@@ -5,3 +5,4 @@ pub mod Spans
 pub mod Filtering
 pub mod PlainSums
 pub mod Renewing
+pub mod BucketCounts

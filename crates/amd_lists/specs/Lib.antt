@@ -4,3 +4,5 @@ pub mod Renewal
 pub mod Layout
 pub mod Lengths
 pub mod Spans
+pub mod Workspaces
+pub mod Sizes

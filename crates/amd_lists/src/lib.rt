@@ -5,3 +5,4 @@
 
 pub mod chains;
 pub mod renewal;
+pub mod work;

@@ -12,7 +12,8 @@ use Rattle.amd_model.specs.Quotient.{has}
 use Rattle.amd_model.proofs.Listings.Words.{has_none, has_head, has_tail, has_cases, has_append as in_parts, has_filter as filter_gives}
 use Rattle.amd_words.specs.Words.{num, word, place, rows, in_front, Names}
 use Rattle.amd_lists.specs.Chains.{Chain, DegreeLists}
-use Rattle.amd_merging.specs.Merging.{bucket_count, bucket_of}
+use Rattle.amd_lists.specs.Sizes.{bucket_count}
+use Rattle.amd_merging.specs.Merging.{bucket_of}
 use Rattle.amd_merging.specs.Restoring.{marked_in, put_all}
 use Rattle.amd_words.proofs.RowLists.{rows_more, rows_has, rows_part}
 use Rattle.amd_words.proofs.WordMarks.{rows_start, rows_next}

@@ -18,7 +18,8 @@ use Rattle.amd_round_laws.specs.Rounds.{alike_in}
 use Rattle.amd_lists.specs.Chains.{Chain}
 use Rattle.amd_merging.specs.Merging.{links, kept_of, words_of, IsRenewed, AreApart, IsMember, MergesInto, Pushes, Settles, IsReady}
 use Rattle.amd_lists.specs.Layout.{variables_in}
-use Rattle.amd_merging.specs.Merging.{MergesAll, IsHead, bucket_count, bucket_of}
+use Rattle.amd_lists.specs.Sizes.{bucket_count}
+use Rattle.amd_merging.specs.Merging.{MergesAll, IsHead, bucket_of}
 use Rattle.amd_lists.specs.Renewal.{key_of}
 use Rattle.amd_merging.proofs.BucketKeys.{bucket_small, bucket_same}
 use Rattle.amd_merging.proofs.BucketWalk.{links_is}

@@ -12,7 +12,8 @@ use Rattle.amd_lists.specs.Lengths.{row_count}
 use Rattle.amd_lists.specs.Renewal.{Filters}
 use Rattle.amd_merging.specs.Closing.{Closes}
 use Rattle.amd_merging.specs.FrontLists.{LongToMerge, LongToPlace, MergesList, PutsAll}
-use Rattle.amd_merging.specs.Merging.{bucket, bucket_count, bucket_of, kept_of, words_of, is_near, Finds, HasNone, HasSome, Settles}
+use Rattle.amd_lists.specs.Sizes.{bucket_count}
+use Rattle.amd_merging.specs.Merging.{bucket, bucket_of, kept_of, words_of, is_near, Finds, HasNone, HasSome, Settles}
 use Rattle.amd_merging.specs.Restoring.{bound_in, Restores}
 
 -- where some member of a bucket is near a class, the words of that class are marked with the flag, which rises by 1;

@@ -3,7 +3,8 @@ use Rattle.std.specs.Prelude.{ℕ, ℤ, true, false, List, ◌≡◌, ◌<◌, �
 use Rattle.amd_model.specs.Quotient.{has, Once}
 use Rattle.amd_words.specs.Words.{num, in_front, classes, rows, Names}
 use Rattle.amd_lists.specs.Chains.{DegreeLists}
-use Rattle.amd_merging.specs.Merging.{MergesAll, represents_in, bucket_count, bucket_of}
+use Rattle.amd_lists.specs.Sizes.{bucket_count}
+use Rattle.amd_merging.specs.Merging.{MergesAll, represents_in, bucket_of}
 use Rattle.amd_merging.specs.Restoring.{IsPlaceable, marked_in, bound_in, put_all}
 
 -- count words from a place on are a list of rows below n, each named once

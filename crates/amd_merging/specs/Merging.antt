@@ -7,6 +7,7 @@ use Rattle.amd_words.specs.Words.{num, is_place, place, word, start, size_of, in
 use Rattle.amd_lists.specs.Layout.{variables_in}
 use Rattle.amd_lists.specs.Renewal.{key_of}
 use Rattle.amd_lists.specs.Chains.{Chain}
+use Rattle.amd_lists.specs.Sizes.{bucket_count}
 use Rattle.amd_round_laws.specs.Rounds.{alike_in}
 
 -- the rows to which the links from x on lead, as many as the fuel at most
@@ -67,10 +68,6 @@ HasNone p members = (x : ℕ) → has members x ≡ true → p x ≡ false
 abbrev pub Finds : ℕ → (ℕ → Bool) → List ℕ → ℕ → Type 0
 Finds n p members r = ((r < n) × (has members r ≡ true) × (p r ≡ true)) ⊎
     ((r ≡ n) × ((x : ℕ) → has members x ≡ true → p x ≡ false))
-
--- how many buckets there are for n rows: one for each sixteen keys
-unfoldable pub bucket_count : ℕ → ℕ
-bucket_count n = (n + 15) / 16
 
 -- the bits of a sixteenth of a key that choose a bucket: the lowest ten for a front whose list has few words, so that
 -- the buckets in use stand close together, and all bits for another one

@@ -10,7 +10,8 @@ use Rattle.amd_lists.specs.Chains.{Chain}
 use Rattle.amd_lists.specs.Layout.{variables_in}
 use Rattle.amd_lists.specs.Lengths.{row_count}
 use Rattle.amd_merging.specs.FrontLists.{IsList, LongToMerge, LongToPlace, AreHeads, CanPlace, HasListsByBound}
-use Rattle.amd_merging.specs.Merging.{bucket, bucket_count, kept_of, IsRenewed, AreApart, AreRenewed, IsReady}
+use Rattle.amd_lists.specs.Sizes.{bucket_count}
+use Rattle.amd_merging.specs.Merging.{bucket, kept_of, IsRenewed, AreApart, AreRenewed, IsReady}
 use Rattle.amd_merging.specs.Restoring.{marked_in, IsPlaceable}
 
 -- rows are small enough to merge: for sizes, for links, and for cells

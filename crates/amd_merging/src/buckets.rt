@@ -1,20 +1,12 @@
-// The buckets in which classes alike are looked for. A front has few classes beside the rows of the matrix, and so
-// there is one bucket for each sixteen keys. Source: Amestoy, Davis and Duff 1996 (supervariables, found by a hash
-// function).
+// The buckets in which classes alike are looked for. Source: Amestoy, Davis and Duff 1996 (supervariables, found by a
+// hash function).
 
 ghost use Rattle.std.specs.Prelude.{◌<◌, ◌≡◌, length};
 ghost use Rattle.amd_words.specs.Sides.{lasts, nexts};
-ghost use Rattle.amd_merging.specs.Merging.{bucket_count, bucket_of};
+ghost use Rattle.amd_merging.specs.Merging.{bucket_of};
 
 use amd_words::Unsigned;
 use amd_words::sides::{Sides, last_at};
-
-/// How many buckets there are for so many rows.
-pub fn bucket_count(rows: usize) -> usize
-    ensures { result ≡ bucket_count rows }
-{
-    rows.div_ceil(16)
-}
 
 /// The bucket of a class of a front whose list has `count` words.
 pub fn bucket_at<U: Unsigned>(sides: &[Sides<U>], i: usize, count: usize) -> usize

@@ -7,7 +7,8 @@ ghost use Rattle.amd_words.specs.Sides.{lasts};
 ghost use Rattle.amd_words.specs.Words.{num};
 ghost use Rattle.amd_lists.specs.Lengths.{row_count};
 ghost use Rattle.amd_merging.specs.Effects.{PlacesClass, RestoresFront};
-ghost use Rattle.amd_merging.specs.Merging.{bucket_count, bucket_of};
+ghost use Rattle.amd_lists.specs.Sizes.{bucket_count};
+ghost use Rattle.amd_merging.specs.Merging.{bucket_of};
 ghost use Rattle.amd_merging.specs.Premises.{CanPlaceClass, CanRestore};
 
 use crate::buckets::bucket_at;

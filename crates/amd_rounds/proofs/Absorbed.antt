@@ -16,7 +16,8 @@ use Rattle.amd_lists.specs.Renewal.{is_kept, is_outside}
 use Rattle.amd_fronts.specs.Fronts.{is_done}
 use Rattle.amd_lists.proofs.Frames.{has_parts}
 use Rattle.amd_rounds.proofs.FrontLink.{counted_left}
-use Rattle.amd_rounds.specs.Workspaces.{Workspace, view_of, owner_of, is_flip}
+use Rattle.amd_lists.specs.Workspaces.{Workspace}
+use Rattle.amd_rounds.specs.Views.{view_of, owner_of, is_flip}
 use Rattle.amd_rounds.specs.Parts.{front_at}
 use Rattle.amd_rounds.proofs.Standing as standing
 use Rattle.amd_rounds.proofs.Settled.{settled_beyond}

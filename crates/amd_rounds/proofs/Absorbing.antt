@@ -21,7 +21,8 @@ use Rattle.amd_lists.specs.Layout.{elements_in}
 use Rattle.amd_lists.specs.Renewal.{is_kept, is_outside}
 use Rattle.amd_fronts.proofs.Counting.{ends_none}
 use Rattle.amd_rounds.proofs.FrontLink.{beyond_is}
-use Rattle.amd_rounds.specs.Workspaces.{Workspace, view_of, is_flip, flipped}
+use Rattle.amd_lists.specs.Workspaces.{Workspace}
+use Rattle.amd_rounds.specs.Views.{view_of, is_flip, flipped}
 use Rattle.amd_rounds.proofs.Standing as standing
 use Rattle.amd_rounds.proofs.Settled.{settled_beyond}
 use Rattle.amd_rounds.proofs.Halves.{HalfRound, front, count_of, ends_by, begins_here, counters_here, front_placed}

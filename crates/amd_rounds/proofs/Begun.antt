@@ -16,7 +16,7 @@ use Rattle.amd_elements.specs.Beginning.{Begins}
 use Rattle.amd_lists.specs.Renewal.{is_kept}
 use Rattle.amd_fronts.specs.Turning.{IsTurning}
 use Rattle.amd_elements.proofs.Touching.{else_me, begun_elements, begun_rows, begun_loses, begun_met, front_apart, front_once}
-use Rattle.amd_rounds.specs.Workspaces.{Workspace}
+use Rattle.amd_lists.specs.Workspaces.{Workspace}
 use Rattle.amd_rounds.specs.Keeps.{Stands, by_bound}
 use Rattle.amd_rounds.specs.Parts.{Picks, BeginsElement, front_at}
 use Rattle.amd_rounds.specs.Premises.{HasFront, CanTurn}

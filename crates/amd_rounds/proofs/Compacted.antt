@@ -16,7 +16,8 @@ use Rattle.amd_lists.proofs.Frames.{has_parts, reads_list, reads_elements, reads
 use Rattle.amd_elements.specs.Compaction.{Compacts, Packs}
 use Rattle.amd_elements.proofs.Moves.{packs}
 use Rattle.amd_model.proofs.Quotient.Lists.{some_of}
-use Rattle.amd_rounds.specs.Workspaces.{Workspace, owner_of, is_flip, is_over, view_of}
+use Rattle.amd_lists.specs.Workspaces.{Workspace}
+use Rattle.amd_rounds.specs.Views.{owner_of, is_flip, is_over, view_of}
 use Rattle.amd_rounds.specs.Laid.{IsLaid}
 use Rattle.amd_rounds.specs.Keeps.{Stands}
 use Rattle.amd_rounds.specs.Compacting.{is_live_list, Compacted}

@@ -11,7 +11,7 @@ use Rattle.amd_lists.specs.Layout.{rows_met}
 use Rattle.amd_lists.specs.Layout.{elements_in}
 use Rattle.amd_fronts.proofs.Counting.{counted_none}
 use Rattle.amd_elements.proofs.Touching.{front_once}
-use Rattle.amd_rounds.specs.Workspaces.{Workspace}
+use Rattle.amd_lists.specs.Workspaces.{Workspace}
 use Rattle.amd_rounds.proofs.Standing as standing
 use Rattle.amd_rounds.proofs.Settled.{settled_under, settled_zero}
 use Rattle.amd_rounds.proofs.Halves.{HalfRound, front, ends_by, front_here, counters_here, front_placed, pivot_placed, met_begun}

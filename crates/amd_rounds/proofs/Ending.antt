@@ -12,10 +12,11 @@ use Rattle.amd_model.proofs.Listings.Words.{filter_has, has_filter as filter_giv
 use Rattle.amd_words.specs.Words.{num, word, place, is_place, start, in_front, flip_of}
 use Rattle.amd_lists.specs.Layout.{has_list, end_of, Layout}
 use Rattle.amd_lists.specs.Chains.{without}
-use Rattle.amd_merging.specs.Merging.{words_of, bucket_count, bucket_of}
+use Rattle.amd_lists.specs.Sizes.{bucket_count}
+use Rattle.amd_merging.specs.Merging.{words_of, bucket_of}
 use Rattle.amd_merging.specs.Restoring.{marked_in, IsPlaceable}
 use Rattle.amd_lists.proofs.Frames.{has_parts, has_from, dropped}
-use Rattle.amd_rounds.specs.Workspaces.{Workspace}
+use Rattle.amd_lists.specs.Workspaces.{Workspace}
 use Rattle.amd_rounds.specs.Keeps.{by_bound}
 use Rattle.amd_rounds.specs.Parts.{LinksByBound, MergesFront, front_at}
 use Rattle.amd_rounds.specs.Premises.{HasFront, CanEnd}

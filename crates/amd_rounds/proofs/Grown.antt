@@ -6,7 +6,7 @@ use Rattle.amd_model.specs.Graph.{Graph}
 use Rattle.amd_model.specs.State.{State}
 use Rattle.amd_model.specs.Quotient.{QuotientGraph}
 use Rattle.amd_words.specs.Words.{word}
-use Rattle.amd_rounds.specs.Workspaces.{Workspace}
+use Rattle.amd_lists.specs.Workspaces.{Workspace}
 use Rattle.amd_rounds.specs.Keeps.{Stands, AreRounds}
 use Rattle.amd_rounds.proofs.Compacted.{StillReads, stands_same}
 

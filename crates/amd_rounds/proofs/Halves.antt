@@ -18,7 +18,7 @@ use Rattle.amd_fronts.specs.Fronts.{is_done, kept_in, near_in}
 use Rattle.amd_fronts.specs.Turning.{IsTurning}
 use Rattle.amd_fronts.proofs.FrontTurns.{left_me, left_front}
 use Rattle.amd_elements.proofs.Touching.{front_apart, begun_elements, begun_variables, begun_rows, begun_met}
-use Rattle.amd_rounds.specs.Workspaces.{Workspace}
+use Rattle.amd_lists.specs.Workspaces.{Workspace}
 use Rattle.amd_rounds.specs.Keeps.{Stands, by_bound}
 use Rattle.amd_rounds.specs.Parts.{Picks, BeginsElement, TurnsOver, front_at}
 use Rattle.amd_rounds.specs.Premises.{CanTurn}

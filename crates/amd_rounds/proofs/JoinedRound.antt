@@ -5,7 +5,7 @@ use Rattle.amd_model.specs.Graph.{Graph}
 use Rattle.amd_model.specs.State.{State}
 use Rattle.amd_model.specs.Step.{StepAt}
 use Rattle.amd_model.specs.Quotient.{QuotientGraph, is_empty, pivot, next}
-use Rattle.amd_rounds.specs.Workspaces.{Workspace}
+use Rattle.amd_lists.specs.Workspaces.{Workspace}
 use Rattle.amd_rounds.specs.Keeps.{Stands, IsRound, is_packed}
 use Rattle.amd_rounds.specs.Parts.{Picks, BeginsElement, TurnsOver, MergesFront, EndsFront}
 use Rattle.amd_rounds.proofs.Halves.{HalfRound}

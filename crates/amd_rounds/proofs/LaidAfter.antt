@@ -9,7 +9,7 @@ use Rattle.amd_model.specs.Quotient.{QuotientGraph, has}
 use Rattle.amd_words.specs.Words.{num, word, is_place, size_of, in_front}
 use Rattle.amd_lists.specs.Layout.{has_list, elements_in}
 use Rattle.amd_merging.specs.Restoring.{bound_in}
-use Rattle.amd_rounds.specs.Workspaces.{Workspace}
+use Rattle.amd_lists.specs.Workspaces.{Workspace}
 use Rattle.amd_rounds.specs.Laid.{IsLaid}
 use Rattle.amd_rounds.specs.Keeps.{is_packed}
 use Rattle.amd_rounds.specs.Parts.{MergesFront, EndsFront, front_at}

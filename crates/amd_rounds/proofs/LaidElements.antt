@@ -17,7 +17,8 @@ use Rattle.amd_lists.specs.Layout.{has_list, elements_in}
 use Rattle.amd_lists.specs.Renewal.{is_kept}
 use Rattle.amd_lists.proofs.Frames.{has_from}
 use Rattle.amd_words.proofs.RowLists.{rows_length}
-use Rattle.amd_rounds.specs.Workspaces.{Workspace, view_of}
+use Rattle.amd_lists.specs.Workspaces.{Workspace}
+use Rattle.amd_rounds.specs.Views.{view_of}
 use Rattle.amd_rounds.specs.Laid.{IsLaid}
 use Rattle.amd_rounds.specs.Parts.{MergesFront, EndsFront}
 use Rattle.amd_rounds.proofs.Standing as standing

@@ -21,7 +21,8 @@ use Rattle.amd_merging.specs.Merging.{kept_of, words_of, IsRenewed}
 use Rattle.amd_lists.specs.Renewal.{key_of}
 use Rattle.amd_lists.proofs.Frames.{dropped}
 use Rattle.amd_merging.proofs.MergeLink.{is_renewed, key_turned}
-use Rattle.amd_rounds.specs.Workspaces.{Workspace, view_of}
+use Rattle.amd_lists.specs.Workspaces.{Workspace}
+use Rattle.amd_rounds.specs.Views.{view_of}
 use Rattle.amd_rounds.specs.Parts.{front_at}
 use Rattle.amd_rounds.specs.Premises.{HasFront, CanMerge}
 use Rattle.amd_rounds.proofs.Standing as standing

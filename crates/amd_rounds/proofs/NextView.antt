@@ -10,7 +10,8 @@ use Rattle.amd_round_laws.proofs.Rounding.{Rounding}
 use Rattle.amd_round_laws.proofs.Round.Finding as finding
 use Rattle.amd_round_laws.proofs.Round.Turn.{Turn}
 use Rattle.amd_round_laws.proofs.Round.NextRound.{one_round}
-use Rattle.amd_rounds.specs.Workspaces.{Workspace, view_of}
+use Rattle.amd_lists.specs.Workspaces.{Workspace}
+use Rattle.amd_rounds.specs.Views.{view_of}
 use Rattle.amd_rounds.specs.Parts.{MergesFront}
 use Rattle.amd_rounds.proofs.Halves.{HalfRound, pivot_chosen, pivot_placed, pivot_least}
 use Rattle.amd_rounds.proofs.Relinked.{is_pivot}

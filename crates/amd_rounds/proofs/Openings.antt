@@ -8,7 +8,7 @@ use Rattle.amd_model.specs.Quotient.{QuotientGraph, is_empty}
 use Rattle.amd_model.proofs.Quotient.Lists.{some_of}
 use Rattle.amd_round_laws.proofs.Lists.Named.{none_sum}
 use Rattle.amd_lists.specs.Chains.{SomeFrom}
-use Rattle.amd_rounds.specs.Workspaces.{Workspace}
+use Rattle.amd_lists.specs.Workspaces.{Workspace}
 use Rattle.amd_rounds.specs.Keeps.{Stands, by_bound}
 use Rattle.amd_rounds.specs.Parts.{Picks, BeginsElement, TurnsOver, MergesFront, EndsFront}
 use Rattle.amd_rounds.specs.Premises.{CanBegin}

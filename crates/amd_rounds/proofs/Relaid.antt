@@ -16,7 +16,7 @@ use Rattle.amd_fronts.specs.Counts.{counter, ends}
 use Rattle.amd_lists.specs.Layout.{has_list, end_of, elements_in, variables_in, ReadsSame, live_words}
 use Rattle.amd_fronts.proofs.Counting.{ends_none}
 use Rattle.amd_lists.proofs.Frames.{has_same, reads_elements, reads_variables}
-use Rattle.amd_rounds.specs.Workspaces.{Workspace}
+use Rattle.amd_lists.specs.Workspaces.{Workspace}
 use Rattle.amd_rounds.specs.Parts.{MergesFront, EndsFront, front_at}
 use Rattle.amd_rounds.proofs.Standing as standing
 use Rattle.amd_rounds.proofs.Halves.{HalfRound, ends_by, begins_here, front_other, pivot_placed, left_pivot, left_class}

@@ -17,7 +17,8 @@ use Rattle.amd_words.specs.Words.{num, size_of, in_front}
 use Rattle.amd_lists.specs.Chains.{DegreeLists, without}
 use Rattle.amd_merging.specs.Restoring.{marked_in, bound_in, put_all}
 use Rattle.amd_lists.proofs.ChainLists.{lists_same}
-use Rattle.amd_rounds.specs.Workspaces.{Workspace, view_of}
+use Rattle.amd_lists.specs.Workspaces.{Workspace}
+use Rattle.amd_rounds.specs.Views.{view_of}
 use Rattle.amd_rounds.specs.Keeps.{by_bound}
 use Rattle.amd_rounds.specs.Parts.{MergesFront, EndsFront, front_at}
 use Rattle.amd_rounds.proofs.ByBound as by_bounds

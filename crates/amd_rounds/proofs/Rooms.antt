@@ -15,8 +15,9 @@ use Rattle.amd_elements.proofs.Beginnings.{begins_moved}
 use Rattle.amd_elements.proofs.MakingRoom.{rooms_packed, rooms_elements, rooms_known, rooms_front, front_few}
 use Rattle.amd_elements.proofs.Moves.{packs}
 use Rattle.amd_elements.proofs.Settling.{lists_laid}
-use Rattle.amd_rounds.specs.Workspaces.{Workspace}
-use Rattle.amd_rounds.specs.Laid.{IsLaid, IsNarrow}
+use Rattle.amd_lists.specs.Workspaces.{Workspace}
+use Rattle.amd_lists.specs.Sizes.{IsNarrow}
+use Rattle.amd_rounds.specs.Laid.{IsLaid}
 use Rattle.amd_rounds.specs.Parts.{BeginsElement, MakesRoom}
 use Rattle.amd_rounds.specs.Premises.{CanBegin}
 

@@ -8,7 +8,7 @@ use Rattle.amd_model.specs.Quotient.{QuotientGraph, gathered, pivot}
 use Rattle.amd_fronts.specs.Effects.{KeepsOrResets}
 use Rattle.amd_words.specs.Words.{num, start}
 use Rattle.amd_words.proofs.RowLists.{rows_length}
-use Rattle.amd_rounds.specs.Workspaces.{Workspace}
+use Rattle.amd_lists.specs.Workspaces.{Workspace}
 use Rattle.amd_rounds.specs.Keeps.{Stands, renewed_flag, compared_flag, RaisesFlagInRound}
 use Rattle.amd_rounds.specs.Parts.{Picks, BeginsElement, TurnsOver, RaisesFlag, MergesFront, EndsFront}
 use Rattle.amd_rounds.proofs.Halves.{HalfRound, front, most_stays}

@@ -23,7 +23,8 @@ use Rattle.amd_lists.specs.Renewal.{is_kept, is_outside}
 use Rattle.amd_lists.specs.Chains.{DegreeLists}
 use Rattle.amd_merging.specs.Restoring.{marked_in, bound_in}
 use Rattle.amd_lists.proofs.Frames.{has_same, reads_elements, reads_variables, reads_list}
-use Rattle.amd_rounds.specs.Workspaces.{Workspace, view_of, is_flip, flipped}
+use Rattle.amd_lists.specs.Workspaces.{Workspace}
+use Rattle.amd_rounds.specs.Views.{view_of, is_flip, flipped}
 use Rattle.amd_rounds.specs.Keeps.{by_bound}
 use Rattle.amd_rounds.specs.Parts.{MergesFront, EndsFront, front_at}
 use Rattle.amd_rounds.proofs.Standing as standing

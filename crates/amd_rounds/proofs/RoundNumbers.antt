@@ -12,7 +12,7 @@ use Rattle.amd_model.proofs.Listings.Words.{has_head, has_tail}
 use Rattle.amd_words.specs.Words.{word, place, start, size_of}
 use Rattle.amd_lists.specs.Layout.{elements_in}
 use Rattle.amd_words.proofs.RowLists.{rows_length}
-use Rattle.amd_rounds.specs.Workspaces.{Workspace}
+use Rattle.amd_lists.specs.Workspaces.{Workspace}
 use Rattle.amd_rounds.specs.Keeps.{is_packed}
 use Rattle.amd_rounds.specs.Parts.{MergesFront, EndsFront}
 use Rattle.amd_rounds.proofs.Standing as standing

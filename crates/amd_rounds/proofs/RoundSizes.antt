@@ -13,7 +13,8 @@ use Rattle.amd_round_laws.proofs.Round.Finding as finding
 use Rattle.amd_words.specs.Words.{num, word, size_of, rows_in}
 use Rattle.amd_lists.specs.Renewal.{is_kept, is_outside}
 use Rattle.amd_fronts.specs.Fronts.{is_done}
-use Rattle.amd_rounds.specs.Workspaces.{Workspace, view_of}
+use Rattle.amd_lists.specs.Workspaces.{Workspace}
+use Rattle.amd_rounds.specs.Views.{view_of}
 use Rattle.amd_rounds.specs.Parts.{MergesFront}
 use Rattle.amd_rounds.proofs.Halves.{HalfRound, front, kept_lists, ended_in, begins_here, front_begun, front_here, block_here}
 use Rattle.amd_rounds.proofs.Halves.{total_here, live_stays, pivot_placed, pivot_least}

@@ -8,7 +8,8 @@ use Rattle.amd_model.specs.Ordering.{Follows, none, more}
 use Rattle.amd_model.proofs.Listings.Orderings.{follows_more}
 use Rattle.amd_rounds.specs.declared.work.Work.{Work}
 use Rattle.amd_round_laws.proofs.Round.Ended.{no_row_is_live}
-use Rattle.amd_rounds.specs.Workspaces.{Workspace, KeepsLoans, view_of}
+use Rattle.amd_lists.specs.Workspaces.{Workspace, KeepsLoans}
+use Rattle.amd_rounds.specs.Views.{view_of}
 use Rattle.amd_rounds.specs.Keeps.{Stands, IsRound, AreRounds, NoRowIsLive}
 
 pub rounds_none : {aggressive : Bool} {p : Workspace} → AreRounds aggressive p p

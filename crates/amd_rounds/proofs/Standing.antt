@@ -27,7 +27,8 @@ use Rattle.amd_elements.specs.Element.{front_of}
 use Rattle.amd_lists.specs.Layout.{elements_in, variables_in}
 use Rattle.amd_elements.specs.Making.{IsTouched}
 use Rattle.amd_rounds.proofs.FrontLink.{front_gathered}
-use Rattle.amd_rounds.specs.Workspaces.{Workspace, owner_of, is_flip, is_over, flipped, view_of}
+use Rattle.amd_lists.specs.Workspaces.{Workspace}
+use Rattle.amd_rounds.specs.Views.{owner_of, is_flip, is_over, flipped, view_of}
 use Rattle.amd_rounds.specs.Keeps.{Stands}
 use Rattle.amd_rounds.specs.Premises.{CanBegin}
 use Rattle.amd_rounds.proofs.Neighbours.{neighbours_back}

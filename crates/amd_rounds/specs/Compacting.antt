@@ -6,7 +6,7 @@ use Rattle.amd_model.specs.State.{State, is_class, stands}
 use Rattle.amd_model.specs.Quotient.{QuotientGraph}
 use Rattle.amd_words.specs.Words.{num, word, is_place, start}
 use Rattle.amd_lists.specs.Layout.{end_of}
-use Rattle.amd_rounds.specs.Workspaces.{Workspace}
+use Rattle.amd_lists.specs.Workspaces.{Workspace}
 use Rattle.amd_rounds.specs.Keeps.{Stands}
 
 -- the row j is a class or a standing element, so that its list is live

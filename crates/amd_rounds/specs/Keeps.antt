@@ -11,7 +11,8 @@ use Rattle.amd_round_laws.specs.Keeps as views
 use Rattle.amd_words.specs.Words.{num}
 use Rattle.amd_lists.specs.Chains.{DegreeLists}
 use Rattle.amd_lists.specs.Layout.{has_list}
-use Rattle.amd_rounds.specs.Workspaces.{Workspace, view_of}
+use Rattle.amd_lists.specs.Workspaces.{Workspace}
+use Rattle.amd_rounds.specs.Views.{view_of}
 use Rattle.amd_rounds.specs.Laid.{IsLaid}
 
 -- the classes of each bound, the one that was placed last first

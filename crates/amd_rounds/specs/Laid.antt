@@ -3,31 +3,8 @@ use Rattle.std.specs.Prelude.{ℕ, true, false, ◌≡◌, ◌<◌, ◌≤◌, �
 use Rattle.amd_model.specs.Quotient.{has}
 use Rattle.amd_words.specs.Words.{num, word, is_place, size_of, in_front}
 use Rattle.amd_lists.specs.Layout.{has_list, elements_in, Layout, live_words}
-use Rattle.amd_merging.specs.Merging.{bucket_count}
-use Rattle.amd_rounds.specs.Workspaces.{Workspace}
-
--- there is a place for each of n rows in each list of numbers, and one for each bucket
-pub record IsSized (n : ℕ) (p : Workspace) : Type 0 where
-  pub pe : length p.pe ≡ n
-  pub e_len : length p.e_len ≡ n
-  pub nv : length p.nv ≡ n
-  pub len : length p.len ≡ n
-  pub degree : length p.degree ≡ n
-  pub w : length p.w ≡ n
-  pub head : length p.head ≡ n
-  pub next : length p.next ≡ n
-  pub last : length p.last ≡ n
-  pub hash : length p.hash ≡ bucket_count n
-
--- words, places and cells of these greatest numbers hold all that an elimination of n rows in iwlen words has: a word a row
--- or a mark that names one, a place each word, a cell both
-abbrev pub AreWideEnough : ℕ → ℕ → ℕ → ℕ → ℕ → Type 0
-AreWideEnough most_word most_place most_cell n iwlen = (iwlen ≤ most_place) × (iwlen ≤ most_cell) × (n + 2 ≤ most_word)
-    × (n + 2 ≤ most_cell) × (most_word ≤ most_place)
-
--- so they do for this workspace
-abbrev pub IsNarrow : ℕ → ℕ → ℕ → ℕ → Workspace → Type 0
-IsNarrow most_word most_place most_cell n p = AreWideEnough most_word most_place most_cell n (length p.iw)
+use Rattle.amd_lists.specs.Sizes.{bucket_count}
+use Rattle.amd_lists.specs.Workspaces.{Workspace}
 
 -- the lists of n rows have no more than nzaat words; each class and what it lists as elements have a list; counters are
 -- below the flag, and above 0 for what has a list; buckets are empty, and nothing is marked

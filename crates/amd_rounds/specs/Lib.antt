@@ -1,5 +1,5 @@
 -- What the rounds of an elimination in one workspace promise. The model that they follow stands in the crate amd_model.
-pub mod Workspaces
+pub mod Views
 pub mod Laid
 pub mod Keeps
 pub mod Compacting

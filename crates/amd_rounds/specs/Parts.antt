@@ -13,11 +13,12 @@ use Rattle.amd_lists.specs.Chains.{DegreeLists, Chooses, without}
 use Rattle.amd_elements.specs.Beginning.{Begins}
 use Rattle.amd_fronts.specs.Effects.{KeepsOrResets}
 use Rattle.amd_fronts.specs.Turning.{TurnsFront}
-use Rattle.amd_merging.specs.Merging.{MergesAll, represents_in, bucket_count, bucket_of}
+use Rattle.amd_lists.specs.Sizes.{bucket_count}
+use Rattle.amd_merging.specs.Merging.{MergesAll, represents_in, bucket_of}
 use Rattle.amd_merging.specs.Restoring.{marked_in, bound_in, put_all, Restores}
 use Rattle.amd_merging.specs.Closing.{Closes}
-use Rattle.amd_rounds.specs.Workspaces.{Workspace}
-use Rattle.amd_rounds.specs.Laid.{IsSized}
+use Rattle.amd_lists.specs.Workspaces.{Workspace}
+use Rattle.amd_lists.specs.Sizes.{IsSized}
 
 -- the lists by bound of a workspace are these
 abbrev pub LinksByBound : ℕ → Workspace → (ℕ → List ℕ) → Type 0

@@ -6,9 +6,10 @@ use Rattle.amd_elements.specs.Element.{front_of}
 use Rattle.amd_lists.specs.Layout.{has_list, end_of, elements_in, Layout}
 use Rattle.amd_lists.specs.Layout.{rows_met}
 use Rattle.amd_fronts.specs.Turning.{IsTurning}
-use Rattle.amd_merging.specs.Merging.{AreRenewed, bucket_count, bucket_of}
+use Rattle.amd_lists.specs.Sizes.{bucket_count}
+use Rattle.amd_merging.specs.Merging.{AreRenewed, bucket_of}
 use Rattle.amd_merging.specs.Restoring.{marked_in, IsPlaceable}
-use Rattle.amd_rounds.specs.Workspaces.{Workspace}
+use Rattle.amd_lists.specs.Workspaces.{Workspace}
 use Rattle.amd_rounds.specs.Parts.{LinksByBound, front_at}
 
 -- a class can become an element: it lists no element twice, and not itself

@@ -6,4 +6,3 @@
 pub mod packing;
 pub mod pivot;
 pub mod round;
-pub mod work;

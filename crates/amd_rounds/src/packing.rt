@@ -4,11 +4,12 @@
 ghost use Rattle.std.specs.Prelude.{ℕ, ◌≡◌, length};
 ghost use Rattle.amd_elements.specs.Compaction.{Compacts};
 ghost use Rattle.amd_rounds.specs.Compacting.{IsCompacted};
-ghost use Rattle.amd_rounds.specs.Laid.{IsLaid, IsNarrow};
-ghost use Rattle.amd_rounds.specs.Workspaces.{KeepsLoans, workspace_of};
+ghost use Rattle.amd_lists.specs.Sizes.{IsNarrow};
+ghost use Rattle.amd_rounds.specs.Laid.{IsLaid};
+ghost use Rattle.amd_lists.specs.Workspaces.{KeepsLoans, workspace_of};
 
-use crate::work::Work;
 use amd_elements::compaction::compact as pack;
+use amd_lists::work::Work;
 use amd_words::{Signed, Unsigned};
 
 /// Packs the lists of the workspace: what it stands for stays, and the words before the free end are exactly those of

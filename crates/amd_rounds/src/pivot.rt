@@ -5,16 +5,17 @@
 ghost use Rattle.std.specs.Prelude.{ℕ, ◌<◌, ◌≡◌, pos, length, true};
 ghost use Rattle.amd_words.specs.Words.{is_place, place, word};
 ghost use Rattle.amd_lists.specs.Chains.{SomeFrom};
-ghost use Rattle.amd_rounds.specs.Laid.{IsLaid, IsNarrow, IsSized};
+ghost use Rattle.amd_lists.specs.Sizes.{IsNarrow, IsSized};
+ghost use Rattle.amd_rounds.specs.Laid.{IsLaid};
 ghost use Rattle.amd_rounds.specs.Parts.{BeginsElement, MakesRoom, Picks};
 ghost use Rattle.amd_rounds.specs.Premises.{CanBegin};
-ghost use Rattle.amd_rounds.specs.Workspaces.{KeepsLoans, workspace_of};
+ghost use Rattle.amd_lists.specs.Workspaces.{KeepsLoans, workspace_of};
 
 use crate::packing::compact;
-use crate::work::Work;
 use amd_elements::beginning::{begin_built, begin_own};
 use amd_elements::fitting::has_room;
 use amd_lists::chains::choose;
+use amd_lists::work::Work;
 use amd_words::words::named;
 use amd_words::{Cell, Signed, Unsigned, Word};
 

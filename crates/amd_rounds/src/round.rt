@@ -9,15 +9,15 @@ ghost use Rattle.amd_model.specs.Quotient.{QuotientGraph};
 ghost use Rattle.amd_model.specs.State.{State};
 ghost use Rattle.amd_words.specs.Words.{is_place, num, start, word};
 ghost use Rattle.amd_rounds.specs.Keeps.{AreRounds, IsRound, NoRowIsLive, RaisesFlagInRound, Stands};
-ghost use Rattle.amd_rounds.specs.Laid.{IsNarrow, IsSized};
+ghost use Rattle.amd_lists.specs.Sizes.{IsNarrow, IsSized};
 ghost use Rattle.amd_rounds.specs.Parts.{EndsFront, MergesFront, RaisesFlag, TurnsOver};
 ghost use Rattle.amd_rounds.specs.Premises.{CanEnd, CanMerge, CanTurn};
-ghost use Rattle.amd_rounds.specs.Workspaces.{KeepsLoans, workspace_of};
+ghost use Rattle.amd_lists.specs.Workspaces.{KeepsLoans, workspace_of};
 
 use crate::pivot::{begin, pick};
-use crate::work::Work;
 use amd_fronts::outside::renew_flag;
 use amd_fronts::turning::turn;
+use amd_lists::work::Work;
 use amd_merging::closing::close;
 use amd_merging::merging::merge_front;
 use amd_merging::restoring::restore;

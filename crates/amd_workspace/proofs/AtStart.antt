@@ -15,7 +15,8 @@ use Rattle.amd_words.specs.Words.{num}
 use Rattle.amd_lists.specs.Layout.{has_list, list_in}
 use Rattle.amd_lists.specs.Chains.{DegreeLists}
 use Rattle.amd_lists.proofs.ChainLists.{lists_same}
-use Rattle.amd_rounds.specs.Workspaces.{Workspace, view_of}
+use Rattle.amd_lists.specs.Workspaces.{Workspace}
+use Rattle.amd_rounds.specs.Views.{view_of}
 use Rattle.amd_rounds.specs.Laid.{IsLaid}
 use Rattle.amd_rounds.specs.Keeps.{Stands, by_bound}
 use Rattle.amd_workspace.specs.Starting.{Rows, begins_class, classes_of}

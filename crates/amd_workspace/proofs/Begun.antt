@@ -13,9 +13,11 @@ use Rattle.amd_model.proofs.Listings.Words.{has_none}
 use Rattle.amd_round_laws.specs.Starts.{class_of, starting_block, IsBegun}
 use Rattle.amd_words.specs.Words.{num, word, place, is_place, start, size_of, is_negative, rows_in, rows, flip_of}
 use Rattle.amd_lists.specs.Layout.{has_list, end_of, elements_in, variables_in, list_in, Layout, live_words}
-use Rattle.amd_merging.specs.Merging.{bucket_count}
-use Rattle.amd_rounds.specs.Workspaces.{Workspace, owner_of, is_flip, is_over, flipped, view_of}
-use Rattle.amd_rounds.specs.Laid.{IsSized, IsLaid}
+use Rattle.amd_lists.specs.Sizes.{bucket_count}
+use Rattle.amd_lists.specs.Workspaces.{Workspace}
+use Rattle.amd_rounds.specs.Views.{owner_of, is_flip, is_over, flipped, view_of}
+use Rattle.amd_lists.specs.Sizes.{IsSized}
+use Rattle.amd_rounds.specs.Laid.{IsLaid}
 use Rattle.amd_rounds.proofs.Standing.{flip_is, over_is, place_is}
 use Rattle.amd_workspace.specs.Starting.{Rows, BeginsRows, begins_class}
 

@@ -4,7 +4,7 @@ use Rattle.std.proofs.Common.{arith, unsigned_abs}
 use Rattle.std.specs.Prelude.{int_lt}
 use Rattle.std.proofs.lemmas.Int.{ints}
 use Rattle.amd_words.specs.Words.{flip_of}
-use Rattle.amd_rounds.specs.Workspaces.{is_flip, flipped}
+use Rattle.amd_rounds.specs.Views.{is_flip, flipped}
 use Rattle.amd_rounds.proofs.Standing.{flip_is}
 use Rattle.amd_workspace.specs.Ending.{named_word}
 

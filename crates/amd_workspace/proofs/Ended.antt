@@ -14,7 +14,8 @@ use Rattle.amd_types.specs.Links.{named}
 use Rattle.amd_round_laws.specs.Keeps.{LinksLead}
 use Rattle.amd_words.specs.Words.{num, word, is_place, rows_in, size_of}
 use Rattle.amd_words.proofs.Signs.{rows_of, is_place_of}
-use Rattle.amd_rounds.specs.Workspaces.{Workspace, view_of, owner_of, is_flip, is_over, flipped}
+use Rattle.amd_lists.specs.Workspaces.{Workspace}
+use Rattle.amd_rounds.specs.Views.{view_of, owner_of, is_flip, is_over, flipped}
 use Rattle.amd_rounds.specs.Keeps.{Stands}
 use Rattle.amd_rounds.proofs.Standing.{over_is, flip_no_place, some_cond}
 use Rattle.amd_rounds.proofs.RoundFields.{class_word}

@@ -1,7 +1,7 @@
 -- What the end of an elimination in one workspace leaves, row by row.
 use Rattle.std.specs.Prelude.{ℕ, ℤ, pos, negsuc, zero, suc, List, ◌≡◌, ◌<◌, ◌-◌, cond, nat_lt}
 use Rattle.amd_words.specs.Words.{num, word, is_place}
-use Rattle.amd_rounds.specs.Workspaces.{is_flip, flipped}
+use Rattle.amd_rounds.specs.Views.{is_flip, flipped}
 
 -- the row that a mark names, and -1 for any other word
 unfoldable pub named_word : ℤ → ℤ

@@ -1,7 +1,7 @@
 -- The memory of an elimination: how much room its lists have, and that they keep it.
 use Rattle.std.specs.Prelude.{ℕ, ◌≤◌}
 use Rattle.std.specs.Vec.{vec_capacity}
-use Rattle.amd_merging.specs.Merging.{bucket_count}
+use Rattle.amd_lists.specs.Sizes.{bucket_count}
 use Rattle.amd_workspace.specs.declared.lists.Words.{Words}
 use Rattle.amd_workspace.specs.declared.lists.Lists.{Lists}
 use Rattle.amd_workspace.specs.declared.lists.Memory.{Memory}

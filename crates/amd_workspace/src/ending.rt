@@ -5,7 +5,7 @@
 ghost use Rattle.std.specs.Prelude.{ℕ, ◌≡◌, ◌<◌, ◌≤◌, ◌<ℤ◌, pos, negsuc, cond, nat_lt, length, slice_set};
 ghost use Rattle.std.specs.Prelude.{unsigned_abs};
 ghost use Rattle.amd_words.specs.Words.{num, word, is_place, flip_of};
-ghost use Rattle.amd_rounds.specs.Workspaces.{flipped};
+ghost use Rattle.amd_rounds.specs.Views.{flipped};
 ghost use Rattle.amd_workspace.specs.Ending.{block_in, named_word, EndsRows};
 
 use amd_words::words::{names_one, put_row};

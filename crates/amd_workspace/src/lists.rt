@@ -5,7 +5,7 @@
 ghost use Rattle.std.specs.Prelude.{IfOk};
 ghost use Rattle.amd_workspace.specs.Lists.{HasRoom, HasRoomBeside, HasRows};
 
-use amd_merging::buckets::bucket_count;
+use amd_lists::work::bucket_count;
 use amd_words::sides::Sides;
 use amd_words::{Cell, Signed, Unsigned, Word};
 use std::alloc::{AllocError, Allocator};

@@ -1,5 +1,5 @@
 use Rattle.std.proofs.Common.{le_of_eq, le_trans, sym}
-use Rattle.amd_merging.proofs.BucketKeys.{buckets_few}
+use Rattle.amd_lists.proofs.BucketCounts.{buckets_few}
 use Rattle.amd.proofs.Parts.{pairs_fit}
 use Rattle.amd.proofs.lent.lists_in.Goals as goal
 

@@ -1,7 +1,7 @@
 use Rattle.std.proofs.Common.{◌≡◌, ◌∙◌, inl, inr, arith, length, sym}
 use Rattle.std.proofs.lemmas.Bool.{cases_eq}
 use Rattle.std.specs.Option.{option_copied}
-use Rattle.amd_rounds.specs.Workspaces.{Workspace}
+use Rattle.amd_lists.specs.Workspaces.{Workspace}
 use Rattle.amd_rounds.proofs.Rounds.{none_live}
 use Rattle.amd_engine.specs.InPlace.{StandsAtStart, workspace_in}
 use Rattle.amd_engine.proofs.InPlaceLaw.{start_some, runs_in_place, packs_few, are_over}

@@ -3,7 +3,7 @@ use Rattle.std.proofs.lemmas.List.{take_at, length-append}
 use Rattle.std.specs.Option.{option_copied}
 use Rattle.amd_model.specs.Run.{last_state}
 use Rattle.amd_model.specs.Input.Held.{is_held_last}
-use Rattle.amd_rounds.specs.Workspaces.{Workspace}
+use Rattle.amd_lists.specs.Workspaces.{Workspace}
 use Rattle.amd_rounds.proofs.Rounds.{rounds_none, rounds_then, none_live, StandsForSome}
 use Rattle.amd_rounds.proofs.Grown.{stands_grown, rounds_grown}
 use Rattle.amd_engine.specs.InPlace.{workspace_in}

@@ -3,7 +3,8 @@ use borrow.Author.Count.{falls_down}
 use Rattle.std.proofs.Common.{ℕ, List, refl, sym, ap, subst, ◌∙◌, ◌+◌, ◌-◌, ◌≤◌, arith, length}
 use Rattle.amd_words.specs.Words.{num, classes, rows}
 use Rattle.amd_round_laws.specs.Rounds.{alike_in}
-use Rattle.amd_merging.specs.Merging.{MergesAll, bucket_count, kept_of, represents_in}
+use Rattle.amd_lists.specs.Sizes.{bucket_count}
+use Rattle.amd_merging.specs.Merging.{MergesAll, kept_of, represents_in}
 use Rattle.amd_lists.specs.Layout.{variables_in}
 use Rattle.amd_merging.proofs.FewMerged.{few_merged}
 use Rattle.amd_merging.proofs.MergeEnds.{made_is, made_from, still_linked}

@@ -13,7 +13,8 @@ use Rattle.amd_round_laws.proofs.Lists.Cuts.{cut_small}
 use Rattle.amd_words.specs.Words.{num, word, place, is_place, size_of, in_front, rows, Names}
 use Rattle.amd_lists.specs.Chains.{DegreeLists}
 use Rattle.amd_lists.specs.Renewal.{Filters}
-use Rattle.amd_merging.specs.Merging.{bucket_count, bucket_of}
+use Rattle.amd_lists.specs.Sizes.{bucket_count}
+use Rattle.amd_merging.specs.Merging.{bucket_of}
 use Rattle.amd_merging.specs.Restoring.{marked_in, bound_in, put_all, Restores}
 use Rattle.amd_merging.proofs.BucketKeys.{bucket_small, bucket_same}
 use Rattle.amd_words.proofs.RowLists.{rows_has}

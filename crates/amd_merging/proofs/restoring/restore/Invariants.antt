@@ -5,7 +5,7 @@ use Rattle.amd_model.specs.Quotient.{has}
 use Rattle.amd_words.specs.Words.{num, in_front, rows}
 use Rattle.amd_lists.specs.Chains.{DegreeLists}
 use Rattle.amd_lists.specs.Renewal.{Filters}
-use Rattle.amd_merging.specs.Merging.{bucket_count}
+use Rattle.amd_lists.specs.Sizes.{bucket_count}
 use Rattle.amd_merging.specs.Restoring.{marked_in, bound_in, put_all, Restores}
 use Rattle.amd_merging.proofs.FrontBack.{Emptying}
 use Rattle.amd_merging.proofs.restoring.restore.Given as goal

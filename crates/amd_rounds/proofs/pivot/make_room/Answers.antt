@@ -1,6 +1,6 @@
 use Rattle.std.proofs.Common.{◌≡◌, sym, ◌∙◌}
 use Rattle.amd_elements.specs.Compaction.{Compacts}
-use Rattle.amd_rounds.specs.Workspaces.{workspace_of}
+use Rattle.amd_lists.specs.Workspaces.{workspace_of}
 use Rattle.amd_rounds.proofs.Rooms.{room_packed}
 use Rattle.amd_rounds.proofs.pivot.make_room.Goals as goal
 

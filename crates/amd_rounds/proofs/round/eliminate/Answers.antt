@@ -1,6 +1,6 @@
 use Rattle.std.proofs.Common.{◌≡◌, inl, inr, arith}
 use Rattle.std.proofs.lemmas.Bool.{cases_eq}
-use Rattle.amd_rounds.specs.Workspaces.{workspace_of}
+use Rattle.amd_lists.specs.Workspaces.{workspace_of}
 use Rattle.amd_rounds.proofs.Rounds.{none_live}
 use Rattle.amd_rounds.proofs.round.eliminate.Goals.{After-eliminate_within}
 use Rattle.amd_rounds.proofs.round.eliminate.Given.{Over}

@@ -1,5 +1,5 @@
 use Rattle.std.specs.Prelude.{◌≡◌, ◌<◌, ◌⊎◌, length}
-use Rattle.amd_rounds.specs.Workspaces.{workspace_of, KeepsLoans}
+use Rattle.amd_lists.specs.Workspaces.{workspace_of, KeepsLoans}
 use Rattle.amd_rounds.specs.Keeps.{AreRounds}
 use Rattle.amd_rounds.proofs.Rounds.{StandsForSome}
 use Rattle.amd_rounds.proofs.round.eliminate_within.Given as goal

@@ -9,10 +9,10 @@ use Rattle.amd_merging.specs.Closing.{Closes}
 use Rattle.amd_merging.specs.Premises.{CanRestore}
 use Rattle.amd_merging.specs.Effects.{RestoresFront}
 use Rattle.amd_lists.specs.Renewal.{Filters}
-use Rattle.amd_merging.specs.Merging.{bucket_count}
+use Rattle.amd_lists.specs.Sizes.{bucket_count}
 use Rattle.amd_merging.specs.Restoring.{marked_in, bound_in, put_all, IsPlaceable}
 use Rattle.amd_rounds.specs.Parts.{front_at}
-use Rattle.amd_rounds.specs.Workspaces.{workspace_of}
+use Rattle.amd_lists.specs.Workspaces.{workspace_of}
 use Rattle.amd_rounds.proofs.Fronts.{other_degree, not_placed, ends_before}
 use Rattle.amd_rounds.proofs.round.end_front.Goals.{then-is_built, else-is_built}
 use Rattle.amd_rounds.proofs.round.end_front.Goals as goal

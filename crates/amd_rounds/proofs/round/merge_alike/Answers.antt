@@ -4,11 +4,12 @@ use Rattle.std.proofs.Common.{◌+◌}
 use Rattle.amd_words.specs.Words.{classes, num, start}
 use Rattle.amd_merging.specs.Premises.{CanMergeFront}
 use Rattle.amd_merging.specs.Effects.{MergesClasses}
-use Rattle.amd_merging.specs.Merging.{AreRenewed, bucket_count}
+use Rattle.amd_lists.specs.Sizes.{bucket_count}
+use Rattle.amd_merging.specs.Merging.{AreRenewed}
 use Rattle.amd_fronts.specs.Effects.{KeepsOrResets}
 use Rattle.amd_lists.specs.Chains.{DegreeLists}
 use Rattle.amd_rounds.specs.Parts.{front_at}
-use Rattle.amd_rounds.specs.Workspaces.{workspace_of}
+use Rattle.amd_lists.specs.Workspaces.{workspace_of}
 use Rattle.amd_rounds.proofs.Fronts.{front_count}
 use Rattle.amd_rounds.proofs.Renewed.{renewed_zeros}
 use Rattle.amd_rounds.proofs.round.merge_alike.Goals as goal

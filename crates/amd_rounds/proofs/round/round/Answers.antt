@@ -1,6 +1,6 @@
 use Rattle.std.proofs.Common.{◌<◌, ◌+◌, ◌-◌, ◌^◌, sym, subst, ◌∙◌, arith}
 use Rattle.amd_lists.specs.Chains.{SomeFrom}
-use Rattle.amd_rounds.specs.Workspaces.{workspace_of}
+use Rattle.amd_lists.specs.Workspaces.{workspace_of}
 use Rattle.amd_rounds.specs.Premises.{CanBegin, CanTurn, CanMerge, CanEnd}
 use Rattle.amd_rounds.proofs.Openings.{some_row, pivot_begins, half, picks_of, begins_of, merges_of, ends_of}
 use Rattle.amd_rounds.proofs.Turned.{gone_is}

@@ -3,7 +3,7 @@ use Rattle.std.proofs.Common.{ℕ, ◌≡◌, arith, refl, ap, ◌∙◌, below_
 use Rattle.std.proofs.Common.{◌-◌}
 use Rattle.std.specs.Prelude.{nat_lt}
 use Rattle.amd_words.specs.Words.{num, word, is_place}
-use Rattle.amd_rounds.specs.Workspaces.{is_flip, flipped}
+use Rattle.amd_rounds.specs.Views.{is_flip, flipped}
 use Rattle.amd_workspace.specs.Ending.{named_word}
 use Rattle.amd_workspace.proofs.ending.end_rows.Goals as goal
 

@@ -3,7 +3,7 @@ use Rattle.std.proofs.Common.{rules, ℤ, negsuc, false, ◌≡◌, ◌∙◌, a
 use Rattle.std.specs.Prelude.{int_lt}
 use Rattle.std.proofs.lemmas.Int.{to_z-of_z}
 use Rattle.amd_words.specs.Words.{flip_of}
-use Rattle.amd_rounds.specs.Workspaces.{flipped}
+use Rattle.amd_rounds.specs.Views.{flipped}
 use Rattle.amd_workspace.proofs.EndWords.{mark_told, plain_told}
 use Rattle.amd_workspace.proofs.ending.front_in.Goals as goal
 

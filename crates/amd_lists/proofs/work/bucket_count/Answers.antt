@@ -1,6 +1,6 @@
 use Rattle.std.proofs.Common.{arith}
-use Rattle.amd_merging.specs.Merging.{bucket_count}
-use Rattle.amd_merging.proofs.buckets.bucket_count.Goals as goal
+use Rattle.amd_lists.specs.Sizes.{bucket_count}
+use Rattle.amd_lists.proofs.work.bucket_count.Goals as goal
 
 pub returns : goal.returns
 unfolding bucket_count

@@ -1,5 +1,8 @@
 // What an elimination in one workspace keeps between two rounds: borrowed slices, and some numbers. Source: Amestoy,
-// Davis and Duff 1996 and 2004 (the arrays of the quotient graph). Changed by `round`.
+// Davis and Duff 1996 and 2004 (the arrays of the quotient graph).
+
+ghost use Rattle.std.specs.Prelude.{◌≡◌};
+ghost use Rattle.amd_lists.specs.Sizes.{bucket_count};
 
 use amd_types::figures::Figures;
 use amd_words::sides::Sides;
@@ -52,4 +55,12 @@ pub struct Work<'a, 'b, S: Signed, P: Signed, U: Unsigned> {
     pub n_dense: usize,
     /// The figures of the fronts so far.
     pub figures: Figures,
+}
+
+/// How many buckets there are for so many rows. A front has few classes beside the rows of the matrix, and so there is
+/// one bucket for each sixteen keys.
+pub fn bucket_count(rows: usize) -> usize
+    ensures { result ≡ bucket_count rows }
+{
+    rows.div_ceil(16)
 }
