@@ -6,6 +6,7 @@ pub mod Merging
 pub mod PlaceNumbers
 pub mod PlaceSums
 pub mod Standing
+pub mod Sharing
 pub mod Fronts
 pub mod Vectors
 pub mod ColumnSizes

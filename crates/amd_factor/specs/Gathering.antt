@@ -63,6 +63,14 @@ pub record HoldBefore (o : Order) (k : ℕ) (ptr rows : List ℕ) : Type 0 where
   pub each : (m : ℕ) → m < k →
       IsColumn o.graph o.rows m (slice_range rows (slice_index ptr m) (slice_index ptr (m + 1)))
 
+-- the columns before place k stand in the rows, each from its own start on, before its own end; they may share entries
+pub record StandAt (o : Order) (k : ℕ) (starts ends rows : List ℕ) : Type 0 where
+  pub begins : length o.rows ≤ length starts
+  pub stops : length o.rows ≤ length ends
+  pub range : (m : ℕ) → m < k → slice_index starts m ≤ slice_index ends m
+  pub within : (m : ℕ) → m < k → slice_index ends m ≤ length rows
+  pub each : (m : ℕ) → m < k → IsColumn o.graph o.rows m (slice_range rows (slice_index starts m) (slice_index ends m))
+
 -- the last child of place q before place k, or none
 abbrev pub IsLastChild : Order → ℕ → ℕ → Option ℕ → Type 0
 IsLastChild o q k None = (m : ℕ) → m < k → ¬ (IsParent o.graph o.rows m q)

@@ -20,6 +20,8 @@ pub mod Trees
 pub mod Gathering
 pub mod Merging
 pub mod Numbers
+pub mod Planning
+pub mod Sharing
 -- The counts, by the tree and the meetings of arcs.
 pub mod Walks
 pub mod Ancestors

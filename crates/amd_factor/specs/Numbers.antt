@@ -10,9 +10,9 @@ abbrev pub AreNonNegative : List ℤ → Type 0
 AreNonNegative zs = map pos (naturals zs) ≡ zs
 
 -- column k takes over the rows from place from on, before to, and the fresh rows are those that it has beside
-pub record Plans (o : Order) (k : ℕ) (ptr rows : List ℕ) (from to : ℕ) (fresh : List ℕ) : Type 0 where
+pub record Plans (o : Order) (k : ℕ) (rows : List ℕ) (from to : ℕ) (fresh : List ℕ) : Type 0 where
   pub range : from ≤ to
-  pub before : to ≤ slice_index ptr k
+  pub within : to ≤ length rows
   pub rising : IsStrictlyIncreasing (slice_range rows from to)
   pub completes : Completes (record { order = o; place = k; inherited = slice_range rows from to }) fresh
 

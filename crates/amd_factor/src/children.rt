@@ -1,30 +1,35 @@
 // The children of the columns in lists, by one link a column: a column to come is linked to the last one of its
 // children, and a child to the one before it.
 
-ghost use Rattle.std.specs.Prelude.{ℕ, ◌≡◌, ◌<◌, ◌≤◌, ◌+◌, ◌-◌, true, length, slice_index, MatchOption};
+ghost use Rattle.std.specs.Prelude.{ℕ, ◌≡◌, ◌<◌, ◌≤◌, ◌+◌, ◌-◌, true, length, slice_index, List, MatchOption};
 ghost use Rattle.amd_factor.specs.Orders.{Order};
-ghost use Rattle.amd_factor.specs.Gathering.{Column, IsChild, LinkChildren};
+ghost use Rattle.amd_factor.specs.Gathering.{Column, IsChild, LinkChildren, StandAt};
 ghost use Rattle.amd_factor.specs.Trees.{IsParent};
 
-/// A child of column `k` that has the most entries; none where there is no child.
-pub fn greatest_child(k: usize, link: &[Option<usize>], ptr: &[usize]) -> Option<usize>
+/// A child of column `k` that has the most entries; none where there is no child. Those of a column before `k` begin
+/// and end at its places in `starts` and `ends`.
+pub fn greatest_child(
+    k: usize,
+    link: &[Option<usize>],
+    starts: &[usize],
+    ends: &[usize],
+) -> Option<usize>
     ghost c: { Column }
     requires place { c.place ≡ k }
     requires inside { c.place < length c.order.rows }
     requires links { LinkChildren c.order c.place link.now }
-    requires pointers { length ptr.now ≡ length c.order.rows + 1 }
-    requires ascending { (m : ℕ) → m < c.place → slice_index ptr.now m ≤ slice_index ptr.now (m + 1) }
+    requires columns { (rows : List ℕ) × StandAt c.order c.place starts.now ends.now rows }
     ensures child { MatchOption result ((m : ℕ) → ¬ (IsChild c m)) (λ child. IsChild c child) }
     ensures greatest { MatchOption result (Unit {0}) (λ child. (m : ℕ) → IsChild c m →
-        slice_index ptr.now (m + 1) - slice_index ptr.now m ≤ slice_index ptr.now (child + 1)
-        - slice_index ptr.now child) }
+        slice_index ends.now m - slice_index starts.now m ≤ slice_index ends.now child
+        - slice_index starts.now child) }
 {
     let Some(mut greatest) = link[k] else {
         return None;
     };
     let mut next = link[greatest];
     'children: while let Some(child) = next {
-        if ptr[greatest + 1] - ptr[greatest] < ptr[child + 1] - ptr[child] {
+        if ends[greatest] - starts[greatest] < ends[child] - starts[child] {
             greatest = child;
         }
         next = link[child];

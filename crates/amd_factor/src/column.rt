@@ -2,16 +2,14 @@
 // entries behind the first one, and what it lacks is found by marks, sorted and merged in. It is planned first, so that
 // there is room for it before it is written. Source: George and Liu 1981; Liu 1990.
 
-ghost use Rattle.std.specs.Prelude.{ℕ, List, ◌≡◌, ◌<◌, ◌≤◌, ◌+◌, ◌-◌, [], true, Some, length, slice_index, slice_range};
+ghost use Rattle.std.specs.Prelude.{ℕ, List, ◌≡◌, ◌<◌, ◌≤◌, ◌+◌, [], true, Some, length, slice_index};
 ghost use Rattle.std.specs.Prelude.{MatchOption, map, pos, take};
-ghost use Rattle.std.specs.List.Sorted.{IsStrictlyIncreasing};
-ghost use Rattle.amd_model.specs.Factor.{IsColumn};
-ghost use Rattle.amd_model.specs.Graph.{IsGraph};
 ghost use Rattle.amd_factor.specs.Orders.{Order};
-ghost use Rattle.amd_factor.specs.Gathering.{Column, Completes, HoldBefore, Inherits, IsChild, LinkChildren};
-ghost use Rattle.amd_factor.specs.Gathering.{Marks, MarksTell, TellFirst};
-ghost use Rattle.amd_factor.specs.Neighbours.{AreLater};
+ghost use Rattle.amd_factor.specs.Gathering.{Column, Completes, HoldBefore, IsChild, LinkChildren};
+ghost use Rattle.amd_factor.specs.Gathering.{Marks, MarksTell, StandAt, TellFirst};
 ghost use Rattle.amd_factor.specs.Numbers.{AreNonNegative, Plans};
+ghost use Rattle.amd_factor.specs.Planning.{AreColumns, AreColumnsBehind, CanClose, CanFindNew, CanFinish, CanGather};
+ghost use Rattle.amd_factor.specs.Planning.{CanMarkBase, CanPlan, TakesOver};
 ghost use Rattle.amd_factor.specs.Trees.{Entry};
 ghost use Rattle.amd_types.specs.Naturals.{naturals};
 
@@ -21,11 +19,32 @@ use crate::merge::write_merged;
 use crate::numbers::place_at;
 use amd_types::index::Index;
 
+/// The columns before one that is planned.
+#[derive(Clone, Copy)]
+pub struct Columns<'a, N: Index> {
+    /// Where the entries of each begin in `rows`.
+    pub starts: &'a [usize],
+    /// And where they end.
+    pub ends: &'a [usize],
+    pub rows: &'a [N],
+    /// The children of each in a list: a column to come is linked to the last of its children, and a child to the one
+    /// before it.
+    pub link: &'a [Option<usize>],
+}
+
 /// A column, if there is one, and the mark of its entries: those of the rows behind it that have the mark.
 #[derive(Clone, Copy)]
 pub struct Marked {
     pub column: Option<usize>,
     pub stamp: usize,
+}
+
+/// What a column takes over: the rows from place `from` on, before `to`, of a child, if there is one.
+#[derive(Clone, Copy)]
+pub struct Taken {
+    pub base: Option<usize>,
+    pub from: usize,
+    pub to: usize,
 }
 
 /// A column that is planned: it takes over the rows from place `from` on, before `to`, and `count` are new in it. The
@@ -38,24 +57,17 @@ pub struct Plan {
     pub marked: Marked,
 }
 
-/// Where the rows begin and end that column `k` takes over from a child: all but the first of its entries.
-pub fn inherited(k: usize, base: Option<usize>, ptr: &[usize]) -> (usize, usize)
-    ghost c: { Column }
-    requires laws { IsGraph c.order.graph }
-    requires place { c.place ≡ k }
-    requires inside { c.place < length c.order.rows }
-    requires columns { (rows : List ℕ) × HoldBefore c.order c.place ptr.now rows }
-    requires base { MatchOption base (Unit {0}) (λ child. IsChild c child) }
+/// Where the rows begin and end that a column takes over from the child `base`: all but the first of its entries.
+pub fn inherited(base: Option<usize>, starts: &[usize], ends: &[usize]) -> (usize, usize)
+    requires stands { (c : Column) × (rows : List ℕ) × StandAt c.order c.place starts.now ends.now rows ×
+        MatchOption base (Unit {0}) (λ child. IsChild c child) }
     ensures range { result.0 ≤ result.1 }
-    ensures before { result.1 ≤ slice_index ptr.now c.place }
-    ensures rising { (rows : List ℕ) → HoldBefore c.order c.place ptr.now rows →
-        IsStrictlyIncreasing (slice_range rows result.0 result.1) }
-    ensures inherits { (rows : List ℕ) → HoldBefore c.order c.place ptr.now rows →
-        Inherits (record { order = c.order; place = c.place; inherited = slice_range rows result.0 result.1 }) base }
+    ensures takes { (c : Column) (rows : List ℕ) → StandAt c.order c.place starts.now ends.now rows →
+        MatchOption base (Unit {0}) (λ child. IsChild c child) → TakesOver c rows base result.0 result.1 }
 {
     match base {
-        Some(child) => (ptr[child] + 1, ptr[child + 1]),
-        None => (ptr[k], ptr[k]),
+        Some(child) => (starts[child] + 1, ends[child]),
+        None => (0, 0),
     }
 }
 
@@ -64,36 +76,25 @@ pub fn gather_children<N: Index>(
     k: usize,
     base: usize,
     stamp: usize,
-    link: &[Option<usize>],
-    ptr: &[usize],
-    rows: &[N],
+    columns: Columns<'_, N>,
     mark: &mut [usize],
     fresh: &mut [usize],
 ) -> usize
     ghost c: { Column }
-    requires laws { IsGraph c.order.graph }
-    requires place { c.place ≡ k }
-    requires inside { c.place < length c.order.rows }
-    requires links { LinkChildren c.order c.place link.now }
-    requires numbers { AreNonNegative (map N.value rows.now) }
-    requires columns { HoldBefore c.order c.place ptr.now (naturals (map N.value rows.now)) }
-    requires base { IsChild c base → (j : ℕ) → c.place < j → Entry c.order.graph c.order.rows base j →
-        slice_index mark.old j ≡ stamp }
-    requires room { length fresh.old ≡ length c.order.rows }
-    requires marks { Marks c stamp [] mark.old }
+    requires { CanGather N.value c k base stamp columns mark.old fresh.old }
     ensures count { result ≤ length fresh.new }
     ensures marks { Marks c stamp (take result fresh.new) mark.new }
     ensures children { (m j : ℕ) → IsChild c m → c.place < j → Entry c.order.graph c.order.rows m j →
         slice_index mark.new j ≡ stamp }
 {
     let mut count = 0;
-    let mut next = link[k];
+    let mut next = columns.link[k];
     'children: while let Some(child) = next {
         if child != base {
-            let (from, to) = inherited(k, Some(child), ptr);
-            count = gather(&rows[from..to], stamp, count, mark, fresh);
+            let (from, to) = inherited(Some(child), columns.starts, columns.ends);
+            count = gather(&columns.rows[from..to], stamp, count, mark, fresh);
         }
-        next = link[child];
+        next = columns.link[child];
     }
     count
 }
@@ -117,12 +118,7 @@ fn mark_base<N: Index>(
     mark: &mut [usize],
 ) -> usize
     ghost c: { Column }
-    requires place { c.place ≡ k }
-    requires inside { c.place < length c.order.rows }
-    requires numbers { AreNonNegative (map N.value rows.now) }
-    requires rows { c.inherited ≡ naturals (map N.value rows.now) }
-    requires inherits { Inherits c base }
-    requires marks { MarksTell c.order c.place marked.column marked.stamp mark.old }
+    requires { CanMarkBase N.value c k base rows.now marked mark.old }
     ensures { Marks c result [] mark.new }
 {
     if tells(marked, base) {
@@ -133,46 +129,30 @@ fn mark_base<N: Index>(
 }
 
 /// Lists the rows of column `k` that it does not take over from a child, rising; returns how many, and the column that
-/// the marks then tell. `base` is a child, if there is any, and `rows[from..to]` are its entries behind place `k`.
+/// the marks then tell.
 ///
-/// Where it is the only child and there is no later neighbour, nothing is new, and no mark is written for it.
+/// Where it has one child alone and there is no later neighbour, nothing is new, and no mark is written for it.
 pub fn new_rows<N: Index>(
     k: usize,
-    base: Option<usize>,
-    from: usize,
-    to: usize,
+    taken: Taken,
     neighbours: &[usize],
     marked: Marked,
-    link: &[Option<usize>],
-    ptr: &[usize],
-    rows: &[N],
+    columns: Columns<'_, N>,
     mark: &mut [usize],
     fresh: &mut [usize],
 ) -> (usize, Marked)
     ghost c: { Column }
-    requires laws { IsGraph c.order.graph }
-    requires place { c.place ≡ k }
-    requires inside { c.place < length c.order.rows }
-    requires links { LinkChildren c.order c.place link.now }
-    requires numbers { AreNonNegative (map N.value rows.now) }
-    requires columns { HoldBefore c.order c.place ptr.now (naturals (map N.value rows.now)) }
-    requires base { MatchOption base ((m : ℕ) → ¬ (IsChild c m)) (λ child. IsChild c child) }
-    requires taken { c.inherited ≡ slice_range (naturals (map N.value rows.now)) from to }
-    requires range { from ≤ to }
-    requires within { to ≤ length rows.now }
-    requires inherits { Inherits c base }
-    requires neighbours { AreLater c.order c.place neighbours.now }
-    requires marks { MarksTell c.order c.place marked.column marked.stamp mark.old }
-    requires room { length fresh.old ≡ length c.order.rows }
+    requires { CanFindNew N.value c k taken neighbours.now marked columns mark.old fresh.old }
     ensures count { result.0 ≤ length fresh.new }
     ensures completes { Completes c (take result.0 fresh.new) }
     ensures marks { MarksTell c.order (c.place + 1) result.1.column result.1.stamp mark.new }
 {
-    if neighbours.is_empty() && has_only_child(k, link) && !tells(marked, base) {
+    let base = taken.base;
+    if neighbours.is_empty() && has_only_child(k, columns.link) && !tells(marked, base) {
         return (0, marked);
     }
-    let stamp = mark_base(k, base, &rows[from..to], marked, mark);
-    let count = gather_children(k, base.unwrap_or(k), stamp, link, ptr, rows, mark, fresh);
+    let stamp = mark_base(k, base, &columns.rows[taken.from..taken.to], marked, mark);
+    let count = gather_children(k, base.unwrap_or(k), stamp, columns, mark, fresh);
     let count = gather_places(neighbours, stamp, count, mark, fresh);
     fresh[..count].sort_unstable();
     let column = Some(k);
@@ -184,37 +164,55 @@ pub fn plan_column<N: Index>(
     k: usize,
     neighbours: &[usize],
     marked: Marked,
-    link: &[Option<usize>],
-    ptr: &[usize],
-    rows: &[N],
+    columns: Columns<'_, N>,
     mark: &mut [usize],
     fresh: &mut [usize],
 ) -> Plan
     ghost o: { Order }
-    requires laws { IsGraph o.graph }
-    requires place { k < length o.rows }
-    requires neighbours { AreLater o k neighbours.now }
-    requires links { LinkChildren o k link.now }
-    requires numbers { AreNonNegative (map N.value rows.now) }
-    requires columns { HoldBefore o k ptr.now (naturals (map N.value rows.now)) }
-    requires marks { MarksTell o k marked.column marked.stamp mark.old }
-    requires fresh { length fresh.old ≡ length o.rows }
+    requires place { CanPlan o k neighbours.now marked mark.old fresh.old }
+    requires columns { AreColumns N.value o k columns }
     ensures count { result.count ≤ length fresh.new }
-    ensures plans { Plans o k ptr.now (naturals (map N.value rows.now)) result.from result.to
+    ensures plans { Plans o k (naturals (map N.value columns.entry.rows.now)) result.from result.to
         (take result.count fresh.new) }
     ensures marks { MarksTell o (k + 1) result.marked.column result.marked.stamp mark.new }
 {
-    let base = greatest_child(k, link, ptr);
-    let (from, to) = inherited(k, base, ptr);
-    let (count, marked) = new_rows(
-        k, base, from, to, neighbours, marked, link, ptr, rows, mark, fresh,
-    );
+    let base = greatest_child(k, columns.link, columns.starts, columns.ends);
+    let (from, to) = inherited(base, columns.starts, columns.ends);
+    let taken = Taken { base, from, to };
+    let (count, marked) = new_rows(k, taken, neighbours, marked, columns, mark, fresh);
     Plan {
         from,
         to,
         count,
         marked,
     }
+}
+
+/// Plans column `k` as `plan_column`, where the columns before it stand one behind the other.
+pub fn plan_behind<N: Index>(
+    k: usize,
+    neighbours: &[usize],
+    marked: Marked,
+    ptr: &[usize],
+    rows: &[N],
+    link: &[Option<usize>],
+    mark: &mut [usize],
+    fresh: &mut [usize],
+) -> Plan
+    ghost o: { Order }
+    requires place { CanPlan o k neighbours.now marked mark.old fresh.old }
+    requires columns { AreColumnsBehind N.value o k ptr.now rows.now link.now }
+    ensures count { result.count ≤ length fresh.new }
+    ensures plans { Plans o k (naturals (map N.value rows.now)) result.from result.to (take result.count fresh.new) }
+    ensures marks { MarksTell o (k + 1) result.marked.column result.marked.stamp mark.new }
+{
+    let columns = Columns {
+        starts: ptr,
+        ends: &ptr[1..],
+        rows,
+        link,
+    };
+    plan_column(k, neighbours, marked, columns, mark, fresh)
 }
 
 /// Closes column `k`, whose entries end before place `end`: its pointer, its parent, and its link as a child.
@@ -227,16 +225,7 @@ fn close_column<N: Index>(
     link: &mut [Option<usize>],
 )
     ghost o: { Order }
-    requires laws { IsGraph o.graph }
-    requires place { k < length o.rows }
-    requires numbers { AreNonNegative (map N.value rows.now) }
-    requires columns { HoldBefore o k ptr.old (naturals (map N.value rows.now)) }
-    requires parents { TellFirst o k ptr.old (naturals (map N.value rows.now)) parent.old }
-    requires links { LinkChildren o k link.old }
-    requires range { slice_index ptr.old k ≤ end }
-    requires within { end ≤ length rows.now }
-    requires column { IsColumn o.graph o.rows k
-        (slice_range (naturals (map N.value rows.now)) (slice_index ptr.old k) end) }
+    requires { CanClose N.value o k end ptr.old rows.now parent.old link.old }
     ensures columns { HoldBefore o (k + 1) ptr.new (naturals (map N.value rows.now)) }
     ensures parents { TellFirst o (k + 1) ptr.new (naturals (map N.value rows.now)) parent.new }
     ensures links { LinkChildren o (k + 1) link.new }
@@ -253,11 +242,11 @@ fn close_column<N: Index>(
     link_child(k, first, link);
 }
 
-/// Writes column `k`, as it is planned, behind those before it and up to the end of `rows`, and closes it.
+/// Writes column `k`, as it is planned, behind those before it and up to the end of `rows`, and closes it. Its new rows
+/// are `fresh`.
 pub fn finish_column<N: Index>(
     k: usize,
-    from: usize,
-    to: usize,
+    plan: Plan,
     fresh: &[usize],
     ptr: &mut [usize],
     rows: &mut [N],
@@ -265,16 +254,8 @@ pub fn finish_column<N: Index>(
     link: &mut [Option<usize>],
 )
     ghost o: { Order }
-    requires laws { IsGraph o.graph }
-    requires place { k < length o.rows }
     requires fits { (j : ℕ) → j < length o.rows → N.fits (pos j) }
-    requires plans { Plans o k ptr.old (naturals (map N.value (take (slice_index ptr.old k) rows.old))) from to
-        fresh.now }
-    requires size { length rows.old ≡ slice_index ptr.old k + (to - from + length fresh.now) }
-    requires numbers { AreNonNegative (map N.value (take (slice_index ptr.old k) rows.old)) }
-    requires columns { HoldBefore o k ptr.old (naturals (map N.value (take (slice_index ptr.old k) rows.old))) }
-    requires parents { TellFirst o k ptr.old (naturals (map N.value (take (slice_index ptr.old k) rows.old))) parent.old }
-    requires links { LinkChildren o k link.old }
+    requires planned { CanFinish N.value o k plan fresh.now ptr.old rows.old parent.old link.old }
     ensures numbers { AreNonNegative (map N.value rows.new) }
     ensures columns { HoldBefore o (k + 1) ptr.new (naturals (map N.value rows.new)) }
     ensures parents { TellFirst o (k + 1) ptr.new (naturals (map N.value rows.new)) parent.new }
@@ -282,6 +263,6 @@ pub fn finish_column<N: Index>(
     ensures end { slice_index ptr.new (k + 1) ≡ length rows.new }
 {
     let (done, free) = rows.split_at_mut(ptr[k]);
-    write_merged(&done[from..to], fresh, free);
+    write_merged(&done[plan.from..plan.to], fresh, free);
     close_column(k, rows.len(), ptr, rows, parent, link);
 }

@@ -11,14 +11,14 @@ ghost use Rattle.amd_factor.specs.Orders.{Order};
 ghost use Rattle.amd_factor.specs.Neighbours.{AreLater, HasLater};
 ghost use Rattle.amd_factor.specs.Numbers.{FillsFront};
 
-use crate::column::{Marked, finish_column, plan_column};
+use crate::column::{Marked, finish_column, plan_behind};
 use amd_types::index::Index;
 use core::mem::replace_with;
 use std::alloc::Allocator;
 
 /// Appends so many zeros to numbers that have the capacity for them, and keep it. They are moved in and out, so that
 /// their length is stored once, and not at each zero.
-fn with_zeros<N: Index, A: Allocator>(mut rows: Vec<N, A>, size: usize) -> (Vec<N, A>, ())
+pub fn with_zeros<N: Index, A: Allocator>(mut rows: Vec<N, A>, size: usize) -> (Vec<N, A>, ())
     requires room { length rows.items + size ≤ vec_capacity rows }
     ensures zeros { (zero : N) × (N.value zero ≡ pos 0) × (result.0.items ≡ rows.items ++ replicate size zero) }
     ensures capacity { vec_capacity result.0 ≡ vec_capacity rows }
@@ -61,7 +61,7 @@ fn add_column<N: Index, A: Allocator>(
     ensures within { length rows.new.items ≤ room }
     ensures capacity { vec_capacity rows.new ≡ vec_capacity rows.old }
 {
-    let plan = plan_column(k, neighbours, marked, link, ptr, rows, mark, fresh);
+    let plan = plan_behind(k, neighbours, marked, ptr, rows, link, mark, fresh);
     let begin = rows.len();
     let size = plan.to - plan.from + plan.count;
     if room - begin < size {
@@ -69,16 +69,7 @@ fn add_column<N: Index, A: Allocator>(
     }
     // The zeros of a column are still at hand when it is written over them.
     replace_with(rows, size, with_zeros);
-    finish_column(
-        k,
-        plan.from,
-        plan.to,
-        &fresh[..plan.count],
-        ptr,
-        rows,
-        parent,
-        link,
-    );
+    finish_column(k, plan, &fresh[..plan.count], ptr, rows, parent, link);
     Some(plan.marked)
 }
 
@@ -174,13 +165,13 @@ fn add_column_into<N: Index>(
         (drop (slice_index ptr.new (k + 1)) rows.new ≡ drop (slice_index ptr.new (k + 1)) rows.old)) }
 {
     let begin = ptr[k];
-    let plan = plan_column(
+    let plan = plan_behind(
         k,
         neighbours,
         marked,
-        link,
         ptr,
         &rows[..begin],
+        link,
         mark,
         fresh,
     );
@@ -190,8 +181,7 @@ fn add_column_into<N: Index>(
     }
     finish_column(
         k,
-        plan.from,
-        plan.to,
+        plan,
         &fresh[..plan.count],
         ptr,
         &mut rows[..begin + size],

@@ -56,6 +56,7 @@ pub mod places;
 pub mod ranks;
 pub mod refusal;
 pub mod rows_below;
+pub mod sharing;
 pub mod sizes;
 pub mod sizing;
 pub mod supernodal;

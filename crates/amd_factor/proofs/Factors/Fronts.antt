@@ -19,12 +19,11 @@ use Rattle.amd_factor.proofs.Factors.Standing.{hold_factor, merged_column, passe
 
 -- a planned column does not fit
 pub passes : (o : Order) → IsGraph o.graph → (k : ℕ) (ptr rows fresh : List ℕ) (from to room : ℕ) → k < length o.rows →
-    HoldBefore o k ptr rows → Plans o k ptr rows from to fresh → room < slice_index ptr k + (to - from + length fresh) →
+    HoldBefore o k ptr rows → Plans o k rows from to fresh → room < slice_index ptr k + (to - from + length fresh) →
     PassesRoom o.graph o.rows room
 passes o laws k ptr rows fresh from to room low columns plans more =
     let part = slice_range rows from to in
-    let range = plans.range in let before = plans.before in let within = columns.within in
-    let long = length-between rows from to (omega (arith, before, within)) in
+    let range = plans.range in let long = length-between rows from to plans.within in
     let size = (merged_is part fresh).long in
     passes_room o laws k ptr rows columns (omega (arith, low)) (merged part fresh) room low
     (merged_column (record { order = o; place = k; inherited = part }) fresh plans.rising plans.completes)
@@ -94,12 +93,10 @@ rising_short xs n up low = go (length xs) refl
     go (suc m) e = (let a = least m (omega (arith, e)) in let b = low m (omega (arith, e)) in omega (arith, a, b, e))
 
 -- a column takes over at most as many rows as there are
-pub taken_short : (o : Order) (k : ℕ) (ptr rows fresh : List ℕ) (from to : ℕ) → HoldBefore o k ptr rows →
-    Plans o k ptr rows from to fresh → to - from ≤ length o.rows
-taken_short o k ptr rows fresh from to columns plans =
+pub taken_short : (o : Order) (k : ℕ) (rows fresh : List ℕ) (from to : ℕ) → Plans o k rows from to fresh → to - from ≤ length o.rows
+taken_short o k rows fresh from to plans =
     let part = slice_range rows from to in
-    let before = plans.before in let within = columns.within in
-    let long = length-between rows from to (omega (arith, before, within)) in
+    let long = length-between rows from to plans.within in
     let most = rising_short part (length o.rows) plans.rising
     (λ i l. ((plans.completes.members (slice_index part i)).0 (inl (Contains-get_or part i 0 l))).1) in
     omega (arith, long, most)

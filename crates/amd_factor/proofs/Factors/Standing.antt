@@ -1,6 +1,6 @@
 -- Columns that stand one behind the other: one more of them, all of them, and one for which there is no room.
 use Rattle.std.proofs.Common.{ℕ, zero, suc, ◌≡◌, ◌≢◌, ◌<◌, ◌≤◌, ◌+◌, inl, inr, refl, sym, ◌∙◌, ap, subst, arith, List, [], ◌∷◌}
-use Rattle.std.proofs.Common.{length, map, set, take}
+use Rattle.std.proofs.Common.{length, map, set, take, drop}
 use Rattle.std.specs.Prelude.{slice_index, slice_index_or, slice_range, Option, None, Some}
 use Rattle.std.specs.List.Sorted.{IsStrictlyIncreasing}
 use Rattle.std.proofs.lemmas.Bool.{cases_eq}
@@ -12,6 +12,8 @@ use Rattle.std.proofs.lemmas.List.{
   get_or-map,
   length-map,
   length-take-le,
+  length-drop,
+  get_or-drop,
   same_lists,
 }
 use Rattle.std.proofs.lemmas.List.Edits.{length-between}
@@ -27,7 +29,7 @@ use Rattle.amd_factor.specs.Columns.{first_of, HoldFactor, PassesRoom}
 use Rattle.amd_factor.specs.Orders.{Order}
 use Rattle.amd_factor.specs.Trees.{IsParent}
 use Rattle.amd_factor.specs.Merging.{merged}
-use Rattle.amd_factor.specs.Gathering.{Column, Completes, HoldBefore, TellFirst}
+use Rattle.amd_factor.specs.Gathering.{Column, Completes, HoldBefore, StandAt, TellFirst}
 use Rattle.amd_factor.proofs.Trees.FactorOnce.{column_once, first_least}
 use Rattle.amd_factor.proofs.Factors.Merging.{merged_is}
 use Rattle.amd_factor.proofs.Factors.PlaceSums.{sum_places}
@@ -75,6 +77,20 @@ no_parent o k (x ∷ xs) c e q p = absurd (cc)
 -- the first element of a part, and of a part without elements
 pub first_at : (xs : List ℕ) (i j : ℕ) → i < j → j ≤ length xs → first_of (slice_range xs i j) ≡ Some (slice_index xs i)
 first_at xs i j low most = ap first_of (range_first xs i j low most)
+
+-- columns that stand one behind the other begin and end at their pointers
+pub stand_behind : (o : Order) (k : ℕ) (ptr rows : List ℕ) → k < length o.rows → HoldBefore o k ptr rows →
+    StandAt o k ptr (drop 1 ptr) rows
+stand_behind o k ptr rows most h =
+    let next : (m : ℕ) → slice_index (drop 1 ptr) m ≡ slice_index ptr (m + 1) =
+    (λ m. get_or-drop 1 ptr m 0 ∙ ap (slice_index ptr) (omega arith)) in record {
+      begins = (let p = h.pointers in omega (arith, p));
+      stops = (let p = h.pointers in let l = length-drop 1 ptr in omega (arith, p, l));
+      range = λ m l. (let e = next m in let a = h.ascending m (m + 1) (omega arith) (omega (arith, l)) in omega (arith, e, a));
+      within = λ m l. (let e = next m in let a = h.ascending (m + 1) k (omega (arith, l)) (omega arith) in
+          let w = h.within in omega (arith, e, a, w));
+      each = λ m l. subst (λ b. IsColumn o.graph o.rows m (slice_range rows (slice_index ptr m) b)) (sym (next m)) (h.each m l);
+    }
 
 -- what stands before a place that is written stays
 module _ (o : Order) (k : ℕ) (ptr rows rows' : List ℕ) (h : HoldBefore o k ptr rows)

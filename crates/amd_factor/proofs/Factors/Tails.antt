@@ -14,7 +14,7 @@ use Rattle.amd_model.proofs.Counting.Places.{contains_has, has_contains}
 use Rattle.amd_model.proofs.Listings.Words.{has_head, has_tail, has_cases}
 use Rattle.amd_factor.specs.Orders.{Order}
 use Rattle.amd_factor.specs.Trees.{Entry, IsParent}
-use Rattle.amd_factor.specs.Gathering.{Column, HoldBefore, Inherits, Marks, MarksTell}
+use Rattle.amd_factor.specs.Gathering.{Column, Inherits, Marks, MarksTell, StandAt}
 use Rattle.amd_factor.proofs.Trees.FactorOnce.{first_least, tail_up}
 
 -- a part of a list by its first element
@@ -64,42 +64,38 @@ module _ (o : Order) (child q x : ℕ) (xs : List ℕ) (column : IsColumn o.grap
       ]),
     )
 
-module _ (o : Order) (k : ℕ) (ptr rows : List ℕ) (h : HoldBefore o k ptr rows) (child q : ℕ) (low : child < k)
+module _ (o : Order) (k : ℕ) (starts ends rows : List ℕ) (h : StandAt o k starts ends rows) (child q : ℕ) (low : child < k)
     (p : IsParent o.graph o.rows child q) where
   column : List ℕ
-  column = slice_range rows (slice_index ptr child) (slice_index ptr (child + 1))
+  column = slice_range rows (slice_index starts child) (slice_index ends child)
 
   is : IsColumn o.graph o.rows child column
   unfolding column
   is = h.each child low
 
-  -- where a column ends there still are entries
-  pub tail_ends : slice_index ptr (child + 1) ≤ slice_index ptr k
-  tail_ends = h.ascending (child + 1) k (omega (arith, low)) (omega arith)
-
-  inside : slice_index ptr (child + 1) ≤ length rows
-  inside = let a = tail_ends in let b = h.within in omega (arith, a, b)
+  pub tail_ends : slice_index ends child ≤ length rows
+  tail_ends = h.within child low
 
   -- a child has an entry
-  pub tail_begins : slice_index ptr child + 1 ≤ slice_index ptr (child + 1)
+  pub tail_begins : slice_index starts child + 1 ≤ slice_index ends child
   unfolding column
   tail_begins = let c = (is.members q).1 p.entry in let l = c.1 in
-      let s = length-between rows (slice_index ptr child) (slice_index ptr (child + 1)) inside in omega (arith, l, s)
+      let s = length-between rows (slice_index starts child) (slice_index ends child) tail_ends in omega (arith, l, s)
 
-  split : column ≡ slice_index rows (slice_index ptr child) ∷ slice_range rows (slice_index ptr child + 1) (slice_index ptr (child + 1))
+  split : column ≡ slice_index rows (slice_index starts child) ∷ slice_range rows (slice_index starts child + 1) (slice_index ends child)
   unfolding column
-  split = let b = tail_begins in range_first rows (slice_index ptr child) (slice_index ptr (child + 1)) (omega (arith, b)) inside
+  split = let b = tail_begins in range_first rows (slice_index starts child) (slice_index ends child) (omega (arith, b)) tail_ends
 
   split_is : IsColumn o.graph o.rows child
-      (slice_index rows (slice_index ptr child) ∷ slice_range rows (slice_index ptr child + 1) (slice_index ptr (child + 1)))
+      (slice_index rows (slice_index starts child) ∷ slice_range rows (slice_index starts child + 1) (slice_index ends child))
   split_is = subst (IsColumn o.graph o.rows child) split is
 
-  pub tail_rises : IsStrictlyIncreasing (slice_range rows (slice_index ptr child + 1) (slice_index ptr (child + 1)))
-  tail_rises = tail_up (slice_index rows (slice_index ptr child)) _ split_is.rising
+  pub tail_rises : IsStrictlyIncreasing (slice_range rows (slice_index starts child + 1) (slice_index ends child))
+  tail_rises = tail_up (slice_index rows (slice_index starts child)) _ split_is.rising
 
-  pub tail_has : (j : ℕ) → Contains (slice_range rows (slice_index ptr child + 1) (slice_index ptr (child + 1))) j ↔
+  pub tail_has : (j : ℕ) → Contains (slice_range rows (slice_index starts child + 1) (slice_index ends child)) j ↔
       ((q < j) × Entry o.graph o.rows child j)
-  tail_has j = tail_members o child q (slice_index rows (slice_index ptr child)) _ split_is p j
+  tail_has j = tail_members o child q (slice_index rows (slice_index starts child)) _ split_is p j
 
 -- what a column takes over lies behind its place
 pub inherited_behind : (c : Column) (base : Option ℕ) → Inherits c base → (j : ℕ) → Contains c.inherited j →

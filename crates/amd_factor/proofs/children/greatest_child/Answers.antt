@@ -5,12 +5,12 @@ use Rattle.std.proofs.lemmas.Grind.{common_steps}
 use Rattle.amd_factor.specs.Gathering.{IsChild, IsLastChild}
 use Rattle.amd_factor.proofs.Trees.Descent.{IsAhead, LeadsTo, ahead_past, leads}
 use Rattle.amd_factor.proofs.children.greatest_child.Goals as goal
-use Rattle.amd_factor.proofs.children.greatest_child.Goals.{then-ptr-greatest, else-ptr-greatest}
+use Rattle.amd_factor.proofs.children.greatest_child.Goals.{then-ends-greatest, else-ends-greatest}
 
 pub children-preserved : goal.children-preserved
 children-preserved g c =
     let child = c.in-Some-next.child in
-    let size : ℕ → ℕ = λ m. slice_index c.args.ptr.now (m + 1) - slice_index c.args.ptr.now m in
+    let size : ℕ → ℕ = λ m. slice_index c.args.ends.now m - slice_index c.args.starts.now m in
     let is : IsChild g.c child = subst (LeadsTo g.c.order g.c.place) c.in-Some-next.is c.children.invariant.leads in
     let previous : IsLastChild g.c.order g.c.place child (slice_index_or c.args.link.now child None) =
     c.requires.1.1.0.previous child g.c.place is.entry.0 is in
@@ -24,13 +24,13 @@ children-preserved g c =
       ]
       | inr x ↦ inr (omega (arith, x, b))
     ]) in
-    elim c.if-ptr-greatest.branch [
-      | then-ptr-greatest w ↦ (let t = w.if-ptr-greatest.true in rw w.greatest-is (record {
+    elim c.if-ends-greatest.branch [
+      | then-ends-greatest w ↦ (let t = w.if-ends-greatest.true in rw w.greatest-is (record {
         child = is;
         leads = leads g.c.order g.c.place child (slice_index_or c.args.link.now child None) previous;
         greatest = far child (omega arith) (omega (arith, t));
       }))
-      | else-ptr-greatest w ↦ (let t = w.if-ptr-greatest.false in rw w.greatest-is (record {
+      | else-ends-greatest w ↦ (let t = w.if-ends-greatest.false in rw w.greatest-is (record {
         child = c.children.invariant.child;
         leads = leads g.c.order g.c.place child (slice_index_or c.args.link.now child None) previous;
         greatest = far c.children.greatest t (omega arith);

@@ -9,7 +9,7 @@ invariant-children g l = record {
   child : IsChild g.c l.greatest;
   leads : LeadsTo g.c.order g.c.place l.next;
   greatest : (m : ℕ) → IsChild g.c m → IsAhead l.next m ⊎
-      (slice_index l.ptr (m + 1) - slice_index l.ptr m ≤ slice_index l.ptr (l.greatest + 1) - slice_index l.ptr l.greatest);
+      (slice_index l.ends m - slice_index l.starts m ≤ slice_index l.ends l.greatest - slice_index l.starts l.greatest);
 }
 
 abbrev pub decreases-children : goal.decreases-children

@@ -31,39 +31,39 @@ module _ (o : Order) (k : ℕ) (rows : List ℕ) (begin end : ℕ) (low : begin 
 
 pub returns-then-begin-end-clause-columns : goal.returns-then-begin-end-clause-columns
 returns-then-begin-end-clause-columns g c =
-    hold_next g.o c.args.k c.args.ptr.now (naturals (map g.N.Index.value c.args.rows.now)) c.args.end c.requires.1.1.1.1.0
-    c.requires.1.1.0 c.requires.1.1.1.1.1.1.1.0
-    (stands_within g.N.Index.value c.args.rows.now c.args.end c.requires.1.1.1.1.1.1.1.1.0) c.requires.1.1.1.1.1.1.1.1.1
+    hold_next g.o c.args.k c.args.ptr.now (naturals (map g.N.Index.value c.args.rows.now)) c.args.end c.requires.1.columns
+    c.requires.1.place c.requires.1.range
+    (stands_within g.N.Index.value c.args.rows.now c.args.end c.requires.1.within) c.requires.1.column
 
 pub place_at-first-requires-clause-small : goal.place_at-first-requires-clause-small
 place_at-first-requires-clause-small g c =
     parent_small g.o c.args.k (naturals (map g.N.Index.value c.args.rows.now)) (slice_index c.args.ptr.now c.args.k) c.args.end
-    (below (slice_index c.args.ptr.now c.args.k) c.args.end c.requires.1.1.1.1.1.1.1.0 c.if-begin-end.false)
-    (stands_within g.N.Index.value c.args.rows.now c.args.end c.requires.1.1.1.1.1.1.1.1.0)
-    c.requires.1.1.1.1.1.1.1.1.1 (length c.args.parent.now) c.requires.1.1.1.1.1.0.room c.well_formed.1.1.1.1.0.0
+    (below (slice_index c.args.ptr.now c.args.k) c.args.end c.requires.1.range c.if-begin-end.false)
+    (stands_within g.N.Index.value c.args.rows.now c.args.end c.requires.1.within)
+    c.requires.1.column (length c.args.parent.now) c.requires.1.parents.room c.well_formed.1.1.1.1.0.0
 
 pub link_child-requires : goal.link_child-requires
 link_child-requires g c = (
   parent_is g.o c.args.k (naturals (map g.N.Index.value c.args.rows.now)) (slice_index c.args.ptr.now c.args.k) c.args.end
-      (below (slice_index c.args.ptr.now c.args.k) c.args.end c.requires.1.1.1.1.1.1.1.0 c.if-begin-end.false)
-      (stands_within g.N.Index.value c.args.rows.now c.args.end c.requires.1.1.1.1.1.1.1.1.0) c.requires.1.1.1.1.1.1.1.1.1
+      (below (slice_index c.args.ptr.now c.args.k) c.args.end c.requires.1.range c.if-begin-end.false)
+      (stands_within g.N.Index.value c.args.rows.now c.args.end c.requires.1.within) c.requires.1.column
       c.place_at-first.result c.place_at-first.ensures,
-  c.requires.1.1.1.1.1.1.0,
+  c.requires.1.links,
 )
 
 pub returns-clause-columns : goal.returns-clause-columns
 returns-clause-columns g c =
-    hold_next g.o c.args.k c.args.ptr.now (naturals (map g.N.Index.value c.args.rows.now)) c.args.end c.requires.1.1.1.1.0
-    c.requires.1.1.0 c.requires.1.1.1.1.1.1.1.0
-    (stands_within g.N.Index.value c.args.rows.now c.args.end c.requires.1.1.1.1.1.1.1.1.0) c.requires.1.1.1.1.1.1.1.1.1
+    hold_next g.o c.args.k c.args.ptr.now (naturals (map g.N.Index.value c.args.rows.now)) c.args.end c.requires.1.columns
+    c.requires.1.place c.requires.1.range
+    (stands_within g.N.Index.value c.args.rows.now c.args.end c.requires.1.within) c.requires.1.column
 
 pub returns-clause-parents : goal.returns-clause-parents
 returns-clause-parents g c =
-    tell_first_next g.o c.args.k c.args.ptr.now (naturals (map g.N.Index.value c.args.rows.now)) c.args.end c.requires.1.1.1.1.0
-    c.requires.1.1.0 c.requires.1.1.1.1.1.1.1.0
-    (stands_within g.N.Index.value c.args.rows.now c.args.end c.requires.1.1.1.1.1.1.1.1.0) c.requires.1.1.1.1.1.1.1.1.1
-    c.args.parent.now (Some c.place_at-first.result) c.requires.1.1.1.1.1.0
+    tell_first_next g.o c.args.k c.args.ptr.now (naturals (map g.N.Index.value c.args.rows.now)) c.args.end c.requires.1.columns
+    c.requires.1.place c.requires.1.range
+    (stands_within g.N.Index.value c.args.rows.now c.args.end c.requires.1.within) c.requires.1.column
+    c.args.parent.now (Some c.place_at-first.result) c.requires.1.parents
     (sym (first_is g.o c.args.k (naturals (map g.N.Index.value c.args.rows.now)) (slice_index c.args.ptr.now c.args.k) c.args.end
-    (below (slice_index c.args.ptr.now c.args.k) c.args.end c.requires.1.1.1.1.1.1.1.0 c.if-begin-end.false)
-    (stands_within g.N.Index.value c.args.rows.now c.args.end c.requires.1.1.1.1.1.1.1.1.0)
+    (below (slice_index c.args.ptr.now c.args.k) c.args.end c.requires.1.range c.if-begin-end.false)
+    (stands_within g.N.Index.value c.args.rows.now c.args.end c.requires.1.within)
     c.place_at-first.result c.place_at-first.ensures))

@@ -15,43 +15,43 @@ use Rattle.amd_types.specs.Naturals.{naturals}
 pub write_merged-requires-clause-numbers : goal.write_merged-requires-clause-numbers
 write_merged-requires-clause-numbers g c =
     let value = g.N.Index.value in let done = c.split_at_mut-done.result.0.now in
-    are_range value done c.args.from c.args.to
-    (subst (λ ys. AreNonNegative (map value ys)) (sym c.split_at_mut-done.ensures.front) c.requires.1.1.1.1.1.1.0)
+    are_range value done c.args.plan.from c.args.plan.to
+    (subst (λ ys. AreNonNegative (map value ys)) (sym c.split_at_mut-done.ensures.front) c.requires.1.1.numbers)
 
 pub write_merged-requires-clause-small : goal.write_merged-requires-clause-small
 write_merged-requires-clause-small g c =
     let value = g.N.Index.value in let done = c.split_at_mut-done.result.0.now in
-    let plans = subst (λ ys. Plans g.o c.args.k c.args.ptr.now (naturals (map value ys)) c.args.from c.args.to c.args.fresh.now)
-    (sym c.split_at_mut-done.ensures.front) c.requires.1.1.1.1.0 in λ k l. (
-    let part = slice_range done c.args.from c.args.to in
+    let plans = subst (λ ys. Plans g.o c.args.k (naturals (map value ys)) c.args.plan.from c.args.plan.to c.args.fresh.now)
+    (sym c.split_at_mut-done.ensures.front) c.requires.1.1.plans in λ k l. (
+    let part = slice_range done c.args.plan.from c.args.plan.to in
     let x = slice_index (naturals (map value part)) k in
-    let entry = (plans.completes.members x).0 (inl (subst (λ ys. Contains ys x) (counts_range value done c.args.from c.args.to)
+    let entry = (plans.completes.members x).0 (inl (subst (λ ys. Contains ys x) (counts_range value done c.args.plan.from c.args.plan.to)
     (place_of value part k l))) in
-    let low = entry.1 in let room = c.requires.1.1.1.1.1.1.1.1.0.room in omega (arith, low, room))
+    let low = entry.1 in let room = c.requires.1.1.parents.room in omega (arith, low, room))
 
 pub write_merged-requires-clause-fits : goal.write_merged-requires-clause-fits
 write_merged-requires-clause-fits g c =
     λ k l. (
-    let entry = (c.requires.1.1.1.1.0.completes.members (slice_index c.args.fresh.now k)).0
+    let entry = (c.requires.1.1.plans.completes.members (slice_index c.args.fresh.now k)).0
     (inr (Contains-get_or c.args.fresh.now k 0 l)) in
-    c.requires.1.1.1.0 (slice_index c.args.fresh.now k) entry.1)
+    c.requires.1.0 (slice_index c.args.fresh.now k) entry.1)
 
 pub close_column-requires : goal.close_column-requires
 close_column-requires g c κs inside =
     let value = g.N.Index.value in let done = c.split_at_mut-done.result.0.now in
     let front = sym c.split_at_mut-done.ensures.front in
-    let plans = subst (λ ys. Plans g.o c.args.k c.args.ptr.now (naturals (map value ys)) c.args.from c.args.to c.args.fresh.now) front
-    c.requires.1.1.1.1.0 in
-    let numbers = subst (λ ys. AreNonNegative (map value ys)) front c.requires.1.1.1.1.1.1.0 in
-    let columns = subst (λ ys. HoldBefore g.o c.args.k c.args.ptr.now (naturals (map value ys))) front c.requires.1.1.1.1.1.1.1.0 in
+    let plans = subst (λ ys. Plans g.o c.args.k (naturals (map value ys)) c.args.plan.from c.args.plan.to c.args.fresh.now) front
+    c.requires.1.1.plans in
+    let numbers = subst (λ ys. AreNonNegative (map value ys)) front c.requires.1.1.numbers in
+    let columns = subst (λ ys. HoldBefore g.o c.args.k c.args.ptr.now (naturals (map value ys))) front c.requires.1.1.columns in
     let parents = subst (λ ys. TellFirst g.o c.args.k c.args.ptr.now (naturals (map value ys)) c.args.parent.now) front
-    c.requires.1.1.1.1.1.1.1.1.0 in
+    c.requires.1.1.parents in
     let rows = naturals (map value done) in
     let fresh = c.args.fresh.now in
-    let part = slice_range rows c.args.from c.args.to in
+    let part = slice_range rows c.args.plan.from c.args.plan.to in
     let out = c.write_merged.new.out in
     let written : map value out ≡ map pos (merged part fresh) =
-    c.write_merged.ensures ∙ ap (λ zs. map pos (merged zs fresh)) (counts_range value done c.args.from c.args.to) in
+    c.write_merged.ensures ∙ ap (λ zs. map pos (merged zs fresh)) (counts_range value done c.args.plan.from c.args.plan.to) in
     let new = naturals (map value (done ++ out)) in
     let is : new ≡ rows ++ merged part fresh = counts_append value done out (merged part fresh) written in
     let begin : slice_index c.args.ptr.now c.args.k ≡ length rows =
@@ -60,38 +60,23 @@ close_column-requires g c κs inside =
     let all = ap length is in let sum = length-append rows (merged part fresh) in
     let kept = range_before rows (merged part fresh) new _ is begin in (
       inside,
-      (
-        c.requires.1.0,
-        (
-          c.requires.1.1.0,
-          (
-            are_append value done out (merged part fresh) numbers written,
-            (
-              hold_same g.o c.args.k c.args.ptr.now rows new columns kept (omega (arith, all, sum)),
-              (
-                tell_same g.o c.args.k c.args.ptr.now rows new columns kept (omega (arith, all, sum)) c.args.parent.now parents,
-                (
-                  c.requires.1.1.1.1.1.1.1.1.1,
-                  (
-                    omega (arith, size, begin, all, sum),
-                    (
-                      omega arith,
-                      subst (IsColumn g.o.graph g.o.rows c.args.k)
-                          (sym (range_last rows (merged part fresh) new _ _ is begin size))
-                          (merged_column (record { order = g.o; place = c.args.k; inherited = part }) fresh plans.rising plans.completes),
-                    ),
-                  ),
-                ),
-              ),
-            ),
-          ),
-        ),
-      ),
+      record {
+        laws = c.requires.1.1.laws;
+        place = c.requires.1.1.place;
+        numbers = are_append value done out (merged part fresh) numbers written;
+        columns = hold_same g.o c.args.k c.args.ptr.now rows new columns kept (omega (arith, all, sum));
+        parents = tell_same g.o c.args.k c.args.ptr.now rows new columns kept (omega (arith, all, sum)) c.args.parent.now parents;
+        links = c.requires.1.1.links;
+        range = omega (arith, size, begin, all, sum);
+        within = omega arith;
+        column = subst (IsColumn g.o.graph g.o.rows c.args.k) (sym (range_last rows (merged part fresh) new _ _ is begin size))
+            (merged_column (record { order = g.o; place = c.args.k; inherited = part }) fresh plans.rising plans.completes);
+      },
     )
 
 pub returns-clause-numbers : goal.returns-clause-numbers
 returns-clause-numbers g c =
     let value = g.N.Index.value in let done = c.split_at_mut-done.result.0.now in
     are_append value done c.write_merged.new.out
-    (merged (naturals (map value (slice_range done c.args.from c.args.to))) c.args.fresh.now)
-    (subst (λ ys. AreNonNegative (map value ys)) (sym c.split_at_mut-done.ensures.front) c.requires.1.1.1.1.1.1.0) c.write_merged.ensures
+    (merged (naturals (map value (slice_range done c.args.plan.from c.args.plan.to))) c.args.fresh.now)
+    (subst (λ ys. AreNonNegative (map value ys)) (sym c.split_at_mut-done.ensures.front) c.requires.1.1.numbers) c.write_merged.ensures

@@ -6,7 +6,7 @@ use Rattle.amd_factor.specs.Trees.{Entry}
 use Rattle.amd_factor.specs.Gathering.{IsChild, IsLastChild}
 use Rattle.amd_factor.proofs.Trees.ByChildren.{entry_by_child}
 use Rattle.amd_factor.proofs.Trees.Descent.{IsAhead, LeadsTo, ahead_past, leads}
-use Rattle.amd_factor.proofs.Factors.PlaceNumbers.{are_range, counts_range}
+use Rattle.amd_factor.proofs.Factors.PlaceNumbers.{are_range, counts_long, counts_range}
 use Rattle.amd_types.specs.Naturals.{naturals}
 use Rattle.amd_factor.proofs.column.gather_children.Goals as goal
 use Rattle.amd_factor.proofs.column.gather_children.Goals.{then-child-base, else-child-base}
@@ -16,14 +16,14 @@ gather-count-requires g c κs within =
     let value = g.N.Index.value in
     let from = c.inherited-from.result.0 in let to = c.inherited-from.result.1 in
     let is : IsChild g.c c.in-Some.child = subst (LeadsTo g.c.order g.c.place) c.in-Some.is c.children.invariant.leads in
-    let has = (c.inherited-from.ensures.inherits (naturals (map value c.args.rows.now)) c.requires.1.1.1.1.1.1.0).1 in (
+    let has = (c.inherited-from.ensures.takes g.c (naturals (map value c.args.columns.rows.now)) c.requires.1.columns.stand is).inherits.1 in (
       within,
       (
-        are_range value c.args.rows.now from to c.requires.1.1.1.1.1.0,
+        are_range value c.args.columns.rows.now from to c.requires.1.columns.numbers,
         (
-          (λ j h. let e = (has j).0 (subst (λ xs. Contains xs j) (counts_range value c.args.rows.now from to) h) in
-              entry_by_child g.c.order.graph g.c.order.rows c.requires.1.0 g.c.place j e.0 e.1.1 c.in-Some.child is e.1),
-          (c.children.auto.fresh ∙ c.requires.1.1.1.1.1.1.1.1.0, (c.children.invariant.count, c.children.invariant.marks)),
+          (λ j h. let e = (has j).0 (subst (λ xs. Contains xs j) (counts_range value c.args.columns.rows.now from to) h) in
+              entry_by_child g.c.order.graph g.c.order.rows c.requires.1.laws g.c.place j e.0 e.1.1 c.in-Some.child is e.1),
+          (c.children.auto.fresh ∙ c.requires.1.long, (c.children.invariant.count, c.children.invariant.marks)),
         ),
       ),
     )
@@ -33,13 +33,13 @@ children-preserved g c =
     let value = g.N.Index.value in
     let child = c.in-Some.child in
     let is : IsChild g.c child = subst (LeadsTo g.c.order g.c.place) c.in-Some.is c.children.invariant.leads in
-    let previous : IsLastChild g.c.order g.c.place child (slice_index_or c.args.link.now child None) =
-    c.requires.1.1.1.1.0.previous child g.c.place is.entry.0 is in
-    let leads' = leads g.c.order g.c.place child (slice_index_or c.args.link.now child None) previous in
-    let past : (m : ℕ) → IsChild g.c m → IsAhead c.children.next m → (m ≡ child) ⊎ IsAhead (slice_index_or c.args.link.now child None) m =
+    let previous : IsLastChild g.c.order g.c.place child (slice_index_or c.args.columns.link.now child None) =
+    c.requires.1.columns.links.previous child g.c.place is.entry.0 is in
+    let leads' = leads g.c.order g.c.place child (slice_index_or c.args.columns.link.now child None) previous in
+    let past : (m : ℕ) → IsChild g.c m → IsAhead c.children.next m → (m ≡ child) ⊎ IsAhead (slice_index_or c.args.columns.link.now child None) m =
     (λ m p x. elim (cases_eq m child) [
       | inl q ↦ inl q
-      | inr ne ↦ inr (ahead_past g.c.order g.c.place child m (slice_index_or c.args.link.now child None) previous p
+      | inr ne ↦ inr (ahead_past g.c.order g.c.place child m (slice_index_or c.args.columns.link.now child None) previous p
           (subst (λ v. IsAhead v m) c.in-Some.is x) ne)
     ]) in
     let at : (m j : ℕ) → m ≡ child → Entry g.c.order.graph g.c.order.rows m j → Entry g.c.order.graph g.c.order.rows child j =
@@ -53,10 +53,10 @@ children-preserved g c =
         done = λ m j p behind entry. elim (c.children.invariant.done m j p behind entry) [
           | inl x ↦ elim (past m p x) [
             | inl q ↦ inr (w.gather-count.ensures.all j
-                (subst (λ xs. Contains xs j) (sym (counts_range value c.args.rows.now w.inherited-from.result.0
+                (subst (λ xs. Contains xs j) (sym (counts_range value c.args.columns.rows.now w.inherited-from.result.0
                 w.inherited-from.result.1))
-                (((w.inherited-from.ensures.inherits (naturals (map value c.args.rows.now)) c.requires.1.1.1.1.1.1.0).1 j).1
-                (behind, at m j q entry))))
+                (((w.inherited-from.ensures.takes g.c (naturals (map value c.args.columns.rows.now)) c.requires.1.columns.stand
+                is).inherits.1 j).1 (behind, at m j q entry))))
             | inr a ↦ inl a
           ]
           | inr x ↦ inr (w.gather-count.ensures.kept j x)
@@ -70,7 +70,7 @@ children-preserved g c =
         done = λ m j p behind entry. elim (c.children.invariant.done m j p behind entry) [
           | inl x ↦ elim (past m p x) [
             | inl q ↦ inr (c.children.invariant.kept j
-                (c.requires.1.1.1.1.1.1.1.0 (subst (λ y. IsChild g.c y) w.if-child-base.false is) j behind
+                (c.requires.1.base_marked (subst (λ y. IsChild g.c y) w.if-child-base.false is) j behind
                 (subst (λ y. Entry g.c.order.graph g.c.order.rows y j) w.if-child-base.false (at m j q entry))))
             | inr a ↦ inl a
           ]
@@ -79,8 +79,19 @@ children-preserved g c =
       })
     ]
 
-pub offset_bounds-rows-from : goal.offset_bounds-rows-from
-offset_bounds-rows-from g c = grind (arith, common_steps)
-
 pub slice_bounds-gather-end : goal.slice_bounds-gather-end
-slice_bounds-gather-end g c = grind (arith, common_steps)
+slice_bounds-gather-end g c =
+    let value = g.N.Index.value in let rows = c.args.columns.rows.now in
+    let is : IsChild g.c c.in-Some.child = subst (LeadsTo g.c.order g.c.place) c.in-Some.is c.children.invariant.leads in
+    let w = (c.inherited-from.ensures.takes g.c (naturals (map value rows)) c.requires.1.columns.stand is).within in
+    let n = counts_long value rows in omega (arith, w, n)
+
+pub inherited-from-requires : goal.inherited-from-requires
+inherited-from-requires g c = record {
+  stands = (
+    g.c,
+    naturals (map g.N.Index.value c.args.columns.rows.now),
+    c.requires.1.columns.stand,
+    subst (LeadsTo g.c.order g.c.place) c.in-Some.is c.children.invariant.leads,
+  );
+}

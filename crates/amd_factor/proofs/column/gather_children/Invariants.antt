@@ -8,9 +8,6 @@ use Rattle.amd_factor.proofs.column.gather_children.Given as goal
 abbrev pub ghost-gather : goal.ghost-gather
 ghost-gather g a = g.c
 
-abbrev pub ghost-inherited : goal.ghost-inherited
-ghost-inherited g a = g.c
-
 abbrev pub invariant-children : goal.invariant-children
 invariant-children g l = record {
   count : l.count ≤ length l.fresh;

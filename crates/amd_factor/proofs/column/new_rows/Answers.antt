@@ -23,63 +23,45 @@ tell_later o k column stamp mark h = record {
 pub returns-then-not-tells-clause-completes : goal.returns-then-not-tells-clause-completes
 returns-then-not-tells-clause-completes g c =
     let empty = c.is_empty.ensures in let t = c.if-is_empty.true in
-    completes_alone g.c c.requires.1.0 c.args.base c.args.neighbours.now c.requires.1.1.1.1.1.1.1.1.1.1.1.0
-    c.requires.1.1.1.1.1.1.1.0 c.requires.1.1.1.1.1.1.1.1.1.1.1.1.0
+    completes_alone g.c c.requires.1.laws c.args.taken.base c.args.neighbours.now c.requires.1.inherits
+    c.requires.1.base c.requires.1.later
     (eqb-true (length c.args.neighbours.now) 0 (sym empty ∙ t)) (c.has_only_child.ensures.only c.if-has_only_child.true)
 
 pub mark_base-stamp-requires : goal.mark_base-stamp-requires
 mark_base-stamp-requires g c κs within =
-    let value = g.N.Index.value in (
+    let value = g.N.Index.value in let can = c.requires.1 in let rows = c.args.columns.rows.now in
+    let from = c.args.taken.from in let to = c.args.taken.to in (
       within,
-      (
-        c.requires.1.1.0,
-        (
-          c.requires.1.1.1.0,
-          (
-            are_range value c.args.rows.now c.args.from c.args.to c.requires.1.1.1.1.1.0,
-            (
-              c.requires.1.1.1.1.1.1.1.1.0 ∙ sym (counts_range value c.args.rows.now c.args.from c.args.to),
-              (c.requires.1.1.1.1.1.1.1.1.1.1.1.0, c.requires.1.1.1.1.1.1.1.1.1.1.1.1.1.0),
-            ),
-          ),
-        ),
-      ),
+      record {
+        place = can.place;
+        inside = can.inside;
+        numbers = are_range value rows from to can.columns.numbers;
+        taken = can.rows ∙ sym (counts_range value rows from to);
+        inherits = can.inherits;
+        marks = can.marks;
+      },
     )
 
 pub gather_children-count-requires : goal.gather_children-count-requires
 gather_children-count-requires g c κs within =
-    let m = c.mark_base-stamp.ensures in let u = c.unwrap_or.ensures in (
+    let m = c.mark_base-stamp.ensures in let u = c.unwrap_or.ensures in let can = c.requires.1 in (
       within,
-      (
-        c.requires.1.0,
-        (
-          c.requires.1.1.0,
-          (
-            c.requires.1.1.1.0,
-            (
-              c.requires.1.1.1.1.0,
-              (
-                c.requires.1.1.1.1.1.0,
-                (
-                  c.requires.1.1.1.1.1.1.0,
-                  (
-                    base_marked g.c c.args.base c.requires.1.1.1.1.1.1.1.1.1.1.1.0 c.args.k c.unwrap_or.result
-                        c.mark_base-stamp.result _ _ c.requires.1.1.0 u m,
-                    (c.requires.1.1.1.1.1.1.1.1.1.1.1.1.1.1, m),
-                  ),
-                ),
-              ),
-            ),
-          ),
-        ),
-      ),
+      record {
+        laws = can.laws;
+        place = can.place;
+        inside = can.inside;
+        columns = can.columns;
+        base_marked = base_marked g.c c.args.taken.base can.inherits c.args.k c.unwrap_or.result c.mark_base-stamp.result _ _ can.place u m;
+        long = can.long;
+        marks = m;
+      },
     )
 
 pub gather_places-count-requires : goal.gather_places-count-requires
 gather_places-count-requires g c = (
-  neighbour_gives g.c c.requires.1.0 c.args.neighbours.now c.requires.1.1.1.1.1.1.1.1.1.1.1.1.0,
+  neighbour_gives g.c c.requires.1.laws c.args.neighbours.now c.requires.1.later,
   (
-    c.gather_children-count.auto.fresh ∙ c.requires.1.1.1.1.1.1.1.1.1.1.1.1.1.1,
+    c.gather_children-count.auto.fresh ∙ c.requires.1.long,
     (c.gather_children-count.ensures.count, c.gather_children-count.ensures.marks),
   ),
 )
@@ -94,19 +76,19 @@ returns-clause-completes g c =
     (completes g.c c.mark_base-stamp.result (take c.gather_places-count.result c.gather_places-count.new.fresh)
     c.gather_places-count.new.mark c.gather_places-count.ensures.marks ys
     c.sort_unstable.ensures.permutation (IsNonDecreasingBy-from_sort (λ x. x) ys c.sort_unstable.ensures.sorted)
-    (inherited_gives g.c c.requires.1.0 c.args.base c.requires.1.1.1.1.1.1.1.1.1.1.1.0)
-    (all_marked g.c c.requires.1.0 c.args.neighbours.now c.gather_places-count.new.mark c.mark_base-stamp.result
-    c.requires.1.1.1.1.1.1.1.1.1.1.1.1.0 c.gather_places-count.ensures.all
+    (inherited_gives g.c c.requires.1.laws c.args.taken.base c.requires.1.inherits)
+    (all_marked g.c c.requires.1.laws c.args.neighbours.now c.gather_places-count.new.mark c.mark_base-stamp.result
+    c.requires.1.later c.gather_places-count.ensures.all
     (λ m j p behind x. c.gather_places-count.ensures.kept j (c.gather_children-count.ensures.children m j p behind x))))
 
 pub returns-clause-marks : goal.returns-clause-marks
 returns-clause-marks g c =
-    tell_next g.c c.requires.1.0 c.args.base c.requires.1.1.1.1.1.1.1.1.1.1.1.0 c.args.k c.mark_base-stamp.result _
-    c.gather_places-count.new.mark c.requires.1.1.0 c.gather_places-count.ensures.marks
-    (all_marked g.c c.requires.1.0 c.args.neighbours.now c.gather_places-count.new.mark c.mark_base-stamp.result
-    c.requires.1.1.1.1.1.1.1.1.1.1.1.1.0 c.gather_places-count.ensures.all
+    tell_next g.c c.requires.1.laws c.args.taken.base c.requires.1.inherits c.args.k c.mark_base-stamp.result _
+    c.gather_places-count.new.mark c.requires.1.place c.gather_places-count.ensures.marks
+    (all_marked g.c c.requires.1.laws c.args.neighbours.now c.gather_places-count.new.mark c.mark_base-stamp.result
+    c.requires.1.later c.gather_places-count.ensures.all
     (λ m j p behind x. c.gather_places-count.ensures.kept j (c.gather_children-count.ensures.children m j p behind x)))
 
 pub returns-then-not-tells-clause-marks : goal.returns-then-not-tells-clause-marks
 returns-then-not-tells-clause-marks g c =
-    tell_later g.c.order g.c.place c.args.marked.column c.args.marked.stamp c.args.mark.now c.requires.1.1.1.1.1.1.1.1.1.1.1.1.1.0
+    tell_later g.c.order g.c.place c.args.marked.column c.args.marked.stamp c.args.mark.now c.requires.1.marks

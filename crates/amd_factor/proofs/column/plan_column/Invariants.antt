@@ -6,12 +6,9 @@ use Rattle.amd_factor.proofs.column.plan_column.Given as goal
 abbrev pub ghost-greatest_child : goal.ghost-greatest_child
 ghost-greatest_child g a = record { order = g.o; place = a.k; inherited = [] }
 
-abbrev pub ghost-inherited : goal.ghost-inherited
-ghost-inherited g a = record { order = g.o; place = a.k; inherited = [] }
-
 abbrev pub ghost-new_rows : goal.ghost-new_rows
 ghost-new_rows g a = record {
   order = g.o;
   place = a.k;
-  inherited = slice_range (naturals (map g.N.Index.value a.rows.now)) a.from a.to;
+  inherited = slice_range (naturals (map g.N.Index.value a.columns.rows.now)) a.taken.from a.taken.to;
 }

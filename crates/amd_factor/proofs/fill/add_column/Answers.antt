@@ -21,42 +21,31 @@ module _ {N : Type 0} (value : N → ℤ) (o : Order) (k : ℕ) (ptr : List ℕ)
   columns_now : HoldBefore o k ptr (naturals (map value (take (slice_index ptr k) items))) → HoldBefore o k ptr (naturals (map value now))
   columns_now = subst (λ xs. HoldBefore o k ptr (naturals (map value xs))) whole
 
-pub plan_column-plan-requires : goal.plan_column-plan-requires
-plan_column-plan-requires g c κs inside = (
-  inside,
-  (
-    c.requires.1.1.0,
-    (
-      c.requires.1.1.1.0,
+pub plan_behind-plan-requires : goal.plan_behind-plan-requires
+plan_behind-plan-requires g c κs inside =
+    let q = c.requires.1.1 in let front = q.1.1.1.1.0 in let full = q.1.1.1.1.1.1.0 in
+    let value = g.N.Index.value in let ptr = c.args.ptr.now in let items = c.args.rows.now.items in (
+      inside,
       (
-        c.requires.1.1.1.1.1.0,
-        (
-          c.requires.1.1.1.1.1.1.0.filled.links,
-          (
-            numbers_now g.N.Index.value g.o c.args.k c.args.ptr.now c.args.rows.now.items c.deref.result.now
-                c.requires.1.1.1.1.1.1.1.1.0 c.deref.ensures.value c.requires.1.1.1.1.1.1.0.numbers,
-            (
-              columns_now g.N.Index.value g.o c.args.k c.args.ptr.now c.args.rows.now.items c.deref.result.now
-                  c.requires.1.1.1.1.1.1.1.1.0 c.deref.ensures.value c.requires.1.1.1.1.1.1.0.filled.columns,
-              (c.requires.1.1.1.1.1.1.0.filled.marks, c.requires.1.1.1.1.1.1.1.0),
-            ),
-          ),
-        ),
+        record { laws = q.0; place = q.1.0; later = q.1.1.1.0; marks = front.filled.marks; long = q.1.1.1.1.1.0 },
+        record {
+          numbers = numbers_now value g.o c.args.k ptr items c.deref.result.now full c.deref.ensures.value front.numbers;
+          links = front.filled.links;
+          columns = columns_now value g.o c.args.k ptr items c.deref.result.now full c.deref.ensures.value front.filled.columns;
+        },
       ),
-    ),
-  ),
-)
+    )
 
 pub returns-then-room-begin-clause-filled : goal.returns-then-room-begin-clause-filled
 returns-then-room-begin-clause-filled g c =
-    let full = c.requires.1.1.1.1.1.1.1.1.0 in let plan = c.plan_column-plan.result in
+    let full = c.requires.1.1.1.1.1.1.1.1.0 in let plan = c.plan_behind-plan.result in
     let columns = columns_now g.N.Index.value g.o c.args.k c.args.ptr.now c.args.rows.now.items c.deref.result.now full
     c.deref.ensures.value c.requires.1.1.1.1.1.1.0.filled.columns in
-    let count = length-take-le plan.count c.plan_column-plan.new.fresh c.plan_column-plan.ensures.count in
+    let count = length-take-le plan.count c.plan_behind-plan.new.fresh c.plan_behind-plan.ensures.count in
     let begin = c.len-begin.ensures in let more = c.if-room-begin.true in let within = c.requires.1.1.1.1.1.1.1.1.1.0 in
     passes g.o c.requires.1.1.0 c.args.k c.args.ptr.now (naturals (map g.N.Index.value c.deref.result.now))
-    (take plan.count c.plan_column-plan.new.fresh) plan.from plan.to c.args.room c.requires.1.1.1.0 columns
-    c.plan_column-plan.ensures.plans (omega (arith, count, begin, more, within, full))
+    (take plan.count c.plan_behind-plan.new.fresh) plan.from plan.to c.args.room c.requires.1.1.1.0 columns
+    c.plan_behind-plan.ensures.plans (omega (arith, count, begin, more, within, full))
 
 pub returns-clause-within : goal.returns-clause-within
 returns-clause-within g c = grind (arith, common_steps)

@@ -26,9 +26,9 @@ module _ {N : Type 0} (value : N → ℤ) (o : Order) (k : ℕ) (ptr : List ℕ)
       TellFirst o k ptr (naturals (map value (take (slice_index ptr k) (take (slice_index ptr k + size) rows)))) parent
   parents_here parent = subst (λ xs. TellFirst o k ptr (naturals (map value xs)) parent) same
 
-  plans_here : (from to : ℕ) (fresh : List ℕ) → Plans o k ptr (naturals (map value (take (slice_index ptr k) rows))) from to fresh →
-      Plans o k ptr (naturals (map value (take (slice_index ptr k) (take (slice_index ptr k + size) rows)))) from to fresh
-  plans_here from to fresh = subst (λ xs. Plans o k ptr (naturals (map value xs)) from to fresh) same
+  plans_here : (from to : ℕ) (fresh : List ℕ) → Plans o k (naturals (map value (take (slice_index ptr k) rows))) from to fresh →
+      Plans o k (naturals (map value (take (slice_index ptr k) (take (slice_index ptr k + size) rows)))) from to fresh
+  plans_here from to fresh = subst (λ xs. Plans o k (naturals (map value xs)) from to fresh) same
 
 -- how many numbers these are
 size_is : {N : Type 0} (rows : List N) (fresh : List ℕ) (begin taken count : ℕ) → begin ≤ length rows →
@@ -38,85 +38,57 @@ size_is rows fresh begin taken count low fits few =
     let a = length-take-le (begin + (taken + count)) rows (omega (arith, low, fits)) in
     let e = length-take-le count fresh few in omega (arith, a, e)
 
-pub plan_column-plan-requires : goal.plan_column-plan-requires
-plan_column-plan-requires g c κs inside = (
-  inside,
-  (
-    c.requires.1.0,
-    (
-      c.requires.1.1.0,
+pub plan_behind-plan-requires : goal.plan_behind-plan-requires
+plan_behind-plan-requires g c κs inside =
+    let q = c.requires.1 in let front = q.1.1.1.1.0 in (
+      inside,
       (
-        c.requires.1.1.1.1.0,
-        (
-          c.requires.1.1.1.1.1.0.filled.links,
-          (
-            c.requires.1.1.1.1.1.0.numbers,
-            (
-              c.requires.1.1.1.1.1.0.filled.columns,
-              (c.requires.1.1.1.1.1.0.filled.marks, c.requires.1.1.1.1.1.1),
-            ),
-          ),
-        ),
+        record { laws = q.0; place = q.1.0; later = q.1.1.1.0; marks = front.filled.marks; long = q.1.1.1.1.1 },
+        record { numbers = front.numbers; links = front.filled.links; columns = front.filled.columns },
       ),
-    ),
-  ),
-)
+    )
 
 pub overflow_add-size : goal.overflow_add-size
 overflow_add-size g c =
     let filled = c.requires.1.1.1.1.1.0 in
-    let plan = c.plan_column-plan.result in let count = c.plan_column-plan.ensures.count in
-    let short = taken_short g.o c.args.k c.args.ptr.now (naturals (map g.N.Index.value (take (slice_index c.args.ptr.now c.args.k)
-    c.args.rows.now))) (take plan.count c.plan_column-plan.new.fresh) plan.from plan.to filled.filled.columns
-    c.plan_column-plan.ensures.plans in
-    let room = filled.filled.parents.room in let same = c.plan_column-plan.auto.fresh in let all = c.requires.1.1.1.1.1.1 in
+    let plan = c.plan_behind-plan.result in let count = c.plan_behind-plan.ensures.count in
+    let short = taken_short g.o c.args.k (naturals (map g.N.Index.value (take (slice_index c.args.ptr.now c.args.k) c.args.rows.now)))
+    (take plan.count c.plan_behind-plan.new.fresh) plan.from plan.to c.plan_behind-plan.ensures.plans in
+    let room = filled.filled.parents.room in let same = c.plan_behind-plan.auto.fresh in let all = c.requires.1.1.1.1.1.1 in
     omega (arith, short, count, room, same, all)
 
 pub returns-then-rows-begin-clause-filled : goal.returns-then-rows-begin-clause-filled
 returns-then-rows-begin-clause-filled g c =
     let filled = c.requires.1.1.1.1.1.0 in
-    let plan = c.plan_column-plan.result in let count = length-take-le plan.count c.plan_column-plan.new.fresh
-    c.plan_column-plan.ensures.count in
+    let plan = c.plan_behind-plan.result in let count = length-take-le plan.count c.plan_behind-plan.new.fresh
+    c.plan_behind-plan.ensures.count in
     let more = c.if-rows-begin.true in let within = filled.within in
     passes g.o c.requires.1.0 c.args.k c.args.ptr.now
     (naturals (map g.N.Index.value (take (slice_index c.args.ptr.now c.args.k) c.args.rows.now)))
-    (take plan.count c.plan_column-plan.new.fresh) plan.from plan.to (length c.args.rows.now) c.requires.1.1.0 filled.filled.columns
-    c.plan_column-plan.ensures.plans
+    (take plan.count c.plan_behind-plan.new.fresh) plan.from plan.to (length c.args.rows.now) c.requires.1.1.0 filled.filled.columns
+    c.plan_behind-plan.ensures.plans
     (omega (arith, count, more, within))
 
 pub finish_column-requires : goal.finish_column-requires
 finish_column-requires g c κs inside =
-    let plan = c.plan_column-plan.result in
-    let size : ℕ = plan.to - plan.from + plan.count in (
+    let plan = c.plan_behind-plan.result in
+    let size : ℕ = plan.to - plan.from + plan.count in let q = c.requires.1 in let front = q.1.1.1.1.0 in
+    let value = g.N.Index.value in let ptr = c.args.ptr.now in let rows = c.args.rows.now in (
       inside,
       (
-        c.requires.1.0,
-        (
-          c.requires.1.1.0,
-          (
-            c.requires.1.1.1.0,
-            (
-              plans_here g.N.Index.value g.o c.args.k c.args.ptr.now c.args.rows.now size plan.from plan.to
-                  (take plan.count c.plan_column-plan.new.fresh) c.plan_column-plan.ensures.plans,
-              (
-                size_is c.args.rows.now c.plan_column-plan.new.fresh (slice_index c.args.ptr.now c.args.k) (plan.to - plan.from)
-                    plan.count c.requires.1.1.1.1.1.0.within c.if-rows-begin.false c.plan_column-plan.ensures.count,
-                (
-                  numbers_here g.N.Index.value g.o c.args.k c.args.ptr.now c.args.rows.now size c.requires.1.1.1.1.1.0.numbers,
-                  (
-                    columns_here g.N.Index.value g.o c.args.k c.args.ptr.now c.args.rows.now size
-                        c.requires.1.1.1.1.1.0.filled.columns,
-                    (
-                      parents_here g.N.Index.value g.o c.args.k c.args.ptr.now c.args.rows.now size c.args.parent.now
-                          c.requires.1.1.1.1.1.0.filled.parents,
-                      c.requires.1.1.1.1.1.0.filled.links,
-                    ),
-                  ),
-                ),
-              ),
-            ),
-          ),
-        ),
+        q.1.1.0,
+        record {
+          laws = q.0;
+          place = q.1.0;
+          plans = plans_here value g.o c.args.k ptr rows size plan.from plan.to (take plan.count c.plan_behind-plan.new.fresh)
+              c.plan_behind-plan.ensures.plans;
+          size = size_is rows c.plan_behind-plan.new.fresh (slice_index ptr c.args.k) (plan.to - plan.from) plan.count front.within
+              c.if-rows-begin.false c.plan_behind-plan.ensures.count;
+          numbers = numbers_here value g.o c.args.k ptr rows size front.numbers;
+          columns = columns_here value g.o c.args.k ptr rows size front.filled.columns;
+          parents = parents_here value g.o c.args.k ptr rows size c.args.parent.now front.filled.parents;
+          links = front.filled.links;
+        },
       ),
     )
 

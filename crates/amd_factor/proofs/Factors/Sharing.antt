@@ -1,0 +1,241 @@
+-- Columns that share entries: one with nothing new, one that is written behind all others, and one more of them.
+use Rattle.std.proofs.Common.{ℕ, ℤ, ◌≡◌, ◌≢◌, ◌<◌, ◌≤◌, ◌+◌, ◌-◌, ◌++◌, inl, inr, refl, sym, ◌∙◌, ap, subst, arith, List, map, length}
+use Rattle.std.proofs.Common.{pos, set, take, take_all, drop, []}
+use Rattle.std.specs.Prelude.{slice_index, slice_index_or, slice_range, Option, None}
+use Rattle.std.proofs.lemmas.Bool.{cases_eq}
+use Rattle.std.proofs.lemmas.List.{
+  get_or-map,
+  get_or-set_other,
+  get_or-set_same,
+  get_or_default,
+  length-append,
+  length-map,
+  length-set,
+  length-take,
+  same_lists,
+  take_at,
+}
+use Rattle.std.proofs.lemmas.List.Edits.{length-between}
+use Rattle.amd_model.specs.Factor.{IsColumn, IsFactor}
+use Rattle.amd_model.specs.Graph.{IsGraph}
+use Rattle.amd_model.proofs.Listings.ReachTest.{columns, factor_of}
+use Rattle.amd_types.specs.Naturals.{naturals}
+use Rattle.amd_factor.specs.Columns.{first_of}
+use Rattle.amd_factor.specs.Gathering.{LinkChildren, StandAt}
+use Rattle.amd_factor.specs.Merging.{merged}
+use Rattle.amd_factor.specs.Numbers.{AreNonNegative, Plans}
+use Rattle.amd_factor.specs.Orders.{Order}
+use Rattle.amd_factor.specs.Sharing.{HasPlaces, KeepsColumns, Share, StandsFrom, TellFirstAt}
+use Rattle.amd_factor.specs.Sizes.{HoldSizes}
+use Rattle.amd_factor.specs.Trees.{IsParent}
+use Rattle.amd_factor.specs.declared.sharing.SharedLists.{SharedLists}
+use Rattle.amd_factor.proofs.Trees.Descent.{last_later}
+use Rattle.amd_factor.proofs.Trees.FactorOnce.{column_once}
+use Rattle.amd_factor.proofs.Factors.Merging.{merged_is}
+use Rattle.amd_factor.proofs.Factors.PlaceNumbers.{are_append, counts_append, counts_long, counts_take}
+use Rattle.amd_factor.proofs.Factors.Standing.{merged_column}
+use Rattle.amd_factor.proofs.Factors.Tails.{range_last, range_same}
+
+-- the first two of three lists
+pub first_two : {N : Type 0} (n : ℕ) (xs ys zs : List N) → n ≡ length xs + length ys → xs ++ ys ≡ take n (xs ++ ys ++ zs)
+first_two n xs ys zs e =
+    sym (take_at (xs ++ ys) zs n (let l = length-append xs ys in omega (arith, l, e)))
+
+module _ {N : Type 0} (value : N → ℤ) (o : Order) (k : ℕ) (rows : List N) (from to : ℕ) (fresh : List ℕ)
+    (plans : Plans o k (naturals (map value rows)) from to fresh) where
+  -- a column with nothing new stands where that stands which it takes over
+  pub stands_shared : length fresh ≡ 0 → StandsFrom value o k from to rows
+  stands_shared none = record {
+    range = plans.range;
+    within = (let w = plans.within in let n = counts_long value rows in omega (arith, w, n));
+    column = record {
+      rising = plans.rising;
+      members = λ j. (
+        (λ x. (plans.completes.members j).0 (inl x)),
+        (λ e. elim ((plans.completes.members j).1 e) [
+          | inl x ↦ x
+          | inr x ↦ absurd (let l = x.1 in omega (arith, l, none))
+        ]),
+      );
+    };
+  }
+
+  -- how many entries a planned column has
+  pub planned_long : length (merged (slice_range (naturals (map value rows)) from to) fresh) ≡ to - from + length fresh
+  planned_long =
+      let part = length-between (naturals (map value rows)) from to plans.within in
+      let m = (merged_is (slice_range (naturals (map value rows)) from to) fresh).long in omega (arith, part, m)
+
+  module _ (out : List N) (written : map value out ≡ map pos (merged (slice_range (naturals (map value rows)) from to) fresh)) where
+    -- another one stands behind all rows, where it is written
+    pub stands_behind : StandsFrom value o k (length rows) (length rows + (to - from + length fresh)) (rows ++ out)
+    stands_behind =
+        let old : List ℕ = naturals (map value rows) in let column : List ℕ = merged (slice_range old from to) fresh in
+        let new : List ℕ = naturals (map value (rows ++ out)) in
+        let is : new ≡ old ++ column = counts_append value rows out column written in
+        let all = ap length is in let sum = length-append old column in let long = planned_long in
+        let n = counts_long value rows in let m = counts_long value (rows ++ out) in record {
+          range = omega arith;
+          within = omega (arith, all, sum, long, n, m);
+          column = subst (IsColumn o.graph o.rows k)
+              (sym (range_last old column new (length rows) _ is (sym n) (omega (arith, all, sum, long, n))))
+              (merged_column (record { order = o; place = k; inherited = slice_range old from to }) fresh plans.rising plans.completes);
+        }
+
+    pub numbers_behind : AreNonNegative (map value rows) → AreNonNegative (map value (rows ++ out))
+    numbers_behind numbers = are_append value rows out (merged (slice_range (naturals (map value rows)) from to) fresh) numbers written
+
+-- a part without places is empty
+pub no_part : (xs : List ℕ) (i j : ℕ) → i ≡ j → slice_range xs i j ≡ []
+no_part xs i j e = let none : j - i ≡ 0 = omega (arith, e) in ap (λ n. take n (drop i xs)) none
+
+-- a place that has no parent is no child
+pub links_later : (o : Order) (k : ℕ) (link : List (Option ℕ)) → ((q : ℕ) → IsParent o.graph o.rows k q → ⊥) →
+    LinkChildren o k link → LinkChildren o (k + 1) link
+links_later o k link never h = record {
+  room = h.room;
+  last = λ q low most. last_later o q k (slice_index_or link q None) (never q) (h.last q (omega (arith, low)) most);
+  previous = λ m q low p. elim (cases_eq m k) [
+    | inl e ↦ absurd (never q (subst (λ x. IsParent o.graph o.rows x q) e p))
+    | inr ne ↦ h.previous m q (omega (arith, low, ne)) p
+  ];
+}
+
+-- columns stand in a longer list as in its first part
+module _ {A N : Type 0} (value : N → ℤ) (o : Order) (k : ℕ) (l : SharedLists A) (rows rows' : List N) (h : Share value o k l rows)
+    (same : take (length rows) rows' ≡ rows) where
+  begins_so : take (length rows) (naturals (map value rows')) ≡ naturals (map value rows)
+  begins_so = sym (counts_take value (length rows) rows') ∙ ap (λ xs. naturals (map value xs)) same
+
+  part_same : (m : ℕ) → m < k → slice_range (naturals (map value rows)) (slice_index l.starts.items m) (slice_index l.ends.items m) ≡
+      slice_range (naturals (map value rows')) (slice_index l.starts.items m) (slice_index l.ends.items m)
+  part_same m low =
+      let starts = l.starts.items in let ends = l.ends.items in let w = h.stand.within m low in let n = counts_long value rows in
+      range_same (naturals (map value rows)) (naturals (map value rows')) (length rows) (slice_index starts m) (slice_index ends m)
+      (omega (arith, w, n)) (take_all (length rows) (naturals (map value rows)) (omega (arith, n)) ∙ sym begins_so)
+
+  pub share_longer : AreNonNegative (map value rows') → Share value o k l rows'
+  share_longer numbers = record {
+    numbers = numbers;
+    stand = record {
+      begins = h.stand.begins;
+      stops = h.stand.stops;
+      range = h.stand.range;
+      within = λ m low. (let w = h.stand.within m low in let n = counts_long value rows in let n' = counts_long value rows' in
+          let e = ap length same in let t = length-take (length rows) rows' in omega (arith, w, n, n', e, t));
+      each = λ m low. subst (IsColumn o.graph o.rows m) (part_same m low) (h.stand.each m low);
+    };
+    parents = record { room = h.parents.room; each = λ m low. h.parents.each m low ∙ ap first_of (part_same m low) };
+    links = h.links;
+  }
+
+-- one column more stands
+module _ (o : Order) (k begin end : ℕ) (starts ends rows : List ℕ) (h : StandAt o k starts ends rows)
+    (low : k < length o.rows) (range : begin ≤ end) (within : end ≤ length rows)
+    (column : IsColumn o.graph o.rows k (slice_range rows begin end)) where
+  start_is : slice_index (set starts k begin) k ≡ begin
+  start_is = get_or-set_same starts k begin 0 (let b = h.begins in omega (arith, b, low))
+
+  end_is : slice_index (set ends k end) k ≡ end
+  end_is = get_or-set_same ends k end 0 (let b = h.stops in omega (arith, b, low))
+
+  start_same : (m : ℕ) → m ≢ k → slice_index (set starts k begin) m ≡ slice_index starts m
+  start_same m ne = get_or-set_other starts k m begin 0 ne
+
+  end_same : (m : ℕ) → m ≢ k → slice_index (set ends k end) m ≡ slice_index ends m
+  end_same m ne = get_or-set_other ends k m end 0 ne
+
+  -- the entries of that column, and those of another one
+  part_is : slice_range rows begin end ≡ slice_range rows (slice_index (set starts k begin) k) (slice_index (set ends k end) k)
+  part_is = rw (start_is, end_is) refl
+
+  part_kept : (m : ℕ) → m ≢ k → slice_range rows (slice_index starts m) (slice_index ends m) ≡
+      slice_range rows (slice_index (set starts k begin) m) (slice_index (set ends k end) m)
+  part_kept m ne = rw (start_same m ne, end_same m ne) refl
+
+  pub stand_next : StandAt o (k + 1) (set starts k begin) (set ends k end) rows
+  stand_next = record {
+    begins = (let b = h.begins in let l = length-set starts k begin in omega (arith, b, l));
+    stops = (let b = h.stops in let l = length-set ends k end in omega (arith, b, l));
+    range = λ m l. elim (cases_eq m k) [
+      | inl q ↦ rw q (let s = start_is in let e = end_is in omega (arith, s, e, range))
+      | inr ne ↦ (let s = start_same m ne in let e = end_same m ne in let r = h.range m (omega (arith, l, ne)) in omega (arith, s, e, r))
+    ];
+    within = λ m l. elim (cases_eq m k) [
+      | inl q ↦ rw q (let e = end_is in omega (arith, e, within))
+      | inr ne ↦ (let e = end_same m ne in let w = h.within m (omega (arith, l, ne)) in omega (arith, e, w))
+    ];
+    each = λ m l. elim (cases_eq m k) [
+      | inl q ↦ rw q (subst (IsColumn o.graph o.rows k) part_is column)
+      | inr ne ↦ subst (IsColumn o.graph o.rows m) (part_kept m ne) (h.each m (omega (arith, l, ne)))
+    ];
+  }
+
+  pub tell_next : (parent : List (Option ℕ)) (first : Option ℕ) → TellFirstAt o k starts ends rows parent →
+      first ≡ first_of (slice_range rows begin end) →
+      TellFirstAt o (k + 1) (set starts k begin) (set ends k end) rows (set parent k first)
+  tell_next parent first t is = record {
+    room = length-set parent k first ∙ t.room;
+    each = λ m l. elim (cases_eq m k) [
+      | inl q ↦ rw q (get_or-set_same parent k first None (let r = t.room in omega (arith, r, low)) ∙ is ∙ ap first_of part_is)
+      | inr ne ↦ get_or-set_other parent k m first None ne ∙ t.each m (omega (arith, l, ne)) ∙ ap first_of (part_kept m ne)
+    ];
+  }
+
+-- they stand also where marks and new rows are others
+pub share_kept : {A N : Type 0} (value : N → ℤ) (o : Order) (k : ℕ) (l l' : SharedLists A) (rows : List N) → KeepsColumns l l' →
+    Share value o k l rows → Share value o k l' rows
+share_kept value o k l l' rows (starts, ends, parents, links) h = record {
+  numbers = h.numbers;
+  stand = rw (starts, ends) h.stand;
+  parents = rw (starts, ends, parents) h.parents;
+  links = rw links h.links;
+}
+
+pub places_kept : {A : Type 0} (o : Order) (l l' : SharedLists A) → KeepsColumns l l' → HasPlaces o l →
+    length l'.mark.items ≡ length o.rows → length l'.fresh.items ≡ length o.rows → HasPlaces o l'
+places_kept o l l' (starts, ends, parents, links) h marks fresh = record {
+  starts = ap length starts ∙ h.starts;
+  ends = ap length ends ∙ h.ends;
+  parents = ap length parents ∙ h.parents;
+  links = ap length links ∙ h.links;
+  marks = marks;
+  fresh = fresh;
+}
+
+-- all columns stand: how many entries each has, and the parents
+module _ {A N : Type 0} (value : N → ℤ) (o : Order) (laws : IsGraph o.graph) (l : SharedLists A) (rows : List N)
+    (h : Share value o (length o.rows) l rows) where
+  cols : List (List ℕ)
+  cols = columns o.graph o.rows
+
+  factor : IsFactor o.graph o.rows cols
+  unfolding cols
+  factor = factor_of o.graph o.rows laws
+
+  column_is : (k : ℕ) (d : List ℕ) → k < length o.rows →
+      slice_range (naturals (map value rows)) (slice_index l.starts.items k) (slice_index l.ends.items k) ≡ slice_index_or cols k d
+  column_is k d low = column_once o.graph o.rows k _ _ (h.stand.each k low) (factor.each k d low)
+
+  size_is : (k : ℕ) → k < length o.rows → slice_index l.ends.items k - slice_index l.starts.items k ≡ length (slice_index_or cols k [])
+  size_is k low =
+      let w = h.stand.within k low in
+      let part = length-between (naturals (map value rows)) (slice_index l.starts.items k) (slice_index l.ends.items k) w in
+      let same = ap length (column_is k [] low) in omega (arith, part, same)
+
+  pub shared_sizes : (sizes : List ℕ) → length sizes ≡ length o.rows →
+      ((k : ℕ) → k < length o.rows → slice_index sizes k ≡ slice_index l.ends.items k - slice_index l.starts.items k) →
+      HoldSizes o.graph o.rows sizes l.parent.items
+  shared_sizes sizes long each =
+      let places = factor.places in record {
+        columns = cols;
+        factor = factor;
+        sizes_are = same_lists sizes (map length cols) (long ∙ sym places ∙ sym (length-map cols length))
+            (λ k d low. let row : k < length o.rows = omega (arith, low, long) in
+            get_or_default sizes k d 0 low ∙ each k row ∙ size_is k row
+            ∙ sym (get_or-map length cols k [] d (omega (arith, row, places))));
+        parents = same_lists l.parent.items (map first_of cols) (h.parents.room ∙ sym places ∙ sym (length-map cols first_of))
+            (λ k d low. let room = h.parents.room in let row : k < length o.rows = omega (arith, low, room) in
+            get_or_default l.parent.items k d None low ∙ h.parents.each k row ∙ ap first_of (column_is k [] row)
+            ∙ sym (get_or-map first_of cols k [] d (omega (arith, row, places))));
+      }

@@ -1,0 +1,72 @@
+use Rattle.std.proofs.Common.{ℕ, ◌≡◌, ◌+◌, ◌-◌, ◌++◌, ◌∙◌, ap, arith, inl, inr, length, map, pos, subst, sym, take, drop}
+use Rattle.std.specs.Prelude.{Contains, slice_index, slice_range}
+use Rattle.std.proofs.lemmas.Bool.{eqb-true}
+use Rattle.std.proofs.lemmas.Grind.{common_steps}
+use Rattle.std.proofs.lemmas.List.Elements.{Contains-get_or}
+use Rattle.amd_types.specs.Naturals.{naturals}
+use Rattle.amd_factor.specs.Merging.{merged}
+use Rattle.amd_factor.specs.Numbers.{AreNonNegative, Plans}
+use Rattle.amd_factor.specs.Sharing.{StandsFrom}
+use Rattle.amd_factor.proofs.Factors.PlaceNumbers.{are_range, counts_range, place_of}
+use Rattle.amd_factor.proofs.Factors.Sharing.{first_two, numbers_behind, stands_behind, stands_shared}
+use Rattle.amd_factor.proofs.sharing.place_column.Goals as goal
+
+pub returns-then-is_empty-clause-stands : goal.returns-then-is_empty-clause-stands
+returns-then-is_empty-clause-stands g c =
+    let empty = c.is_empty.ensures in let t = c.if-is_empty.true in λ o k planned.
+    stands_shared g.N.Index.value o k c.args.rows.now.items c.args.plan.from c.args.plan.to c.args.fresh.now planned.plans
+    (eqb-true (length c.args.fresh.now) 0 (sym empty ∙ t))
+
+pub write_merged-requires-clause-numbers : goal.write_merged-requires-clause-numbers
+write_merged-requires-clause-numbers g c =
+    let done = c.split_at_mut-done.result.0.now in
+    let is : done ≡ c.args.rows.now.items = grind (arith, common_steps) in
+    are_range g.N.Index.value done c.args.plan.from c.args.plan.to
+    (subst (λ ys. AreNonNegative (map g.N.Index.value ys)) (sym is) c.requires.planned.2.numbers)
+
+pub write_merged-requires-clause-small : goal.write_merged-requires-clause-small
+write_merged-requires-clause-small g c =
+    let value = g.N.Index.value in let done = c.split_at_mut-done.result.0.now in
+    let is : done ≡ c.args.rows.now.items = grind (arith, common_steps) in
+    let o = c.requires.planned.0 in let k = c.requires.planned.1 in let planned = c.requires.planned.2 in
+    let from = c.args.plan.from in let to = c.args.plan.to in
+    let plans = subst (λ ys. Plans o k (naturals (map value ys)) from to c.args.fresh.now) (sym is) planned.plans in λ x l. (
+    let part = slice_range done from to in let j = slice_index (naturals (map value part)) x in
+    let entry = (plans.completes.members j).0 (inl (subst (λ ys. Contains ys j) (counts_range value done from to)
+    (place_of value part x l))) in
+    let low = entry.1 in let small = planned.small in omega (arith, low, small))
+
+pub write_merged-requires-clause-fits : goal.write_merged-requires-clause-fits
+write_merged-requires-clause-fits g c = λ k l. (
+    let x = slice_index c.args.fresh.now k in
+    let entry = (c.requires.planned.2.plans.completes.members x).0 (inr (Contains-get_or c.args.fresh.now k 0 l)) in
+    c.requires.planned.3 x entry.1)
+
+pub returns-clause-stands : goal.returns-clause-stands
+returns-clause-stands g c =
+    let value = g.N.Index.value in let done = c.split_at_mut-done.result.0.now in let rows = c.args.rows.now.items in
+    let is : done ≡ rows = grind (arith, common_steps) in
+    let from = c.args.plan.from in let to = c.args.plan.to in let fresh = c.args.fresh.now in let out = c.write_merged.new.out in
+    let written : map value out ≡ map pos (merged (slice_range (naturals (map value rows)) from to) fresh) =
+    c.write_merged.ensures ∙ ap (λ zs. map pos (merged zs fresh)) (counts_range value done from to)
+    ∙ ap (λ ys. map pos (merged (slice_range (naturals (map value ys)) from to) fresh)) is in
+    let begin : c.len-begin.result ≡ length rows = (let e = c.len-begin.ensures in omega (arith, e)) in
+    let long : c.replace_with.new.dest.len ≡ length done + length out = grind (arith, common_steps) in
+    let items = c.replace_with.new.dest.items in let rest = drop (length (done ++ out)) items in
+    let all = take c.replace_with.new.dest.len (done ++ out ++ rest) in
+    let whole : rows ++ out ≡ all = ap (λ xs. xs ++ out) (sym is) ∙ first_two c.replace_with.new.dest.len done out rest long in
+    λ o k planned. subst (λ b. StandsFrom value o k b (b + (to - from + length fresh)) all) (sym begin)
+    (subst (StandsFrom value o k (length rows) (length rows + (to - from + length fresh))) whole
+    (stands_behind value o k rows from to fresh planned.plans out written))
+
+pub returns-clause-numbers : goal.returns-clause-numbers
+returns-clause-numbers g c =
+    let value = g.N.Index.value in let done = c.split_at_mut-done.result.0.now in let rows = c.args.rows.now.items in
+    let is : done ≡ rows = grind (arith, common_steps) in
+    let from = c.args.plan.from in let to = c.args.plan.to in let fresh = c.args.fresh.now in let out = c.write_merged.new.out in
+    let planned = c.requires.planned.2 in
+    let long : c.replace_with.new.dest.len ≡ length done + length out = grind (arith, common_steps) in
+    subst (λ xs. AreNonNegative (map value xs)) (ap (λ xs. xs ++ out) (sym is) ∙ first_two c.replace_with.new.dest.len done out _ long)
+    (numbers_behind value c.requires.planned.0 c.requires.planned.1 rows from to fresh planned.plans out
+    (c.write_merged.ensures ∙ ap (λ zs. map pos (merged zs fresh)) (counts_range value done from to)
+    ∙ ap (λ ys. map pos (merged (slice_range (naturals (map value ys)) from to) fresh)) is) planned.numbers)

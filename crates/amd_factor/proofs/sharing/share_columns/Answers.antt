@@ -1,0 +1,63 @@
+use Rattle.std.proofs.Common.{ℕ, ◌≡◌, ◌<◌, ◌∙◌, arith, length, map, subst, sym, take}
+use Rattle.std.specs.Prelude.{◌^◌}
+use Rattle.std.proofs.lemmas.Grind.{common_steps}
+use Rattle.amd_types.specs.Naturals.{naturals}
+use Rattle.amd_factor.specs.Numbers.{Plans}
+use Rattle.amd_factor.specs.Sharing.{IsPlanned, Share, StandsFrom}
+use Rattle.amd_factor.proofs.Factors.Sharing.{places_kept, share_kept, share_longer}
+use Rattle.amd_factor.proofs.sharing.share_columns.Goals as goal
+
+pub plan_shared-plan-requires : goal.plan_shared-plan-requires
+plan_shared-plan-requires g c κs inside =
+    let q = c.requires.1.1.1 in let i = c.columns.invariant in
+    let low : c.columns.k < length g.o.rows = (let t = c.columns-test.true in let p = q.0.places.parents in omega (arith, t, p)) in (
+      inside.0,
+      (
+        inside.1,
+        (
+          record {
+            laws = q.0.laws;
+            place = low;
+            later = q.0.neighbours.each c.columns.k low;
+            marks = i.marks;
+            long = i.places.fresh;
+          },
+          subst (Share g.N.Index.value g.o c.columns.k c.columns.lists) (sym c.deref.ensures.value) i.columns,
+        ),
+      ),
+    )
+
+pub stand_column-requires : goal.stand_column-requires
+stand_column-requires g c κs inside =
+    let q = c.requires.1.1.1 in let i = c.columns.invariant in let value = g.N.Index.value in
+    let low : c.columns.k < length g.o.rows = (let t = c.columns-test.true in let p = q.0.places.parents in omega (arith, t, p)) in
+    let small : length g.o.rows < 2 ^ 64 = grind (arith, common_steps) in
+    let plan = c.plan_shared-plan.result in let lists = c.plan_shared-plan.new.lists in let rows = c.columns.rows.items in
+    let fresh = take plan.count c.deref-in-columns.result.now in
+    let planned : IsPlanned value g.o c.columns.k plan fresh rows = record {
+      plans = subst (λ ys. Plans g.o c.columns.k (naturals (map value rows)) plan.from plan.to (take plan.count ys))
+          (sym c.deref-in-columns.ensures.value)
+          (subst (λ xs. Plans g.o c.columns.k (naturals (map value xs)) plan.from plan.to (take plan.count lists.fresh.items))
+          c.deref.ensures.value c.plan_shared-plan.ensures.plans);
+      numbers = i.columns.numbers;
+      small = small;
+    } in
+    let kept = c.plan_shared-plan.ensures.kept in let written = c.place_column.new.rows.items in
+    let after : c.deref-in-columns-2.result.now ≡ written = c.deref-in-columns-2.ensures.value in (
+      inside.0,
+      (
+        inside.1,
+        record {
+          laws = q.0.laws;
+          place = low;
+          small = small;
+          places = places_kept g.o c.columns.lists lists kept i.places c.plan_shared-plan.ensures.marks.room
+              (c.plan_shared-plan.ensures.room ∙ i.places.fresh);
+          columns = subst (Share value g.o c.columns.k lists) (sym after) (share_longer value g.o c.columns.k lists rows written
+              (share_kept value g.o c.columns.k c.columns.lists lists rows kept i.columns) c.place_column.ensures.kept
+              c.place_column.ensures.numbers);
+          stands = subst (StandsFrom value g.o c.columns.k c.in-Some.begin c.in-Some.end) (sym after)
+              (c.in-Some.ensures.stands g.o c.columns.k planned);
+        },
+      ),
+    )

@@ -1,0 +1,71 @@
+-- Columns that share entries: one with nothing new has those of a child where they stand.
+use Rattle.std.specs.Prelude.{ℕ, ℤ, ◌≡◌, ◌<◌, ◌≤◌, ◌^◌, List, Option, None, map, length, slice_index, slice_index_or}
+use Rattle.std.specs.Prelude.{slice_range}
+use Rattle.amd_model.specs.Factor.{IsColumn}
+use Rattle.amd_model.specs.Graph.{IsGraph}
+use Rattle.amd_types.specs.Naturals.{naturals}
+use Rattle.amd_factor.specs.Columns.{first_of}
+use Rattle.amd_factor.specs.Gathering.{LinkChildren, MarksTell, StandAt}
+use Rattle.amd_factor.specs.Neighbours.{HasLater}
+use Rattle.amd_factor.specs.Numbers.{AreNonNegative, Plans}
+use Rattle.amd_factor.specs.Orders.{Order}
+use Rattle.amd_factor.specs.declared.column.Plan.{Plan}
+use Rattle.amd_factor.specs.declared.sharing.SharedLists.{SharedLists}
+
+-- the parents of the columns before place k are the first of the entries that stand for them
+pub record TellFirstAt (o : Order) (k : ℕ) (starts ends rows : List ℕ) (parent : List (Option ℕ)) : Type 0 where
+  pub room : length parent ≡ length o.rows
+  pub each : (m : ℕ) → m < k → slice_index_or parent m None ≡ first_of
+      (slice_range rows (slice_index starts m) (slice_index ends m))
+
+-- the columns before place k stand in numbers that are not negative, with their parents and children
+pub record Share {A N : Type 0} (value : N → ℤ) (o : Order) (k : ℕ) (l : SharedLists A) (rows : List N) : Type 0 where
+  pub numbers : AreNonNegative (map value rows)
+  pub stand : StandAt o k l.starts.items l.ends.items (naturals (map value rows))
+  pub parents : TellFirstAt o k l.starts.items l.ends.items (naturals (map value rows)) l.parent.items
+  pub links : LinkChildren o k l.link.items
+
+-- column k stands from place begin on, before end
+pub record StandsFrom {N : Type 0} (value : N → ℤ) (o : Order) (k begin end : ℕ) (rows : List N) : Type 0 where
+  pub range : begin ≤ end
+  pub within : end ≤ length rows
+  pub column : IsColumn o.graph o.rows k (slice_range (naturals (map value rows)) begin end)
+
+-- column k is planned, in rows of numbers that are not negative
+pub record IsPlanned {N : Type 0} (value : N → ℤ) (o : Order) (k : ℕ) (plan : Plan) (fresh : List ℕ) (rows : List N) : Type 0
+  where
+    pub plans : Plans o k (naturals (map value rows)) plan.from plan.to fresh
+    pub numbers : AreNonNegative (map value rows)
+    pub small : length o.rows < 2 ^ 64
+
+-- the lists have a place for each row
+pub record HasPlaces {A : Type 0} (o : Order) (l : SharedLists A) : Type 0 where
+  pub starts : length l.starts.items ≡ length o.rows
+  pub ends : length l.ends.items ≡ length o.rows
+  pub parents : length l.parent.items ≡ length o.rows
+  pub links : length l.link.items ≡ length o.rows
+  pub marks : length l.mark.items ≡ length o.rows
+  pub fresh : length l.fresh.items ≡ length o.rows
+
+-- but for marks and new rows, the lists are as they were
+abbrev pub KeepsColumns : {A : Type 0} → SharedLists A → SharedLists A → Type 0
+KeepsColumns old new = (new.starts.items ≡ old.starts.items) × (new.ends.items ≡ old.ends.items) ×
+    (new.parent.items ≡ old.parent.items) × (new.link.items ≡ old.link.items)
+
+-- it can be said of column k that it stands from place begin on, before end
+pub record CanStand {A N : Type 0} (value : N → ℤ) (o : Order) (k begin end : ℕ) (l : SharedLists A) (rows : List N) : Type 0
+  where
+    pub laws : IsGraph o.graph
+    pub place : k < length o.rows
+    pub small : length o.rows < 2 ^ 64
+    pub places : HasPlaces o l
+    pub columns : Share value o k l rows
+    pub stands : StandsFrom value o k begin end rows
+
+-- the columns can be made, by lists of later neighbours: no column stands yet, and none is marked
+pub record CanShare {A : Type 0} (o : Order) (starts later : List ℕ) (l : SharedLists A) : Type 0 where
+  pub laws : IsGraph o.graph
+  pub neighbours : HasLater o starts later
+  pub places : HasPlaces o l
+  pub links : LinkChildren o 0 l.link.items
+  pub marks : MarksTell o 0 None 0 l.mark.items

@@ -1,0 +1,262 @@
+// The columns of a factor, in which one with nothing new shares the entries of a child: they are not written again. So
+// the columns can be counted in room that does not grow with the factor, as long as few of them have something new.
+// Source: Sherman 1975 (compressed subscripts); George and Liu 1981.
+
+ghost use Rattle.std.specs.Prelude.{ℕ, ◌≡◌, ◌<◌, ◌≤◌, ◌+◌, ◌-◌, true, [], None, length, map, pos, slice_index, take, IfOk};
+ghost use Rattle.std.specs.Prelude.{MatchOption};
+ghost use Rattle.std.specs.Vec.{vec_capacity};
+ghost use Rattle.amd_model.specs.Graph.{IsGraph};
+ghost use Rattle.amd_types.specs.Naturals.{naturals};
+ghost use Rattle.amd_factor.specs.Counted.{TellCounts};
+ghost use Rattle.amd_factor.specs.Gathering.{LinkChildren, MarksTell};
+ghost use Rattle.amd_factor.specs.Neighbours.{HasLater};
+ghost use Rattle.amd_factor.specs.Numbers.{AreNonNegative, Plans};
+ghost use Rattle.amd_factor.specs.Orders.{Order};
+ghost use Rattle.amd_factor.specs.Planning.{CanPlan};
+ghost use Rattle.amd_factor.specs.Sharing.{CanShare, CanStand, HasPlaces, IsPlanned, KeepsColumns, Share};
+ghost use Rattle.amd_factor.specs.Sharing.{StandsFrom};
+
+use crate::children::link_child;
+use crate::column::{Columns, Marked, Plan, plan_column};
+use crate::counted::{Counts, need_of_sizes};
+use crate::fill::with_zeros;
+use crate::merge::write_merged;
+use crate::numbers::place_at;
+use amd_types::index::Index;
+use core::mem::replace_with;
+use std::alloc::{AllocError, Allocator};
+
+// How many numbers there is room for, for each arc and each row.
+const ROWS: usize = 8;
+
+/// The lists in which columns share their entries, each with a place for each column.
+#[derive(Drop)]
+pub struct SharedLists<A: Allocator> {
+    /// Where the entries of each column begin, and where they end.
+    pub starts: Vec<usize, A>,
+    pub ends: Vec<usize, A>,
+    /// The parent of each, its first entry.
+    pub parent: Vec<Option<usize>, A>,
+    /// For the work alone: marks, the children in lists, and the new rows of a column.
+    pub mark: Vec<usize, A>,
+    pub link: Vec<Option<usize>, A>,
+    pub fresh: Vec<usize, A>,
+}
+
+/// Takes the memory for these lists, as they are before the first column.
+///
+/// # Errors
+///
+/// A refused request for memory.
+fn shared_lists<A: Allocator + Copy>(alloc: A, columns: usize) -> Result<SharedLists<A>, AllocError>
+    ghost o: { Order }
+    requires { columns ≡ length o.rows }
+    ensures places { IfOk result (λ l. HasPlaces o l) }
+    ensures links { IfOk result (λ l. LinkChildren o 0 l.link.items) }
+    ensures marks { IfOk result (λ l. MarksTell o 0 None 0 l.mark.items) }
+{
+    let starts = vec![in alloc; 0; columns]?;
+    let ends = vec![in alloc; 0; columns]?;
+    let parent = vec![in alloc; None; columns]?;
+    let mark = vec![in alloc; 0; columns]?;
+    let link = vec![in alloc; None; columns]?;
+    let fresh = vec![in alloc; 0; columns]?;
+    Ok(SharedLists {
+        starts,
+        ends,
+        parent,
+        mark,
+        link,
+        fresh,
+    })
+}
+
+/// Plans column `k`, where those before it share their entries.
+fn plan_shared<N: Index, A: Allocator>(
+    k: usize,
+    neighbours: &[usize],
+    marked: Marked,
+    lists: &mut SharedLists<A>,
+    rows: &[N],
+) -> Plan
+    ghost o: { Order }
+    requires place { CanPlan o k neighbours.now marked lists.old.mark.items lists.old.fresh.items }
+    requires columns { Share N.value o k lists.old rows.now }
+    ensures count { result.count ≤ length lists.new.fresh.items }
+    ensures plans { Plans o k (naturals (map N.value rows.now)) result.from result.to
+        (take result.count lists.new.fresh.items) }
+    ensures marks { MarksTell o (k + 1) result.marked.column result.marked.stamp lists.new.mark.items }
+    ensures room { length lists.new.fresh.items ≡ length lists.old.fresh.items }
+    ensures kept { KeepsColumns lists.old lists.new }
+{
+    let columns = Columns {
+        starts: &lists.starts,
+        ends: &lists.ends,
+        rows,
+        link: &lists.link,
+    };
+    plan_column(
+        k,
+        neighbours,
+        marked,
+        columns,
+        &mut lists.mark,
+        &mut lists.fresh,
+    )
+}
+
+/// Where the entries of a planned column stand, from which place on and before which: if nothing is new, those that it
+/// takes over; else they are written behind all others. None where there is no room.
+fn place_column<N: Index, A: Allocator>(
+    plan: Plan,
+    fresh: &[usize],
+    rows: &mut Vec<N, A>,
+    room: usize,
+) -> Option<(usize, usize)>
+    requires planned { (o : Order) × (k : ℕ) × IsPlanned N.value o k plan fresh.now rows.old.items ×
+        ((j : ℕ) → j < length o.rows → N.fits (pos j)) }
+    requires room { room ≤ vec_capacity rows.old }
+    ensures stands { MatchOption result (Unit {0}) (λ s. (o : Order) (k : ℕ) →
+        IsPlanned N.value o k plan fresh.now rows.old.items → StandsFrom N.value o k s.0 s.1 rows.new.items) }
+    ensures kept { take (length rows.old.items) rows.new.items ≡ rows.old.items }
+    ensures numbers { AreNonNegative (map N.value rows.new.items) }
+    ensures capacity { vec_capacity rows.new ≡ vec_capacity rows.old }
+{
+    if fresh.is_empty() {
+        return Some((plan.from, plan.to));
+    }
+    let begin = rows.len();
+    let size = plan.to - plan.from + fresh.len();
+    if room < begin || room - begin < size {
+        return None;
+    }
+    replace_with(rows, size, with_zeros);
+    let (done, free) = rows.split_at_mut(begin);
+    write_merged(&done[plan.from..plan.to], fresh, free);
+    Some((begin, begin + size))
+}
+
+/// Says where column `k` stands: from place `begin` on, before `end`. Its first entry is its parent.
+fn stand_column<N: Index, A: Allocator>(
+    k: usize,
+    begin: usize,
+    end: usize,
+    rows: &[N],
+    lists: &mut SharedLists<A>,
+)
+    ghost o: { Order }
+    requires { CanStand N.value o k begin end lists.old rows.now }
+    ensures columns { Share N.value o (k + 1) lists.new rows.now }
+    ensures places { HasPlaces o lists.new }
+    ensures marks { lists.new.mark.items ≡ lists.old.mark.items }
+{
+    lists.starts[k] = begin;
+    lists.ends[k] = end;
+    if begin == end {
+        lists.parent[k] = None;
+        return;
+    }
+    let first = place_at(rows, begin);
+    lists.parent[k] = Some(first);
+    link_child(k, first, &mut lists.link);
+}
+
+/// How many rows were marked anew for columns that the marks did not tell, with those of column `k`.
+fn marked_again(before: usize, k: usize, plan: Plan) -> usize {
+    if plan.marked.stamp > k {
+        before.saturating_add(plan.to.saturating_sub(plan.from))
+    } else {
+        before
+    }
+}
+
+/// Makes the columns of a factor, in room for `room` numbers, for which `rows` has the capacity. Returns whether all of
+/// them stand: it ends where there is no room, and where more rows are marked again than that.
+///
+/// `later[starts[k]..starts[k + 1]]` names the places after `k` whose rows an edge joins with that at place `k`. The
+/// lists are as before the first column.
+fn share_columns<N: Index, A: Allocator>(
+    starts: &[usize],
+    later: &[usize],
+    room: usize,
+    lists: &mut SharedLists<A>,
+    rows: &mut Vec<N, A>,
+) -> bool
+    ghost o: { Order }
+    requires fits { (j : ℕ) → j < length o.rows → N.fits (pos j) }
+    requires columns { CanShare o starts.now later.now lists.old }
+    requires room { (rows.old.items ≡ []) × (room ≤ vec_capacity rows.old) }
+    ensures shared { result ≡ true → Share N.value o (length o.rows) lists.new rows.new.items }
+    ensures places { HasPlaces o lists.new }
+{
+    let mut marked = Marked {
+        column: None,
+        stamp: 0,
+    };
+    let mut again = 0;
+    'columns: for k in 0..lists.parent.len() {
+        let neighbours = &later[starts[k]..starts[k + 1]];
+        let plan = plan_shared(k, neighbours, marked, lists, rows);
+        let Some((begin, end)) = place_column(plan, &lists.fresh[..plan.count], rows, room) else {
+            return false;
+        };
+        stand_column(k, begin, end, rows, lists);
+        marked = plan.marked;
+        again = marked_again(again, k, plan);
+        if again > room {
+            return false;
+        }
+    }
+    true
+}
+
+/// Puts in the place of each end how many entries the column has that begins at its place in `starts`.
+fn count_entries(starts: &[usize], ends: &mut [usize])
+    requires places { length starts.now ≡ length ends.old }
+    requires range { (k : ℕ) → k < length ends.old → slice_index starts.now k ≤ slice_index ends.old k }
+    ensures { (length ends.new ≡ length ends.old) × ((k : ℕ) → k < length ends.old →
+        slice_index ends.new k ≡ slice_index ends.old k - slice_index starts.now k) }
+{
+    'columns: for k in 0..ends.len() {
+        ends[k] -= starts[k];
+    }
+}
+
+/// The room for the entries of columns that share them, where the lists of neighbours have so many arcs.
+fn shared_room(columns: usize, arcs: usize) -> usize {
+    ROWS.saturating_mul(columns.saturating_add(arcs))
+}
+
+/// Counts the entries of the columns of a factor and sums up what it needs, by the lists of later neighbours: the
+/// columns are made, and share their entries. None where there is no room for all of them, or more work than that. All
+/// memory is taken before the first column.
+///
+/// # Errors
+///
+/// A refused request for memory.
+pub fn shared_counts<A: Allocator + Copy>(
+    alloc: A,
+    starts: &[usize],
+    later: &[usize],
+) -> Result<Option<Counts<A>>, AllocError>
+    ghost o: { Order }
+    requires laws { IsGraph o.graph }
+    requires later { HasLater o starts.now later.now }
+    ensures { IfOk result (λ r. MatchOption r (Unit {0})
+        (λ c. TellCounts o.graph o.rows c.sizes.items c.parent.items c.need)) }
+{
+    let columns = starts.len() - 1;
+    let room = shared_room(columns, later.len());
+    let mut lists = shared_lists(alloc, columns)?;
+    let mut rows: Vec<usize, A> = Vec::with_capacity(alloc, room)?;
+    if !share_columns(starts, later, room, &mut lists, &mut rows) {
+        return Ok(None);
+    }
+    count_entries(&lists.starts, &mut lists.ends);
+    let need = need_of_sizes(&lists.ends);
+    Ok(Some(Counts {
+        sizes: lists.ends,
+        parent: lists.parent,
+        need,
+    }))
+}
