@@ -9,7 +9,8 @@ use Rattle.amd_factor.proofs.below.put_row.Goals as goal
 
 pub offset_bounds-rows-next : goal.offset_bounds-rows-next
 offset_bounds-rows-next g c =
-    let i = row-in g.b c.args.j c.args.s c.args.next.now c.args.mark.now (naturals (map g.I.Index.value c.args.rows.now)) c.requires.1.0.laws
+    let i = row-in g.b c.args.j c.args.s c.args.next.now c.args.mark.now (naturals (map g.I.Index.value c.args.rows.now))
+    c.requires.1.0.laws
     c.requires.1.0.place c.requires.1.1.climbs c.requires.1.1.new in
     let n = count-length g.I.Index.value c.args.rows.now in
     offset_fits _ (length c.args.rows.now) _ (in-range _ _ _ i n) (omega arith)
@@ -17,14 +18,16 @@ offset_bounds-rows-next g c =
 pub bounds-rows-next : goal.bounds-rows-next
 bounds-rows-next g c =
     let n = count-length g.I.Index.value c.args.rows.now in
-    let i = row-in g.b c.args.j c.args.s c.args.next.now c.args.mark.now (naturals (map g.I.Index.value c.args.rows.now)) c.requires.1.0.laws
+    let i = row-in g.b c.args.j c.args.s c.args.next.now c.args.mark.now (naturals (map g.I.Index.value c.args.rows.now))
+    c.requires.1.0.laws
     c.requires.1.0.place c.requires.1.1.climbs c.requires.1.1.new in
     omega (arith, i, n)
 
 pub overflow_add-next : goal.overflow_add-next
 overflow_add-next g c =
     let n = count-length g.I.Index.value c.args.rows.now in
-    let i = row-in g.b c.args.j c.args.s c.args.next.now c.args.mark.now (naturals (map g.I.Index.value c.args.rows.now)) c.requires.1.0.laws
+    let i = row-in g.b c.args.j c.args.s c.args.next.now c.args.mark.now (naturals (map g.I.Index.value c.args.rows.now))
+    c.requires.1.0.laws
     c.requires.1.0.place c.requires.1.1.climbs c.requires.1.1.new in
     omega (arith, i, n)
 

@@ -22,14 +22,16 @@ after : (g : Over) (c : After-meet-meeting g) → (c.meet-meeting.result < lengt
     (bump c.arcs.plus (slice_index c.args.rank.now c.args.j))
     (bump c.arcs.minus (slice_index c.args.rank.now c.meet-meeting.result))
 after g c =
-    this-arc g.at.0 c.requires.0.scene g.at.1 c.args.j c.args.later.now c.requires.0.place c.requires.0.here c.requires.0.later_are c.arcs.i-index
+    this-arc g.at.0 c.requires.0.scene g.at.1 c.args.j c.args.later.now c.requires.0.place c.requires.0.here c.requires.0.later_are
+    c.arcs.i-index
     c.arcs-test.true c.arcs.last c.arcs.plus c.arcs.minus c.arcs.invariant.met c.meet-meeting.result (length c.args.last.now)
     c.args.rank.now c.requires.1.met.last_room c.requires.0.ranks c.meet-meeting.ensures.first c.meet-meeting.ensures.lowest
 
 -- the place where it meets the arc before it has a counter
 there_low : (g : Over) (c : After-meet-meeting g) → slice_index c.args.rank.now c.meet-meeting.result < length c.arcs.minus
 there_low g c =
-    minus-low g.at.0 c.requires.0.scene g.at.1 c.args.j c.args.later.now c.requires.0.place c.requires.0.here c.requires.0.later_are c.arcs.i-index
+    minus-low g.at.0 c.requires.0.scene g.at.1 c.args.j c.args.later.now c.requires.0.place c.requires.0.here c.requires.0.later_are
+    c.arcs.i-index
     c.arcs-test.true c.arcs.last c.arcs.plus c.arcs.minus c.arcs.invariant.met c.meet-meeting.result c.args.rank.now c.requires.0.ranks
     (after g c).0
 
@@ -37,7 +39,8 @@ pub arcs-init : goal.arcs-init
 arcs-init g c =
     record {
       links = c.requires.1.links;
-      met = taken-none g.at.0 c.requires.0.scene g.at.1 c.args.j c.args.later.now c.requires.0.place c.requires.0.here c.requires.0.later_are _ _ _
+      met = taken-none g.at.0 c.requires.0.scene g.at.1 c.args.j c.args.later.now c.requires.0.place c.requires.0.here
+          c.requires.0.later_are _ _ _
           c.requires.1.met;
       sum = omega arith;
     }
@@ -73,7 +76,8 @@ offset_bounds-minus-there g c = let low = there_low g (goal.at.offset_bounds-min
 pub overflow_add-minus : goal.overflow_add-minus
 overflow_add-minus g c =
     let low = (after g (goal.at.overflow_add-minus g c).After-meet-meeting).0 in
-    let m = minus-more g.at.0 c.requires.0.scene g.at.1 c.args.j c.args.later.now c.requires.0.place c.requires.0.here c.requires.0.later_are
+    let m = minus-more g.at.0 c.requires.0.scene g.at.1 c.args.j c.args.later.now c.requires.0.place c.requires.0.here
+    c.requires.0.later_are
     c.arcs.i-index c.arcs-test.true c.arcs.last c.arcs.plus c.arcs.minus c.arcs.invariant.met c.meet-meeting.result
     c.args.rank.now c.requires.0.ranks low in
     let sum = c.arcs.invariant.sum in let enough = c.requires.1.room in let t = c.arcs-test.true in omega (arith, m, sum, enough, t)
@@ -91,7 +95,8 @@ arcs-preserved g c =
 
 pub returns-clause-met : goal.returns-clause-met
 returns-clause-met g c =
-    taken-all g.at.0 c.requires.0.scene g.at.1 c.args.j c.args.later.now c.requires.0.place c.requires.0.here c.requires.0.later_are c.arcs.i-index
+    taken-all g.at.0 c.requires.0.scene g.at.1 c.args.j c.args.later.now c.requires.0.place c.requires.0.here c.requires.0.later_are
+    c.arcs.i-index
     c.arcs-test.false _ _ _
     c.arcs.invariant.met
 

@@ -42,5 +42,6 @@ returns g c =
     let laws = c.requires.0.laws in let tells = c.requires.0.parents in let goes = c.go_up.ensures in
     let parent = c.args.parent.now in let up = c.go_up.new.up in let size = c.measure.new.size in let rank = c.rank_places.new.rank in
     sizes-held g.at.0 laws parent up tells goes size rank c.measure.ensures.measured c.measure.ensures.all c.rank_places.ensures
-    c.sweep.new.counts (c.sweep.auto.counts ∙ c.requires.1.1.counts_room) (λ k l. whole-targets g.at.0 g.at.1 laws c.requires.0.thins parent up tells
+    c.sweep.new.counts (c.sweep.auto.counts ∙ c.requires.1.1.counts_room) (λ k l. whole-targets g.at.0 g.at.1 laws
+    c.requires.0.thins parent up tells
     goes size rank c.measure.ensures.measured c.measure.ensures.all c.rank_places.ensures k _ (c.sweep.ensures k l))
