@@ -34,3 +34,5 @@ pub mod Partitions
 pub mod SupernodeLaws
 -- the memory of a workspace in a lent block
 pub mod Blocks
+-- what functions ask of their lists
+pub mod Premises

@@ -2,15 +2,16 @@
 // up to those that have it, or to its own, and so the rows of each come in ascending order. Source: Liu 1990; Liu, Ng
 // and Peyton 1993. The rows are written as numbers of the caller's type.
 
-ghost use Rattle.std.specs.Prelude.{ℕ, ◌≡◌, ◌<◌, ◌+◌, ◌-◌, length, map, pos, slice_index};
-ghost use Rattle.amd_model.specs.Graph.{IsGraph};
+ghost use Rattle.std.specs.Prelude.{ℕ, ◌≡◌, ◌<◌, ◌+◌, ◌-◌, length, map, slice_index};
 ghost use Rattle.amd_types.specs.Naturals.{naturals};
 ghost use Rattle.amd_factor.specs.Numbers.{AreNonNegative};
-ghost use Rattle.amd_factor.specs.Partitions.{Climbs, IsCut, IsMarkedBy, MarkedBefore, Partition};
-ghost use Rattle.amd_factor.specs.Partitions.{WrittenTo};
+ghost use Rattle.amd_factor.specs.Partitions.{Climbs, IsMarkedBy, MarkedBefore, Partition, WrittenTo};
+ghost use Rattle.amd_factor.specs.Premises.{CanAddRow, CanClimb, CanFillRows, CanPutRow, IsCutOf, IsRowOf};
 ghost use Rattle.amd_factor.specs.Supernodes.{HoldSupernodes};
 ghost use Rattle.amd_factor.specs.Thinning.{AreThinned, HasThinned};
 
+use crate::neighbours::Neighbours;
+use crate::partition::LentCut;
 use amd_types::index::Index;
 use amd_types::internal::from_count;
 
@@ -36,13 +37,8 @@ fn put_row<I: Index>(
     rows: &mut [I],
 ) -> usize
     ghost b: { Partition }
-    requires laws { IsGraph b.order.graph }
-    requires place { j < length b.owner }
-    requires number { I.value number ≡ pos j }
-    requires parents { parent.now ≡ b.parent }
-    requires climbs { Climbs b j s next.old mark.old (naturals (map I.value rows.old)) }
-    requires new { ¬ (IsMarkedBy mark.old j s) }
-    requires told { AreNonNegative (map I.value rows.old) }
+    requires row { IsRowOf b j (I.value number) parent.now }
+    requires lists { CanPutRow b j s next.old mark.old (map I.value rows.old) }
     ensures told { AreNonNegative (map I.value rows.new) }
     ensures climbs { Climbs b j result next.new mark.new (naturals (map I.value rows.new)) }
     ensures higher { s < result }
@@ -66,12 +62,8 @@ fn climb<I: Index>(
     rows: &mut [I],
 )
     ghost b: { Partition }
-    requires laws { IsGraph b.order.graph }
-    requires place { j < length b.owner }
-    requires parents { parent.now ≡ b.parent }
-    requires number { I.value number ≡ pos j }
-    requires climbs { Climbs b j from next.old mark.old (naturals (map I.value rows.old)) }
-    requires told { AreNonNegative (map I.value rows.old) }
+    requires row { IsRowOf b j (I.value number) parent.now }
+    requires lists { CanClimb b j from next.old mark.old (map I.value rows.old) }
     ensures told { AreNonNegative (map I.value rows.new) }
     ensures climbs { Climbs b j (slice_index b.owner j) next.new mark.new (naturals (map I.value rows.new)) }
     ensures marked { IsMarkedBy mark.new j from }
@@ -88,76 +80,55 @@ fn add_row<I: Index>(
     j: usize,
     number: I,
     earlier: &[usize],
-    owner: &[usize],
-    parent: &[Option<usize>],
+    cut: &LentCut<'_>,
     next: &mut [usize],
     mark: &mut [usize],
     rows: &mut [I],
 )
     ghost b: { Partition }
-    requires laws { IsGraph b.order.graph }
-    requires place { j < length b.owner }
-    requires number { I.value number ≡ pos j }
-    requires owners { owner.now ≡ b.owner }
-    requires parents { parent.now ≡ b.parent }
+    requires row { IsRowOf b j (I.value number) cut.now.parent.now }
     requires earlier { AreThinned b.order j earlier.now }
-    requires written { WrittenTo b j next.old (naturals (map I.value rows.old)) }
-    requires marks { MarkedBefore b j mark.old }
-    requires told { AreNonNegative (map I.value rows.old) }
+    requires lists { CanAddRow b j cut.now.owner.now next.old mark.old (map I.value rows.old) }
     ensures told { AreNonNegative (map I.value rows.new) }
     ensures written { WrittenTo b (j + 1) next.new (naturals (map I.value rows.new)) }
     ensures marks { MarkedBefore b (j + 1) mark.new }
 {
-    mark[owner[j]] = j + 1;
+    mark[cut.owner[j]] = j + 1;
     'earlier: for &i in earlier {
-        climb(j, number, owner[i], parent, next, mark, rows);
+        climb(j, number, cut.owner[i], cut.parent, next, mark, rows);
     }
 }
 
 /// Writes the rows below the block of each supernode.
 ///
-/// `earlier[starts[j]..starts[j + 1]]` names the places before `j` whose rows an edge joins with that at place `j`. It
-/// may leave out a place that stands over one that it names, since a climb from there comes by.
+/// `earlier` names the places before each place whose rows an edge joins with its own. It may leave out a place that
+/// stands over one that it names, since a climb from there comes by.
 ///
-/// `first` and `ptr` say where each supernode and its rows begin, and where the last ones end; `owner` holds the
-/// supernode of each place, and `parent` the parent of each supernode. `next` and `mark`, which are for the work alone,
-/// have as many places as there are supernodes.
+/// `next` and `mark`, which are for the work alone, have as many places as there are supernodes.
 ///
 /// No memory is asked for. The steps are as many as there are earlier neighbours, rows below the blocks, and places.
 pub fn fill_rows<I: Index>(
-    starts: &[usize],
-    earlier: &[usize],
-    first: &[usize],
-    owner: &[usize],
-    ptr: &[usize],
-    parent: &[Option<usize>],
+    earlier: &Neighbours<'_>,
+    cut: &LentCut<'_>,
     next: &mut [usize],
     mark: &mut [usize],
     rows: &mut [I],
 )
     ghost b: { Partition }
-    requires laws { IsGraph b.order.graph }
-    requires cut { IsCut b }
-    requires firsts { first.now ≡ b.first }
-    requires owners { owner.now ≡ b.owner }
-    requires pointers { ptr.now ≡ b.ptr }
-    requires parents { parent.now ≡ b.parent }
-    requires earlier { HasThinned b.order starts.now earlier.now }
-    requires nexts { length next.old + 1 ≡ length b.first }
-    requires marks { length mark.old + 1 ≡ length b.first }
-    requires room { length rows.old ≡ slice_index b.ptr (length b.first - 1) }
-    requires fits { I.fits (pos (length b.owner)) }
+    requires cut { IsCutOf b cut.now }
+    requires earlier { HasThinned b.order earlier.now.starts.now earlier.now.places.now }
+    requires room { CanFillRows b I.fits next.old mark.old (length rows.old) }
     ensures told { AreNonNegative (map I.value rows.new) }
     ensures rows { HoldSupernodes b.order.graph b.order.rows b.first b.ptr (naturals (map I.value rows.new)) b.parent }
 {
-    next.copy_from_slice(&ptr[..first.len() - 1]);
+    next.copy_from_slice(&cut.ptr[..cut.first.len() - 1]);
     mark.fill(0);
     clear(rows);
-    'rows: for j in 0..owner.len() {
+    'rows: for j in 0..cut.owner.len() {
         let Some(number) = from_count(j) else {
             unreachable!()
         };
-        let neighbours = &earlier[starts[j]..starts[j + 1]];
-        add_row(j, number, neighbours, owner, parent, next, mark, rows);
+        let neighbours = &earlier.places[earlier.starts[j]..earlier.starts[j + 1]];
+        add_row(j, number, neighbours, cut, next, mark, rows);
     }
 }

@@ -4,14 +4,12 @@
 
 ghost use Rattle.std.specs.Prelude.{◌≡◌, ◌≤◌, ◌+◌, ◌∷◌, [], pos, length, map, IfOk, IfErr, MatchOption};
 ghost use Rattle.amd_model.specs.Graph.{IsGraph};
-ghost use Rattle.amd_model.specs.Input.Columns.{IsColumnForm};
-ghost use Rattle.amd_model.specs.Input.Pattern.{graph_of};
 ghost use Rattle.amd_factor.specs.Columns.{FactorSizes, HoldFactor, PassesRoom};
 ghost use Rattle.amd_factor.specs.Orders.{Order};
 ghost use Rattle.amd_factor.specs.Neighbours.{HasLater};
-ghost use Rattle.amd_types.specs.Naturals.{naturals};
 ghost use Rattle.amd_factor.specs.Factors.{IsFactorOf, IsFault};
 ghost use Rattle.amd_factor.specs.Unfit.{fault_of};
+ghost use Rattle.amd_factor.specs.Within.{IsPosed};
 ghost use Rattle.amd_factor.specs.declared.factor.Fault.TheVariants.{OutOfMemory};
 
 use crate::entrance::{Unfit, rows_of};
@@ -190,9 +188,7 @@ fn form_columns<I: Index, A: Allocator + Copy>(
     room: usize,
 ) -> Result<Factor<A>, Fault>
     ghost o: { Order }
-    requires form { IsColumnForm (pos size) size (map I.value a_p.now) (map I.value a_i.now) }
-    requires graph { o.graph ≡ graph_of size (map I.value a_p.now) (map I.value a_i.now) }
-    requires rows { o.rows ≡ naturals (map I.value p.now) }
+    requires posed { IsPosed o size (map I.value a_p.now) (map I.value a_i.now) (map I.value p.now) }
     ensures factor { IfOk result (λ f. IsFactorOf (pos size) (map I.value a_p.now) (map I.value a_i.now)
         (map I.value p.now) f.ptr.items f.rows.items f.parent.items) }
     ensures room { IfOk result (λ f. length f.rows.items ≤ room) }

@@ -2,14 +2,11 @@
 
 ghost use Rattle.std.specs.Prelude.{ℕ, List, ◌≡◌, ◌≢◌, ◌<◌, ◌∷◌, ◌++◌, [], pos, drop, length, map};
 ghost use Rattle.std.specs.Prelude.{IfOk, IfErr, MatchOption};
-ghost use Rattle.amd_model.specs.Graph.{IsGraph};
-ghost use Rattle.amd_model.specs.Input.Columns.{IsColumnForm};
-ghost use Rattle.amd_model.specs.Input.Pattern.{graph_of};
 ghost use Rattle.amd_factor.specs.Columns.{HoldFactor, PassesRoom};
 ghost use Rattle.amd_factor.specs.Orders.{Order};
-ghost use Rattle.amd_factor.specs.Neighbours.{HasLater};
-ghost use Rattle.amd_types.specs.Naturals.{naturals};
+ghost use Rattle.amd_factor.specs.Premises.{CanWriteFactor};
 ghost use Rattle.amd_factor.specs.Factors.{IsFault, WritesFactor};
+ghost use Rattle.amd_factor.specs.Within.{IsPosed};
 ghost use Rattle.amd_factor.specs.declared.factor.Fault.TheVariants.{OutOfMemory, RoomTooSmall};
 
 use crate::entrance::rows_of;
@@ -56,9 +53,7 @@ fn written_into<I: Index, A: Allocator + Copy>(
     rows: &mut [I],
 ) -> Result<Option<Frame<A>>, AllocError>
     ghost o: { Order }
-    requires laws { IsGraph o.graph }
-    requires fits { (j : ℕ) → j < length o.rows → I.fits (pos j) }
-    requires later { HasLater o starts.now later.now }
+    requires lists { CanWriteFactor o I.fits starts.now later.now }
     ensures factor { IfOk result (λ r. MatchOption r (PassesRoom o.graph o.rows (length rows.old))
         (λ f. (entries : List ℕ) ×
         (map I.value rows.new ≡ map pos entries ++ drop (length entries) (map I.value rows.old)) ×
@@ -94,9 +89,7 @@ fn form_columns_into<I: Index, A: Allocator + Copy>(
     rows: &mut [I],
 ) -> Result<Frame<A>, Fault>
     ghost o: { Order }
-    requires form { IsColumnForm (pos size) size (map I.value a_p.now) (map I.value a_i.now) }
-    requires graph { o.graph ≡ graph_of size (map I.value a_p.now) (map I.value a_i.now) }
-    requires rows { o.rows ≡ naturals (map I.value p.now) }
+    requires posed { IsPosed o size (map I.value a_p.now) (map I.value a_i.now) (map I.value p.now) }
     requires fits { (j : ℕ) → j < size → I.fits (pos j) }
     ensures factor { IfOk result (λ f. WritesFactor (pos size) (map I.value a_p.now) (map I.value a_i.now)
         (map I.value p.now) (map I.value rows.old) (map I.value rows.new) f.ptr.items f.parent.items) }

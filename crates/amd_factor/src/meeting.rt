@@ -1,9 +1,9 @@
 // The counts by what rows meet: each arc adds 1 to the column that it leads from and to all over it, and takes 1 from
 // the column where it meets the arc before it of the same row. Source: Gilbert, Ng and Peyton 1994.
 
-ghost use Rattle.std.specs.Prelude.{ℕ, List, ◌≡◌, ◌≢◌, ◌<◌, ◌≤◌, ◌+◌, ◌^◌, length, slice_index};
+ghost use Rattle.std.specs.Prelude.{ℕ, ◌≡◌, ◌≢◌, ◌≤◌, ◌+◌, length};
 ghost use Rattle.amd_factor.specs.Meetings.{IsLowest, IsScene, Links, Met, Scene, Taken, sum_to};
-ghost use Rattle.amd_factor.specs.Neighbours.{AreLater};
+ghost use Rattle.amd_factor.specs.Premises.{CanTakeArcs, IsNextPlace};
 
 /// The lowest place over `start`, or `start`, that is not linked yet. Links on the way are drawn up.
 fn find(start: usize, link: &mut [usize]) -> usize
@@ -52,14 +52,8 @@ pub fn take_arcs(
     minus: &mut [usize],
 )
     ghost at: { Scene × ℕ }
-    requires scene { IsScene at.0 }
-    requires ranks { rank.now ≡ at.0.rank }
-    requires place { j < length at.0.up }
-    requires here { slice_index at.0.rank j ≡ at.1 }
-    requires later { AreLater at.0.order j later.now }
-    requires links { Links at.0 at.1 link.old }
-    requires met { Met at.0 (Taken at.0 at.1) last.old plus.old minus.old }
-    requires room { sum_to plus.old (length at.0.up + 1) + length later.now < 2 ^ 64 }
+    requires place { IsNextPlace at.0 at.1 j later.now rank.now }
+    requires lists { CanTakeArcs at.0 at.1 (length later.now) link.old last.old plus.old minus.old }
     ensures links { Links at.0 at.1 link.new }
     ensures met { Met at.0 (Taken at.0 (at.1 + 1)) last.new plus.new minus.new }
     ensures sum { sum_to plus.new (length at.0.up + 1) ≡ sum_to plus.old (length at.0.up + 1) + length later.now }

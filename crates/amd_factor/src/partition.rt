@@ -164,6 +164,15 @@ pub struct Cut<A: Allocator> {
     pub parent: Vec<Option<usize>, A>,
 }
 
+/// Such a factor, where it is lent.
+#[derive(Drop)]
+pub struct LentCut<'a> {
+    pub first: &'a [usize],
+    pub owner: &'a [usize],
+    pub ptr: &'a [usize],
+    pub parent: &'a [Option<usize>],
+}
+
 /// Cuts the places into supernodes, by the number of entries and the parent of each.
 ///
 /// # Errors

@@ -6,6 +6,17 @@
 ghost use Rattle.std.specs.Prelude.{◌≡◌, ◌+◌, length, slice_index};
 ghost use Rattle.amd_factor.specs.Ranks.{GoesToParents, GoesUp, Measured, Ranked};
 
+/// A forest with its sizes and ranks, as a sweep over the arcs of its places reads it.
+#[derive(Drop)]
+pub struct RankedTree<'a> {
+    /// Where each place goes up to.
+    pub up: &'a [usize],
+    /// How many places the subtree of each place has.
+    pub size: &'a [usize],
+    /// The rank of each place.
+    pub rank: &'a [usize],
+}
+
 /// Writes where each place goes up to.
 pub fn go_up(parent: &[Option<usize>], up: &mut [usize])
     requires { length up.old ≡ length parent.now }

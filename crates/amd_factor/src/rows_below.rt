@@ -8,8 +8,8 @@ ghost use Rattle.amd_factor.specs.Partitions.{IsPartitionOf, OrderedMatrix};
 ghost use Rattle.amd_factor.specs.Supernodes.{IsSupernodesOf};
 
 use crate::below::fill_rows;
-use crate::neighbours::NeighbourLists;
-use crate::partition::Cut;
+use crate::neighbours::{NeighbourLists, Neighbours};
+use crate::partition::{Cut, LentCut};
 use amd_types::index::Index;
 use std::alloc::Allocator;
 
@@ -68,16 +68,16 @@ pub fn write_rows<I: Index, A: Allocator>(partition: Partitioned<A>, rows: &mut 
     let mut next = partition.next;
     let mut mark = partition.mark;
     let cut = partition.cut;
-    fill_rows(
-        &partition.lists.starts,
-        &partition.lists.neighbours,
-        &cut.first,
-        &cut.owner,
-        &cut.ptr,
-        &cut.parent,
-        &mut next,
-        &mut mark,
-        rows,
-    );
+    let earlier = Neighbours {
+        starts: &partition.lists.starts,
+        places: &partition.lists.neighbours,
+    };
+    let lent = LentCut {
+        first: &cut.first,
+        owner: &cut.owner,
+        ptr: &cut.ptr,
+        parent: &cut.parent,
+    };
+    fill_rows(&earlier, &lent, &mut next, &mut mark, rows);
     cut
 }

@@ -2,15 +2,13 @@
 // in postorder, and a sweep over the arcs. Source: Liu 1986; Gilbert, Ng and Peyton 1994. The lists of earlier and of
 // later neighbours and the memory are the caller's.
 
-ghost use Rattle.std.specs.Prelude.{◌≡◌, ◌+◌, ◌*◌, length};
-ghost use Rattle.amd_model.specs.Graph.{IsGraph};
 ghost use Rattle.amd_factor.specs.Neighbours.{HasLater};
 ghost use Rattle.amd_factor.specs.Orders.{Order};
+ghost use Rattle.amd_factor.specs.Premises.{HasTreeRoom, ThinsTree};
 ghost use Rattle.amd_factor.specs.Sizes.{AreBothLists, HasCountRoom, HoldSizes};
-ghost use Rattle.amd_factor.specs.Thinning.{Thins};
-ghost use Rattle.amd_factor.specs.Walks.{TellParents};
 
-use crate::ranks::{go_up, measure, rank_places};
+use crate::neighbours::Neighbours;
+use crate::ranks::{RankedTree, go_up, measure, rank_places};
 use crate::sweep::sweep;
 use crate::tree::elimination_tree;
 
@@ -30,12 +28,9 @@ pub fn count_by_tree(
     work: &mut [usize],
 )
     ghost at: { Order × Order }
-    requires laws { IsGraph at.0.graph }
-    requires thins { Thins at.0 at.1 }
+    requires thins { ThinsTree at.0 at.1 parent.now }
     requires later { HasLater at.1 starts.now later.now }
-    requires parents { TellParents at.0 (length at.0.rows) parent.now }
-    requires counts { length counts.old ≡ length at.0.rows }
-    requires work { length work.old ≡ 8 * length at.0.rows + 5 }
+    requires room { HasTreeRoom at.0 counts.old work.old }
     ensures { HoldSizes at.0.graph at.0.rows counts.new parent.now }
 {
     let n = counts.len();
@@ -49,9 +44,12 @@ pub fn count_by_tree(
     go_up(parent, up);
     measure(up, size);
     rank_places(up, size, link, rank);
-    sweep(
-        starts, later, up, size, rank, order, link, last, plus, minus, counts,
-    );
+    let later = Neighbours {
+        starts,
+        places: later,
+    };
+    let tree = RankedTree { up, size, rank };
+    sweep(&later, &tree, order, link, last, plus, minus, counts);
 }
 
 /// Writes the number of entries of each column of the factor of a graph under an order of its rows, and the parents.

@@ -2,13 +2,11 @@
 // counts tell is written. Source: Rose, Tarjan and Lueker 1976; Liu, Ng and Peyton 1993.
 
 ghost use Rattle.std.specs.Prelude.{◌≡◌, ◌+◌, ◌∷◌, [], length, pos, map, IfOk, IfErr};
-ghost use Rattle.amd_model.specs.Input.Columns.{IsColumnForm};
-ghost use Rattle.amd_model.specs.Input.Pattern.{graph_of};
-ghost use Rattle.amd_types.specs.Naturals.{naturals};
 ghost use Rattle.amd_factor.specs.Counted.{IsCountsFault};
 ghost use Rattle.amd_factor.specs.Orders.{Order};
 ghost use Rattle.amd_factor.specs.Partitions.{IsPartitionOf, OrderedMatrix, ordered_matrix};
 ghost use Rattle.amd_factor.specs.Supernodes.{IsSupernodesOf};
+ghost use Rattle.amd_factor.specs.Within.{IsPosed};
 
 use crate::counted::thinned_sizes;
 use crate::entrance::rows_of;
@@ -30,9 +28,7 @@ fn form_partition<I: Index, A: Allocator + Copy>(
     p: &[I],
 ) -> Result<Partitioned<A>, Fault>
     ghost o: { Order }
-    requires form { IsColumnForm (pos size) size (map I.value a_p.now) (map I.value a_i.now) }
-    requires graph { o.graph ≡ graph_of size (map I.value a_p.now) (map I.value a_i.now) }
-    requires rows { o.rows ≡ naturals (map I.value p.now) }
+    requires posed { IsPosed o size (map I.value a_p.now) (map I.value a_i.now) (map I.value p.now) }
     ensures partition { IfOk result (λ b. IsPartitionOf (ordered_matrix (pos size) (map I.value a_p.now)
         (map I.value a_i.now) (map I.value p.now)) b.cut.first.items b.cut.owner.items b.cut.ptr.items
         b.cut.parent.items b.lists.starts.items b.lists.neighbours.items) }

@@ -1,11 +1,14 @@
 // The arcs of all places, in the order of the ranks of the places, and the counts that they leave. Source: Gilbert, Ng
 // and Peyton 1994.
 
-ghost use Rattle.std.specs.Prelude.{ℕ, List, ◌≡◌, ◌<◌, ◌≤◌, ◌+◌, ◌-◌, ◌^◌, length, slice_index};
+ghost use Rattle.std.specs.Prelude.{ℕ, ◌≡◌, ◌<◌, ◌≤◌, ◌+◌, ◌-◌, ◌^◌, length, slice_index};
 ghost use Rattle.amd_factor.specs.Meetings.{CountsTargets, IsByRank, IsScene, Met, Scene, Taken, sum_before, sum_to};
 ghost use Rattle.amd_factor.specs.Neighbours.{HasLater};
+ghost use Rattle.amd_factor.specs.Premises.{CanMeetArcs, CanTellCounts, HasSweepRoom, IsTreeOf};
 
 use crate::meeting::take_arcs;
+use crate::neighbours::Neighbours;
+use crate::ranks::RankedTree;
 
 /// Writes the places by their ranks.
 pub fn place_by_rank(rank: &[usize], order: &mut [usize])
@@ -22,13 +25,10 @@ pub fn place_by_rank(rank: &[usize], order: &mut [usize])
 
 /// Writes by ranks how much the arcs from each place add, and how much their meetings take.
 ///
-/// `order` holds the places by their ranks, and `later[starts[j]..starts[j + 1]]` names the later neighbours of place
-/// `j`. `link` and `last` are for the work alone.
+/// `order` holds the places by their ranks. `link` and `last` are for the work alone.
 pub fn meet_arcs(
-    starts: &[usize],
-    later: &[usize],
-    up: &[usize],
-    rank: &[usize],
+    later: &Neighbours<'_>,
+    tree: &RankedTree<'_>,
     order: &[usize],
     link: &mut [usize],
     last: &mut [usize],
@@ -36,19 +36,13 @@ pub fn meet_arcs(
     minus: &mut [usize],
 )
     ghost s: { Scene }
-    requires scene { IsScene s }
-    requires later { HasLater s.order starts.now later.now }
-    requires ups { up.now ≡ s.up }
-    requires ranks { rank.now ≡ s.rank }
-    requires order { IsByRank s order.now }
-    requires link { length link.old ≡ length s.up + 1 }
-    requires last { length last.old ≡ length s.up }
-    requires plus { length plus.old ≡ length s.up + 1 }
-    requires minus { length minus.old ≡ length s.up + 1 }
+    requires tree { IsTreeOf s tree.now }
+    requires later { HasLater s.order later.now.starts.now later.now.places.now }
+    requires lists { CanMeetArcs s order.now link.old last.old plus.old minus.old }
     ensures met { Met s (Taken s (length s.up)) last.new plus.new minus.new }
-    ensures room { sum_to plus.new (length s.up + 1) ≤ length later.now }
+    ensures room { sum_to plus.new (length s.up + 1) ≤ length later.now.places.now }
 {
-    let n = up.len();
+    let n = tree.up.len();
     last.fill(n);
     plus.fill(0);
     minus.fill(0);
@@ -57,9 +51,9 @@ pub fn meet_arcs(
     }
     'ranks: for t in 0..order.len() {
         let j = order[t];
-        let list = &later[starts[j]..starts[j + 1]];
-        take_arcs(j, list, rank, link, last, plus, minus);
-        link[j] = up[j];
+        let list = &later.places[later.starts[j]..later.starts[j + 1]];
+        take_arcs(j, list, tree.rank, link, last, plus, minus);
+        link[j] = tree.up[j];
     }
 }
 
@@ -91,26 +85,21 @@ fn sum_over(sums: &[usize], last: usize, size: usize) -> usize
 
 /// Writes how many entries each column has, by what was added and taken at each rank, which is summed up in place.
 pub fn tell_counts(
-    size: &[usize],
-    rank: &[usize],
+    tree: &RankedTree<'_>,
     plus: &mut [usize],
     minus: &mut [usize],
     counts: &mut [usize],
 )
     ghost s: { Scene }
-    requires scene { IsScene s }
-    requires sizes { size.now ≡ s.size }
-    requires ranks { rank.now ≡ s.rank }
-    requires met { (last : List ℕ) × Met s (Taken s (length s.up)) last plus.old minus.old }
-    requires room { sum_to plus.old (length s.up + 1) < 2 ^ 64 }
-    requires counts { length counts.old ≡ length s.up }
+    requires tree { IsTreeOf s tree.now }
+    requires lists { CanTellCounts s plus.old minus.old counts.old }
     ensures { (k : ℕ) → k < length s.up → CountsTargets s (Taken s (length s.up)) k (slice_index counts.new k) }
 {
     add_up(plus);
     add_up(minus);
     'columns: for k in 0..counts.len() {
-        let added = sum_over(plus, rank[k], size[k]);
-        let taken = sum_over(minus, rank[k], size[k]);
+        let added = sum_over(plus, tree.rank[k], tree.size[k]);
+        let taken = sum_over(minus, tree.rank[k], tree.size[k]);
         counts[k] = added - taken;
     }
 }
@@ -119,11 +108,8 @@ pub fn tell_counts(
 ///
 /// `order`, `link`, `last`, `plus` and `minus` are for the work alone.
 pub fn sweep(
-    starts: &[usize],
-    later: &[usize],
-    up: &[usize],
-    size: &[usize],
-    rank: &[usize],
+    later: &Neighbours<'_>,
+    tree: &RankedTree<'_>,
     order: &mut [usize],
     link: &mut [usize],
     last: &mut [usize],
@@ -132,20 +118,12 @@ pub fn sweep(
     counts: &mut [usize],
 )
     ghost s: { Scene }
-    requires scene { IsScene s }
-    requires later { HasLater s.order starts.now later.now }
-    requires ups { up.now ≡ s.up }
-    requires sizes { size.now ≡ s.size }
-    requires ranks { rank.now ≡ s.rank }
-    requires order { length order.old ≡ length s.up }
-    requires link { length link.old ≡ length s.up + 1 }
-    requires last { length last.old ≡ length s.up }
-    requires plus { length plus.old ≡ length s.up + 1 }
-    requires minus { length minus.old ≡ length s.up + 1 }
-    requires counts { length counts.old ≡ length s.up }
+    requires tree { IsTreeOf s tree.now }
+    requires later { HasLater s.order later.now.starts.now later.now.places.now }
+    requires room { HasSweepRoom s order.old link.old last.old plus.old minus.old counts.old }
     ensures { (k : ℕ) → k < length s.up → CountsTargets s (Taken s (length s.up)) k (slice_index counts.new k) }
 {
-    place_by_rank(rank, order);
-    meet_arcs(starts, later, up, rank, order, link, last, plus, minus);
-    tell_counts(size, rank, plus, minus, counts);
+    place_by_rank(tree.rank, order);
+    meet_arcs(later, tree, order, link, last, plus, minus);
+    tell_counts(tree, plus, minus, counts);
 }

@@ -68,7 +68,15 @@ table-turn f bound count ls ms line numbers more ks room so_far size fields h =
     omega (arith, l, size) in
     let table = subst (λ z. SpellsTable f bound z ms ks) left h in
     rw (append_assoc ls (line ∷ []) ms, append_assoc numbers more ks)
-    (so_far (line ∷ ms) (more ++ ks) (omega arith, (more, (ks, (refl, (size, (fields, table)))))))
+    (so_far (line ∷ ms) (more ++ ks) (record {
+      some = omega arith;
+      here = more;
+      behind = ks;
+      are = refl;
+      size = size;
+      fields = fields;
+      rest = table;
+    }))
 
 -- all lines
 pub table-whole : (f : Fields) (bound count : ℕ) (ls : List (List ℕ)) (numbers : List ℕ) → count - length numbers ≡ 0 →
@@ -83,29 +91,24 @@ pub table-size : (f : Fields) (bound count : ℕ) (ls : List (List ℕ)) (ks : L
     length ks ≡ count
 table-size f bound count [] ks h = ap length h.1 ∙ sym h.0
 table-size f bound count (l ∷ ls) ks h =
-    let here = h.1.0 in
-    let behind = h.1.1.0 in
-    let are = h.1.1.1.0 in
-    let size = h.1.1.1.1.0 in
-    let rest = table-size f bound (count - min f.per_line count) ls behind h.1.1.1.1.1.1 in
-    let both = length-append here behind in
-    ap length are ∙ omega (arith, both, size, rest)
+    let size = h.size in
+    let rest = table-size f bound (count - min f.per_line count) ls h.behind h.rest in
+    let both = length-append h.here h.behind in
+    ap length h.are ∙ omega (arith, both, size, rest)
 
 fields-within : (width bound : ℕ) (text ks : List ℕ) → SpellsFields width bound text ks → All (λ k. k < bound) ks
 fields-within width bound text [] h = λ i d x. absurd (omega arith)
 fields-within width bound text (k ∷ ks) h =
-    All-cons (λ k. k < bound) k ks h.0.1.1.0 (fields-within width bound (drop width text) ks h.1)
+    let field = h.0 in
+    All-cons (λ k. k < bound) k ks field.1.1.0 (fields-within width bound (drop width text) ks h.1)
 
 pub table-within : (f : Fields) (bound count : ℕ) (ls : List (List ℕ)) (ks : List ℕ) → SpellsTable f bound count ls ks →
     All (λ k. k < bound) ks
 table-within f bound count [] ks h = subst (λ z. All (λ k. k < bound) z) (sym h.1) (λ i d x. absurd (omega arith))
 table-within f bound count (l ∷ ls) ks h =
-    let here = h.1.0 in
-    let behind = h.1.1.0 in
-    let are = h.1.1.1.0 in
-    subst (λ z. All (λ k. k < bound) z) (sym are) (All-append (λ k. k < bound) here behind
-    (fields-within f.width bound (drop f.skipped l) here h.1.1.1.1.1.0)
-    (table-within f bound (count - min f.per_line count) ls behind h.1.1.1.1.1.1))
+    subst (λ z. All (λ k. k < bound) z) (sym h.are) (All-append (λ k. k < bound) h.here h.behind
+    (fields-within f.width bound (drop f.skipped l) h.here h.fields)
+    (table-within f bound (count - min f.per_line count) ls h.behind h.rest))
 
 -- the rows of one column more
 pub column-more : (s : Symmetry) (rows : List ℕ) (i j d : ℕ) → i < length rows →

@@ -137,12 +137,21 @@ FillsLines f bound [] ks = ks ≡ []
 FillsLines f bound (l ∷ ls) ks = (here : List ℕ) × (behind : List ℕ) × (ks ≡ here ++ behind) ×
     (length here ≡ f.per_line) × SpellsLine f bound l here × FillsLines f bound ls behind
 
+-- of so many numbers, of which there is one, as many as a line may have stand on it, and the others are spelled behind it
+pub record SpellsFirst (f : Fields) (bound count : ℕ) (line ks : List ℕ) (spelled_behind : List ℕ → Type 0) : Type 0 where
+  pub some : 0 < count
+  pub here : List ℕ
+  pub behind : List ℕ
+  pub are : ks ≡ here ++ behind
+  pub size : length here ≡ min f.per_line count
+  pub fields : SpellsLine f bound line here
+  pub rest : spelled_behind behind
+
 -- so many numbers stand on the lines: each line has as many as it may, and the last one the rest
 abbrev pub SpellsTable : Fields → ℕ → ℕ → List (List ℕ) → List ℕ → Type 0
 SpellsTable f bound count [] ks = (count ≡ 0) × (ks ≡ [])
-SpellsTable f bound count (l ∷ ls) ks = (0 < count) × ((here : List ℕ) × ((behind : List ℕ) ×
-    ((ks ≡ here ++ behind) × ((length here ≡ min f.per_line count) × (SpellsLine f bound l here ×
-    SpellsTable f bound (count - min f.per_line count) ls behind)))))
+SpellsTable f bound count (l ∷ ls) ks = SpellsFirst f bound count l ks
+    (λ behind. SpellsTable f bound (count - min f.per_line count) ls behind)
 
 -- what stands behind the first four words of the second line: nothing, or the number of lines of right-hand sides
 abbrev pub SpellsSides : List (List ℕ) → ℕ → Type 0

@@ -191,20 +191,20 @@ module _ (g : Graph) (aggressive : Bool) (c : ℕ) (old new : State) where
 
   tests_from : AllTrue step_tests → StepTests
   unfolding step_tests
-  tests_from t = let t4 = t.1.1.1.1 in let t8 = t4.1.1.1.1 in record {
+  tests_from t = let t3 = t.1.1.1 in let t6 = t3.1.1.1 in let t9 = t6.1.1.1 in let t12 = t9.1.1.1 in record {
     class = t.0;
     least = t.1.0;
     gone = t.1.1.0;
-    kept = t.1.1.1.0;
-    moved = t4.0;
-    merged = t4.1.0;
-    made = t4.1.1.0;
-    root = t4.1.1.1.0;
-    taken = t8.0;
-    border_stays = t8.1.0;
-    parent_stays = t8.1.1.0;
-    bounds = t8.1.1.1.0;
-    bound_stays = t8.1.1.1.1.0;
+    kept = t3.0;
+    moved = t3.1.0;
+    merged = t3.1.1.0;
+    made = t6.0;
+    root = t6.1.0;
+    taken = t6.1.1.0;
+    border_stays = t9.0;
+    parent_stays = t9.1.0;
+    bounds = t9.1.1.0;
+    bound_stays = t12.0;
   }
 
   or_right_of : (a b : Bool) → (a || b) ≡ true → a ≡ false → b ≡ true

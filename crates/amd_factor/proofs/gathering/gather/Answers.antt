@@ -12,10 +12,10 @@ place_at-requires-clause-small g c =
     let l = e.1 in let r = c.rows.invariant.marks.room in let s = c.rows.auto.mark in omega (arith, l, r, s)
 
 pub list_row-listed-requires : goal.list_row-listed-requires
-list_row-listed-requires g c = (
+list_row-listed-requires g c = let asked = c.requires.1.1 in (
   subst (EntryOf g.c) (sym c.place_at.ensures)
-      (c.requires.1.1.0 _ (place_of g.N.Index.value c.args.rows.now c.rows.k c.rows-test.true)),
-  (c.rows.auto.fresh ∙ c.requires.1.1.1.0, (c.rows.invariant.listed, c.rows.invariant.marks)),
+      (asked.0 _ (place_of g.N.Index.value c.args.rows.now c.rows.k c.rows-test.true)),
+  (c.rows.auto.fresh ∙ asked.1.0, (c.rows.invariant.listed, c.rows.invariant.marks)),
 )
 
 pub returns-clause-all : goal.returns-clause-all

@@ -3,12 +3,11 @@ use Rattle.std.proofs.lemmas.List.{take_at}
 use Rattle.amd_factor.proofs.into.written_into.Goals as goal
 
 pub factor_lists-requires : goal.factor_lists-requires
-factor_lists-requires g c κs inside = (inside, let room = c.requires.1.1.1.1.room in omega (arith, room))
+factor_lists-requires g c κs inside = (inside, let room = c.requires.1.1.later_are.room in omega (arith, room))
 
 pub fill_into-requires : goal.fill_into-requires
 fill_into-requires g c κs inside =
     let r = c.requires.1.1 in
-    let h = r.1.1 in
     let ptr : c.deref_mut.result.now ≡ c.in_ok-lists.lists.ptr.items = search rules in
     let parent : c.deref_mut-2.result.now ≡ c.in_ok-lists.lists.parent.items = search rules in
     let mark : c.deref_mut-3.result.now ≡ c.in_ok-lists.lists.mark.items = search rules in
@@ -17,7 +16,7 @@ fill_into-requires g c κs inside =
       inside,
       (
         (rw (ptr, parent, mark, link, fresh) c.in_ok-lists.ensures),
-        (r.0, (r.1.0, h)),
+        (r.laws, (r.most, r.later_are)),
       ),
     )
 

@@ -6,37 +6,26 @@ use Rattle.amd_factor.proofs.rows_below.write_rows.Goals as goal
 
 pub fill_rows-requires : goal.fill_rows-requires
 fill_rows-requires g c κs within =
-    let p = c.requires.1.1.0 in (
+    let p = c.requires.1.1.0 in
+    let rooms = c.requires.1.1.1 in (
       within,
       (
-        pattern_graph (unsigned_abs g.m.size) g.m.pointers g.m.indices,
+        record {
+          laws = pattern_graph (unsigned_abs g.m.size) g.m.pointers g.m.indices;
+          cut = rw (c.deref-3.ensures.value, c.deref-4.ensures.value, c.deref-5.ensures.value, c.deref-6.ensures.value) p.cut;
+          firsts = refl;
+          owners = refl;
+          pointers = refl;
+          parents = refl;
+        },
         (
-          rw (c.deref-3.ensures.value, c.deref-4.ensures.value, c.deref-5.ensures.value, c.deref-6.ensures.value) p.cut,
-          (
-            refl,
-            (
-              refl,
-              (
-                refl,
-                (
-                  refl,
-                  (
-                    rw (c.deref.ensures.value, c.deref-2.ensures.value) p.near,
-                    (
-                      rw (c.deref_mut.ensures.value, c.deref-3.ensures.value) c.requires.1.1.1.0,
-                      (
-                        rw (c.deref_mut-2.ensures.value, c.deref-3.ensures.value) c.requires.1.1.1.1.0,
-                        (
-                          rw (c.deref-3.ensures.value, c.deref-5.ensures.value) c.requires.1.1.1.1.1.0,
-                          rw c.deref-4.ensures.value (subst g.I.Index.fits p.size c.requires.1.1.1.1.1.1),
-                        ),
-                      ),
-                    ),
-                  ),
-                ),
-              ),
-            ),
-          ),
+          rw (c.deref.ensures.value, c.deref-2.ensures.value) p.near,
+          record {
+            nexts = rw (c.deref_mut.ensures.value, c.deref-3.ensures.value) rooms.0;
+            marks = rw (c.deref_mut-2.ensures.value, c.deref-3.ensures.value) rooms.1.0;
+            all = rw (c.deref-3.ensures.value, c.deref-5.ensures.value) rooms.1.1.0;
+            most = rw c.deref-4.ensures.value (subst g.I.Index.fits p.size rooms.1.1.1);
+          },
         ),
       ),
     )

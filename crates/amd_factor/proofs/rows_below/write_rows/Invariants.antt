@@ -4,8 +4,8 @@ use Rattle.amd_factor.proofs.rows_below.write_rows.Given as goal
 abbrev pub ghost-fill_rows : goal.ghost-fill_rows
 ghost-fill_rows g a = record {
   order = order_of g.m;
-  first = a.first.now;
-  owner = a.owner.now;
-  ptr = a.ptr.now;
-  parent = a.parent.now;
+  first = a.cut.now.first.now;
+  owner = a.cut.now.owner.now;
+  ptr = a.cut.now.ptr.now;
+  parent = a.cut.now.parent.now;
 }

@@ -15,9 +15,9 @@ count_by_tree-requires g c =
     let front = c.split_at_mut-ancestor.ensures.front_len in let back = c.split_at_mut-ancestor.ensures.back_len in
     let same = c.elimination_tree.auto.ancestor in
     let both = length-append c.elimination_tree.new.ancestor c.split_at_mut-ancestor.result.1.now in (
-      lists.laws,
+      record { laws = lists.laws; thins = thins-itself g.o; parents = c.elimination_tree.ensures },
       (
-        thins-itself g.o,
-        (lists.behind, (c.elimination_tree.ensures, (sizes, omega (arith, work, front, back, same, both, sizes)))),
+        lists.behind,
+        record { counts_room = sizes; work_room = omega (arith, work, front, back, same, both, sizes) },
       ),
     )

@@ -5,8 +5,8 @@ use Rattle.amd_factor.proofs.sizes.count_by_tree.Goals as goal
 
 pub sweep-requires : goal.sweep-requires
 sweep-requires g c =
-    let laws = c.requires.0 in let thins = c.requires.1.0 in let tells = c.requires.1.1.1.0 in
-    let sizes = c.requires.1.1.1.1.0 in let work = c.requires.1.1.1.1.1 in
+    let laws = c.requires.0.laws in let thins = c.requires.0.thins in let tells = c.requires.0.parents in
+    let sizes = c.requires.1.1.counts_room in let work = c.requires.1.1.work_room in
     let goes = c.go_up.ensures in let parent = c.args.parent.now in let up = c.go_up.new.up in
     let size = c.measure.new.size in let rank = c.rank_places.new.rank in
     let all = places g.at.0 laws parent up tells goes in
@@ -17,42 +17,31 @@ sweep-requires g c =
     let rest-up = c.split_at_mut-up.ensures.back_len in let rest-last = c.split_at_mut-last.ensures.back_len in
     let rest-size = c.split_at_mut-size.ensures.back_len in let rest-link = c.split_at_mut-link.ensures.back_len in
     let rest-rank = c.split_at_mut-rank.ensures.back_len in (
-      is-thin-scene g.at.0 g.at.1 laws thins parent up tells goes size rank c.measure.ensures.measured c.measure.ensures.all
-          c.rank_places.ensures,
+      record {
+        scene = is-thin-scene g.at.0 g.at.1 laws thins parent up tells goes size rank c.measure.ensures.measured c.measure.ensures.all
+            c.rank_places.ensures;
+        ups = refl;
+        sizes = refl;
+        ranks = refl;
+      },
       (
-        c.requires.1.1.0,
-        (
-          refl,
-          (
-            refl,
-            (
-              refl,
-              (
-                omega (arith, order-long, sizes, all),
-                (
-                  omega (arith, link-same, link-long, sizes, all),
-                  (
-                    omega (arith, last-long, sizes, all),
-                    (
-                      omega (arith, plus-long, sizes, all),
-                      (
-                        omega (arith, minus-long, rest-order, rest-up, rest-last, rest-size, rest-link, rest-rank, work, sizes, all),
-                        omega (arith, sizes, all),
-                      ),
-                    ),
-                  ),
-                ),
-              ),
-            ),
-          ),
-        ),
+        c.requires.1.0,
+        record {
+          order_room = omega (arith, order-long, sizes, all);
+          link_room = omega (arith, link-same, link-long, sizes, all);
+          last_room = omega (arith, last-long, sizes, all);
+          plus_room = omega (arith, plus-long, sizes, all);
+          minus_room = omega (arith, minus-long, rest-order, rest-up, rest-last, rest-size, rest-link, rest-rank, work, sizes, all);
+          counts_room = omega (arith, sizes, all);
+        },
       ),
     )
 
 pub returns : goal.returns
 returns g c =
-    let laws = c.requires.0 in let tells = c.requires.1.1.1.0 in let goes = c.go_up.ensures in
+    let laws = c.requires.0.laws in let tells = c.requires.0.parents in let goes = c.go_up.ensures in
     let parent = c.args.parent.now in let up = c.go_up.new.up in let size = c.measure.new.size in let rank = c.rank_places.new.rank in
     sizes-held g.at.0 laws parent up tells goes size rank c.measure.ensures.measured c.measure.ensures.all c.rank_places.ensures
-    c.sweep.new.counts (c.sweep.auto.counts ∙ c.requires.1.1.1.1.0) (λ k l. whole-targets g.at.0 g.at.1 laws c.requires.1.0 parent up tells
+    c.sweep.new.counts (c.sweep.auto.counts ∙ c.requires.1.1.counts_room) (λ k l. whole-targets g.at.0 g.at.1 laws
+    c.requires.0.thins parent up tells
     goes size rank c.measure.ensures.measured c.measure.ensures.all c.rank_places.ensures k _ (c.sweep.ensures k l))

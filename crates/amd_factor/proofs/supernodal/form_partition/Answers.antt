@@ -39,7 +39,7 @@ partition_of n ap' ai p o graph rows first owner ptr parent starts earlier form 
     }
 
 pub ordered_lists-requires : goal.ordered_lists-requires
-ordered_lists-requires g c = record { form = c.requires.1.1.0 }
+ordered_lists-requires g c = record { form = c.requires.1.1.form }
 
 pub thinned_sizes-requires : goal.thinned_sizes-requires
 thinned_sizes-requires g c κs within =
@@ -48,8 +48,8 @@ thinned_sizes-requires g c κs within =
     let p : List ℤ = map g.I.Index.value c.args.p.now in (
       within,
       (
-        laws c.args.size a_p a_i p g.o c.requires.1.1.1.0 c.requires.1.1.1.1,
-        earlier_of c.args.size a_p a_i p g.o c.requires.1.1.1.0 c.requires.1.1.1.1 c.deref_mut.result.now c.deref_mut-2.result.now
+        laws c.args.size a_p a_i p g.o c.requires.1.1.graph c.requires.1.1.rows,
+        earlier_of c.args.size a_p a_i p g.o c.requires.1.1.graph c.requires.1.1.rows c.deref_mut.result.now c.deref_mut-2.result.now
             (rw (c.deref_mut.ensures.value, c.deref_mut-2.ensures.value) c.in_ok-lists.ensures.lists),
       ),
     )
@@ -59,7 +59,7 @@ cut_places-requires g c κs within = (within, rw (c.deref.ensures.value, c.deref
 
 pub returns-clause-partition : goal.returns-clause-partition
 returns-clause-partition g c = partition_of c.args.size (map g.I.Index.value c.args.a_p.now) (map g.I.Index.value c.args.a_i.now)
-    (map g.I.Index.value c.args.p.now) g.o c.requires.1.1.1.0 c.requires.1.1.1.1 _ _ _ _ _ _ c.requires.1.1.0
+    (map g.I.Index.value c.args.p.now) g.o c.requires.1.1.graph c.requires.1.1.rows _ _ _ _ _ _ c.requires.1.1.form
     c.in_ok-lists.ensures.permutes (
     let starts : length c.thinned_sizes.new.starts ≡ c.in_ok-lists.lists.starts.len = search rules in
     let earlier : length c.thinned_sizes.new.earlier ≡ c.in_ok-lists.lists.neighbours.len = search rules in

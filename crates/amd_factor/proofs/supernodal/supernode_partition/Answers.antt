@@ -16,7 +16,7 @@ form_partition-requires g c κs within =
     let a_p : List ℤ = map g.I.Index.value c.args.a_p.now in
     let a_i : List ℤ = map g.I.Index.value c.args.a_i.now in
     let form = c.in-Ok.ensures.form c.if-size-eq0.false in
-    (within.0, (within.1, (form, (refl, refl))))
+    (within.0, (within.1, record { form = form; graph = refl; rows = refl }))
 
 pub returns-clause-partition : goal.returns-clause-partition
 returns-clause-partition g c =

@@ -14,5 +14,5 @@ abbrev pub invariant-ranks : goal.invariant-ranks
 invariant-ranks g l = record {
   links : Links g.s l.t l.link;
   met : Met g.s (Taken g.s l.t) l.last l.plus l.minus;
-  room : sum_to l.plus (length g.s.up + 1) + remaining g.s l.starts l.t ≤ length l.later;
+  room : sum_to l.plus (length g.s.up + 1) + remaining g.s l.later.starts.now l.t ≤ length l.later.places.now;
 }

@@ -150,7 +150,8 @@ deallocate_spec 𝓤 𝓛 𝓜 𝓡 wired Y L g d d' met _ =
     (WpFn 𝓤 𝓛.H 𝓣.C 𝓣.Λ (here Z)) (WpFn-mono 𝓤 𝓛.H 𝓛.laws 𝓣 (here Z))
     (walked 𝓛 (ended Z) (stayed Z) c (WpFn 𝓤 𝓛.H 𝓣.C 𝓣.Λ (here Z)) (λ κs. (shr_vals, (rawptr_vals, (uint_vals w64, (uint_vals w64, tt)))))
     (λ κs. ((λ r vs s. s.0), (rawptr_Tells, (uint_Tells w64, (uint_Tells w64, tt)))))
-    (λ κs qs bounds a τ are. walk Z 𝓛 𝓜.mem 𝓡.returns 𝓣 (met.deallocate d')
+    (λ κs qs bounds a τ are. let sizes = a.1.1 in let are_sizes = are.1.1 in
+    walk Z 𝓛 𝓜.mem 𝓡.returns 𝓣 (met.deallocate d')
     (cited 𝓤 𝓛.H _ 𝓜 𝓡 𝓡.env c_sym.name (𝓡.env c_sym.name) refl
-    (c_met.met 𝓤 𝓛 𝓜 𝓡 (code.calls-amd_testing::refusing::takes_back 𝓡.env wired))) κs.0 κs.1.0 qs.0 qs.1.0 bounds.0 a.0 a.1.1.0
-    a.1.1.1.0 τ are.1.1.0.1 are.1.1.1.0.1 a.1.0)))
+    (c_met.met 𝓤 𝓛 𝓜 𝓡 (code.calls-amd_testing::refusing::takes_back 𝓡.env wired))) κs.0 κs.1.0 qs.0 qs.1.0 bounds.0 a.0 sizes.0
+    sizes.1.0 τ are_sizes.0.1 are_sizes.1.0.1 a.1.0)))

@@ -1,0 +1,115 @@
+-- What the functions that make a factor and count its entries ask of the lists that they are lent.
+use Rattle.std.specs.Prelude.{ℕ, ℤ, pos, ◌≡◌, ◌<◌, ◌+◌, ◌-◌, ◌*◌, ◌^◌, List, Option, length, slice_index}
+use Rattle.amd_model.specs.Graph.{IsGraph}
+use Rattle.amd_types.specs.Naturals.{naturals}
+use Rattle.amd_factor.specs.Meetings.{IsByRank, IsScene, Links, Met, Scene, Taken, sum_to}
+use Rattle.amd_factor.specs.Neighbours.{AreLater, HasLater}
+use Rattle.amd_factor.specs.Orders.{Order}
+use Rattle.amd_factor.specs.Numbers.{AreNonNegative}
+use Rattle.amd_factor.specs.Partitions.{Climbs, IsCut, IsMarkedBy, MarkedBefore, Partition, WrittenTo}
+use Rattle.amd_factor.specs.Thinning.{Thins}
+use Rattle.amd_factor.specs.Walks.{TellParents}
+use Rattle.amd_factor.specs.declared.partition.LentCut.{LentCut}
+use Rattle.amd_factor.specs.declared.ranks.RankedTree.{RankedTree}
+
+-- place j of the scene has rank t and these later neighbours, and the ranks are written
+pub record IsNextPlace (s : Scene) (t j : ℕ) (later rank : List ℕ) : Type 0 where
+  pub scene : IsScene s
+  pub ranks : rank ≡ s.rank
+  pub place : j < length s.up
+  pub here : slice_index s.rank j ≡ t
+  pub later_are : AreLater s.order j later
+
+-- when the arcs from the places of ranks below t were taken, so many more can be taken
+pub record CanTakeArcs (s : Scene) (t count : ℕ) (link last plus minus : List ℕ) : Type 0 where
+  pub links : Links s t link
+  pub met : Met s (Taken s t) last plus minus
+  pub room : sum_to plus (length s.up + 1) + count < 2 ^ 64
+
+-- the tree is that of the scene
+pub record IsTreeOf (s : Scene) (tree : RankedTree) : Type 0 where
+  pub scene : IsScene s
+  pub ups : tree.up.now ≡ s.up
+  pub sizes : tree.size.now ≡ s.size
+  pub ranks : tree.rank.now ≡ s.rank
+
+-- the places stand by their ranks, and there is room for links, for the last arc to each place, and for sums by rank
+pub record CanMeetArcs (s : Scene) (order link last plus minus : List ℕ) : Type 0 where
+  pub by_rank : IsByRank s order
+  pub link_room : length link ≡ length s.up + 1
+  pub last_room : length last ≡ length s.up
+  pub plus_room : length plus ≡ length s.up + 1
+  pub minus_room : length minus ≡ length s.up + 1
+
+-- all arcs were taken, their sum is a number of 64 bits, and there is room for a count of each column
+pub record CanTellCounts (s : Scene) (plus minus counts : List ℕ) : Type 0 where
+  pub met : (last : List ℕ) × Met s (Taken s (length s.up)) last plus minus
+  pub room : sum_to plus (length s.up + 1) < 2 ^ 64
+  pub counts_room : length counts ≡ length s.up
+
+-- there is room for all that a sweep writes
+pub record HasSweepRoom (s : Scene) (order link last plus minus counts : List ℕ) : Type 0 where
+  pub order_room : length order ≡ length s.up
+  pub link_room : length link ≡ length s.up + 1
+  pub last_room : length last ≡ length s.up
+  pub plus_room : length plus ≡ length s.up + 1
+  pub minus_room : length minus ≡ length s.up + 1
+  pub counts_room : length counts ≡ length s.up
+
+-- the arcs of the order t are enough to count those of the order o of a graph, whose parents these are
+pub record ThinsTree (o t : Order) (parent : List (Option ℕ)) : Type 0 where
+  pub laws : IsGraph o.graph
+  pub thins : Thins o t
+  pub parents : TellParents o (length o.rows) parent
+
+-- there is room for a count of each column, and for the work of a count by the tree
+pub record HasTreeRoom (o : Order) (counts work : List ℕ) : Type 0 where
+  pub counts_room : length counts ≡ length o.rows
+  pub work_room : length work ≡ 8 * length o.rows + 5
+
+-- the number is the row j of the order of a graph, and the supernodes have these parents
+pub record IsRowOf (b : Partition) (j : ℕ) (number : ℤ) (parent : List (Option ℕ)) : Type 0 where
+  pub laws : IsGraph b.order.graph
+  pub place : j < length b.owner
+  pub is : number ≡ pos j
+  pub parents : parent ≡ b.parent
+
+-- row j, which climbs, has come to supernode s
+pub record CanClimb (b : Partition) (j s : ℕ) (next mark : List ℕ) (rows : List ℤ) : Type 0 where
+  pub climbs : Climbs b j s next mark (naturals rows)
+  pub told : AreNonNegative rows
+
+-- so it has, and it is not written there yet
+pub record CanPutRow (b : Partition) (j s : ℕ) (next mark : List ℕ) (rows : List ℤ) : Type 0 where
+  pub climbs : Climbs b j s next mark (naturals rows)
+  pub new : ¬ (IsMarkedBy mark j s)
+  pub told : AreNonNegative rows
+
+-- the rows before j are written, and no mark is that of j
+pub record CanAddRow (b : Partition) (j : ℕ) (owner next mark : List ℕ) (rows : List ℤ) : Type 0 where
+  pub owners : owner ≡ b.owner
+  pub written : WrittenTo b j next (naturals rows)
+  pub marks : MarkedBefore b j mark
+  pub told : AreNonNegative rows
+
+-- the lists that are lent are those of the supernodes of the order of a graph
+pub record IsCutOf (b : Partition) (lent : LentCut) : Type 0 where
+  pub laws : IsGraph b.order.graph
+  pub cut : IsCut b
+  pub firsts : lent.first.now ≡ b.first
+  pub owners : lent.owner.now ≡ b.owner
+  pub pointers : lent.ptr.now ≡ b.ptr
+  pub parents : lent.parent.now ≡ b.parent
+
+-- there is a place for each supernode in two lists, and room for all rows below the blocks, each of which fits
+pub record CanFillRows (b : Partition) (fits : ℤ → Type 0) (next mark : List ℕ) (room : ℕ) : Type 0 where
+  pub nexts : length next + 1 ≡ length b.first
+  pub marks : length mark + 1 ≡ length b.first
+  pub all : room ≡ slice_index b.ptr (length b.first - 1)
+  pub most : fits (pos (length b.owner))
+
+-- the later neighbours of each place of the order of a graph are given, and each place fits
+pub record CanWriteFactor (o : Order) (fits : ℤ → Type 0) (starts later : List ℕ) : Type 0 where
+  pub laws : IsGraph o.graph
+  pub most : (j : ℕ) → j < length o.rows → fits (pos j)
+  pub later_are : HasLater o starts later
