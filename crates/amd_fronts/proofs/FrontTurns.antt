@@ -1,37 +1,37 @@
 -- A front turned over to its new element: what stands between the count of the rows outside it and the renewal of its lists.
 use Rattle.amd_model.proofs.Counting.Below.{clash}
 use Rattle.std.proofs.Common.{ℕ, ℤ, Bool, true, false, List, [], ◌∷◌, ◌≡◌, ◌<◌, ◌≤◌, ◌+◌, ◌-◌, not, inl, inr, refl, sym, ap}
-use Rattle.std.proofs.Common.{◌∙◌, arith, cond, length, filter, subst}
+use Rattle.std.proofs.Common.{◌∙◌, arith, cond, length, filter, subst, sum_by, lt_of_lt_of_le, le_of_eq, le_trans}
 use Rattle.std.proofs.lemmas.Bool.{cases_Bool, cases_eq, cond-true, cond-false, ltb-true, lt-ltb, not_from_true, false_from_ne_true}
-use Rattle.amd_model.specs.Quotient.{has}
+use Rattle.amd_model.specs.Quotient.{has, Once}
 use Rattle.amd_model.proofs.Quotient.Lists.{filter_yes, filter_no}
 use Rattle.amd_model.proofs.Listings.Words.{has_filter as filter_gives}
 use Rattle.amd_round_laws.proofs.Lists.Named.{named_sum}
 use Rattle.amd_words.specs.Words.{num, word, place, is_place, start, size_of, flip_of, rows}
 use Rattle.amd_lists.specs.Chains.{DegreeLists}
-use Rattle.amd_fronts.specs.Counts.{counter, ends, settled, IsListed}
-use Rattle.amd_lists.specs.Layout.{elements_in, rows_met}
-use Rattle.amd_fronts.specs.Tallies.{IsPart}
 use Rattle.amd_lists.specs.Renewal.{is_kept, is_outside, AreMet}
-use Rattle.amd_lists.specs.Layout.{list_in, Layout, IsRenewable}
-use Rattle.amd_fronts.specs.Effects.{CountsOutside}
+use Rattle.amd_lists.specs.Layout.{elements_in, rows_met, list_in, Layout, IsRenewable}
+use Rattle.amd_lists.specs.Workspaces.{Workspace}
+use Rattle.amd_fronts.specs.Counts.{counter, ends, settled, IsListed}
+use Rattle.amd_fronts.specs.Effects.{CountsOutside, Turns}
 use Rattle.amd_fronts.specs.Fronts.{RenewsFront}
+use Rattle.amd_fronts.specs.Premises.{CanTurnFront, CanRenewAll}
+use Rattle.amd_fronts.specs.Tallies.{front_at, counted_in, IsPart, CountsFront, EndsCounted}
 use Rattle.amd_fronts.specs.Turning.{IsTurning}
+use Rattle.amd_fronts.specs.TurningLists.{AreTurning}
 use Rattle.amd_lists.proofs.Frames.{has_parts, has_from, dropped}
 use Rattle.amd_fronts.proofs.Counting.{start_stays, met_stands}
-use Rattle.amd_words.proofs.RowLists.{rows_at}
 use Rattle.amd_lists.proofs.ChainLists.{back_same}
 
 -- a class of the front as the count reads it
-pub turn_listed : {n me : ℕ} {front : List ℕ} {iw pe e_len nv : List ℤ} {len degree w : List ℕ} {free i : ℕ} →
-    Layout n iw pe e_len len free →
-    free ≤ length iw → IsTurning n me front iw pe e_len nv len degree w i → IsListed n iw pe e_len nv i
-turn_listed {n} {me} {front} {iw} {pe} {e_len} {nv} {len} {degree} {w} {free} {i} y fit t =
+pub turn_listed : {me i : ℕ} {p : Workspace} → Layout (length p.w) p.iw p.pe p.e_len p.len p.free → p.free ≤ length p.iw →
+    IsTurning (length p.w) me p i → IsListed p i
+turn_listed {me} {i} {p} y fit t =
     let a = y.within i t.listed in let b = y.parts i t.listed in record {
-      starts = (has_parts pe len i t.listed).0;
+      starts = (has_parts p.pe p.len i t.listed).0;
       counts = t.counts;
       within = omega (arith, a, b, fit);
-      names = λ k l. y.words (start pe i + k) (omega (arith, a, b, l));
+      names = λ k l. y.words (start p.pe i + k) (omega (arith, a, b, l));
       once = t.once;
       class = t.class;
       inside = t.marked;
@@ -49,14 +49,6 @@ filter_fewer p q (x ∷ xs) less = let h = filter_fewer p q xs less in elim (cas
   ])
 ]
 
--- what was counted over some words that are the list of a row
-pub counts_list : {aggressive : Bool} {flag me from count : ℕ} {iw pe e_len nv : List ℤ} {degree w head : List ℕ} {sides : List (ℕ × ℕ)}
-    {pe' : List ℤ} {w' head' : List ℕ} {sides' : List (ℕ × ℕ)} (len : List ℕ) → from ≡ start pe me → count ≡ num len me →
-    CountsOutside aggressive flag me (rows iw from count) iw pe e_len nv degree w head sides pe' w' head' sides' →
-    CountsOutside aggressive flag me (list_in iw pe len me) iw pe e_len nv degree w head sides pe' w' head' sides'
-counts_list {aggressive} {flag} {me} {from} {count} {iw} {pe} {e_len} {nv} {degree} {w} {head} {sides} {pe'} {w'} {head'} {sides'} len f c =
-    subst (λ xs. CountsOutside aggressive flag me xs iw pe e_len nv degree w head sides pe' w' head' sides') (rows_at iw f c)
-
 -- what stands after the count stood before it
 stood : (aggressive : Bool) (flag x all seen : ℕ) → 0 < settled aggressive flag (counter flag x all seen) → 0 < x
 stood aggressive flag x all seen h = elim (cases_eq x 0) [
@@ -69,58 +61,64 @@ stood aggressive flag x all seen h = elim (cases_eq x 0) [
     none true = refl
     none false = refl
 
-module _ {n me : ℕ} {iw pe e_len nv : List ℤ} {len degree w : List ℕ} {free : ℕ} (aggressive : Bool) (flag : ℕ)
-    (y : Layout n iw pe e_len len free) (two : 2 ≤ flag) (under : (e : ℕ) → num w e < flag)
-    (can : (i : ℕ) → has (list_in iw pe len me) i ≡ true → IsTurning n me (list_in iw pe len me) iw pe e_len nv len degree w i)
-    (left : List ℤ) (ended : (e : ℕ) → word left e ≡ cond (ends aggressive flag (counter flag (num w e) (num degree e)
-    (rows_met iw pe e_len nv (list_in iw pe len me) e))) (flip_of me) (word pe e)) where
-  pub left_me : word left me ≡ word pe me
-  left_me = start_stays iw pe e_len nv aggressive flag me degree w left (start pe me) (num len me) (num len me)
-      (omega arith) two under ended me
-      (λ i h. (can i h).other)
+module _ {n me : ℕ} {p : Workspace} (aggressive : Bool) (y : Layout n p.iw p.pe p.e_len p.len p.free) (two : 2 ≤ p.flag)
+    (under : (e : ℕ) → num p.w e < p.flag) (can : AreTurning n me p) (left : List ℤ)
+    (ended : EndsCounted aggressive me (front_at p me) p left) where
+  -- how many rows of the element e are in the front
+  abbrev met : ℕ → ℕ
+  met e = rows_met p.iw p.pe p.e_len p.nv (front_at p me) e
 
-  pub left_front : (i : ℕ) → has (list_in iw pe len me) i ≡ true → word left i ≡ word pe i
-  left_front i m = start_stays iw pe e_len nv aggressive flag me degree w left (start pe me) (num len me) (num len me)
-      (omega arith) two under ended i
-      (λ j h. (can j h).apart i m)
+  -- a row that no class of the front lists as an element starts where it did
+  stays : (i : ℕ) → ((j : ℕ) → has (front_at p me) j ≡ true → has (elements_in p.iw p.pe p.e_len j) i ≡ false) →
+      word left i ≡ word p.pe i
+  stays i none = start_stays p.iw p.pe p.e_len p.nv aggressive p.flag me p.degree p.w left (start p.pe me) (num p.len me)
+      (num p.len me) (omega arith) two under ended i none
 
-  pub left_list : list_in iw left len me ≡ list_in iw pe len me
-  left_list = ap (λ z. rows iw (place z) (num len me)) left_me
+  pub left_me : word left me ≡ word p.pe me
+  left_me = stays me (λ i h. (can i h).other)
 
-  pub left_laid : Layout n iw left e_len len free
+  pub left_front : (i : ℕ) → has (front_at p me) i ≡ true → word left i ≡ word p.pe i
+  left_front i m = stays i (λ j h. (can j h).apart i m)
+
+  pub left_list : list_in p.iw left p.len me ≡ front_at p me
+  left_list = ap (λ z. rows p.iw (place z) (num p.len me)) left_me
+
+  pub left_laid : Layout n p.iw left p.e_len p.len p.free
   unfolding is_place
-  left_laid = dropped y left (λ j. elim (cases_Bool (ends aggressive flag (counter flag (num w j) (num degree j)
-      (rows_met iw pe e_len nv (list_in iw pe len me) j)))) [
-        | inl t ↦ inr (ap is_place (ended j ∙ cond-true _ (flip_of me) (word pe j) t))
-        | inr f ↦ inl (ended j ∙ cond-false _ (flip_of me) (word pe j) f)
-      ])
+  left_laid = dropped y left (λ j. elim (cases_Bool (ends aggressive p.flag (counted_in (front_at p me) p j))) [
+    | inl t ↦ inr (ap is_place (ended j ∙ cond-true _ (flip_of me) (word p.pe j) t))
+    | inr f ↦ inl (ended j ∙ cond-false _ (flip_of me) (word p.pe j) f)
+  ])
 
-  pub left_renewable : (w1 : List ℕ) → ((e : ℕ) → num w1 e ≡ settled aggressive flag (counter flag (num w e) (num degree e)
-      (rows_met iw pe e_len nv (list_in iw pe len me) e))) → (i : ℕ) → has (list_in iw left len me) i ≡ true →
-      IsRenewable (is_kept w1) (is_outside nv) iw left e_len len i
-  left_renewable w1 counted i h =
-      let m : has (list_in iw pe len me) i ≡ true = sym (ap (λ xs. has xs i) left_list) ∙ h in let t = can i m in let s = left_front i m in
-      let p = has_parts pe len i t.listed in
-      let less = filter_fewer (is_kept w1) (is_kept w) (elements_in iw pe e_len i) (λ e k. lt-ltb 0 (num w e)
-      (stood aggressive flag (num w e) (num degree e) (rows_met iw pe e_len nv (list_in iw pe len me) e)
-      (let a = ltb-true 0 (num w1 e) k in let b = counted e in omega (arith, a, b)))) in
-      let es = ap (λ z. length (filter (is_kept w1) (rows iw (place z) (place (word e_len i))))) s in
-      let vs = ap (λ z. length (filter (is_outside nv) (rows iw (place z + place (word e_len i)) (num len i - place (word e_len i))))) s in
-      let r = t.loses in (has_from left len i (ap is_place s ∙ p.0) p.1, t.counts, omega (arith, less, es, vs, r))
+  module _ (w : List ℕ) (counted : CountsFront aggressive (front_at p me) p w) (i : ℕ)
+      (h : has (list_in p.iw left p.len me) i ≡ true) where
+    known : has (front_at p me) i ≡ true
+    known = sym (ap (λ xs. has xs i) left_list) ∙ h
 
-  pub left_met : (w1 : List ℕ) → ((e : ℕ) → num w1 e ≡ settled aggressive flag (counter flag (num w e) (num degree e)
-      (rows_met iw pe e_len nv (list_in iw pe len me) e))) → IsPart iw pe e_len nv degree w (list_in iw pe len me) →
-      (i : ℕ) → has (list_in iw left len me) i ≡ true → AreMet flag w1 (elements_in iw left e_len i)
-  left_met w1 counted part i h e named kept =
-      let m : has (list_in iw pe len me) i ≡ true = sym (ap (λ xs. has xs i) left_list) ∙ h in let t = can i m in let s = left_front i m in
-      let lists : has (elements_in iw pe e_len i) e ≡ true = sym (ap (λ z. has (rows iw (place z) (place (word e_len i))) e) s) ∙ named in
-      let share : ℕ → ℕ = λ j. cond (has (elements_in iw pe e_len j) e) (size_of nv j) 0 in
-      let all = named_sum share (list_in iw pe len me) i m in
-      let own = cond-true (has (elements_in iw pe e_len i) e) (size_of nv i) 0 lists in
-      let class = t.class in let count = counted e in let stands = ltb-true 0 (num w1 e) kept in
-      let flagged = met_stands flag (num w e) (num degree e) (rows_met iw pe e_len nv (list_in iw pe len me) e)
-      (omega (arith, all, own, class)) (part e) aggressive (omega (arith, count, stands)) in
-      omega (arith, flagged, count)
+    pub left_renewable : IsRenewable (is_kept w) (is_outside p.nv) p.iw left p.e_len p.len i
+    left_renewable =
+        let t = can i known in let s = left_front i known in let q = has_parts p.pe p.len i t.listed in
+        let less = filter_fewer (is_kept w) (is_kept p.w) (elements_in p.iw p.pe p.e_len i) (λ e k. lt-ltb 0 (num p.w e)
+        (stood aggressive p.flag (num p.w e) (num p.degree e) (met e)
+        (let a = ltb-true 0 (num w e) k in let b = counted e in omega (arith, a, b)))) in
+        let es = ap (λ z. length (filter (is_kept w) (rows p.iw (place z) (place (word p.e_len i))))) s in
+        let vs = ap (λ z. length (filter (is_outside p.nv) (rows p.iw (place z + place (word p.e_len i))
+        (num p.len i - place (word p.e_len i))))) s in
+        let r = t.loses in
+        (has_from left p.len i (ap is_place s ∙ q.0) q.1, t.counts, omega (arith, less, es, vs, r))
+
+    pub left_met : IsPart (front_at p me) p → AreMet p.flag w (elements_in p.iw left p.e_len i)
+    left_met part e named kept =
+        let t = can i known in let s = left_front i known in
+        let lists : has (elements_in p.iw p.pe p.e_len i) e ≡ true =
+        sym (ap (λ z. has (rows p.iw (place z) (place (word p.e_len i))) e) s) ∙ named in
+        let share : ℕ → ℕ = λ j. cond (has (elements_in p.iw p.pe p.e_len j) e) (size_of p.nv j) 0 in
+        let all = named_sum share (front_at p me) i known in
+        let own = cond-true (has (elements_in p.iw p.pe p.e_len i) e) (size_of p.nv i) 0 lists in
+        let class = t.class in let count = counted e in let stands = ltb-true 0 (num w e) kept in
+        let flagged = met_stands p.flag (num p.w e) (num p.degree e) (met e)
+        (omega (arith, all, own, class)) (part e) aggressive (omega (arith, count, stands)) in
+        omega (arith, flagged, count)
 
 -- ---- lists by bound that name no class of the front stay
 
@@ -142,3 +140,66 @@ others_linked {n} {me} {kept} {is_apart} {beyond} {front} {free} {iw} {pe} {e_le
       bounds = λ d x l k. r.bounds x ∙ cond-false (has front x) _ (num degree x) (out d x k) ∙ h.bounds d x l k;
       once = h.once;
     }
+
+-- once the classes are counted, their lists can be renewed
+pub renewable_left : {most_word most_place most_cell me : ℕ} {p : Workspace} (aggressive : Bool) →
+    CanTurnFront most_word most_place most_cell me p → (v : Workspace) → CountsOutside aggressive me (front_at p me) p v →
+    CanRenewAll most_word most_place most_cell v.flag me v.free v.iw v.pe v.e_len v.nv v.len v.degree v.w v.last
+renewable_left {most_word} {most_place} {most_cell} {me} {p} aggressive r v out =
+    subst (λ x. CanRenewAll most_word most_place most_cell x.flag me x.free x.iw x.pe x.e_len x.nv x.len x.degree x.w x.last)
+    (sym out.same) here
+  where
+    same : list_in p.iw v.pe p.len me ≡ front_at p me
+    same = left_list aggressive r.laid r.two.0 r.two.1 r.front v.pe out.starts
+
+    here : CanRenewAll most_word most_place most_cell p.flag me p.free p.iw v.pe p.e_len p.nv p.len p.degree v.w v.last
+    here = let l = r.lengths in let long = out.long.0 in let w = sym long in record {
+      lengths = (out.long.1 ∙ l.0.0 ∙ w, l.0.1 ∙ w, l.1 ∙ w, l.0.2 ∙ w);
+      more_lengths = (l.0.3 ∙ w, out.lengths.2 ∙ r.more_lengths.2 ∙ w);
+      narrow = (r.narrow.0, le_trans (le_of_eq long) r.narrow.1);
+      end = r.end;
+      laid = subst (λ n. Layout n p.iw v.pe p.e_len p.len p.free) w
+          (left_laid aggressive r.laid r.two.0 r.two.1 r.front v.pe out.starts);
+      row = (lt_of_lt_of_le r.row.0 (le_of_eq w), r.row.1, r.row.2);
+      list = ap is_place (left_me aggressive r.laid r.two.0 r.two.1 r.front v.pe out.starts) ∙ r.list.starts;
+      apart = ap (λ xs. has xs me) same ∙ r.list.apart;
+      once = subst Once (sym same) r.list.once;
+      front = left_renewable aggressive r.laid r.two.0 r.two.1 r.front v.pe out.starts v.w out.counted;
+      marked = λ i h. (r.front i (sym (ap (λ xs. has xs i) same) ∙ h)).marked;
+      met = λ i h. left_met aggressive r.laid r.two.0 r.two.1 r.front v.pe out.starts v.w out.counted i h r.part;
+      few = let a = ap (sum_by (size_of p.nv)) same in let b = r.few in omega (arith, a, b);
+    }
+
+-- and once they were, the front is turned over
+module _ {most_word most_place most_cell me : ℕ} {p : Workspace} (aggressive : Bool)
+    (r : CanTurnFront most_word most_place most_cell me p) (m v : Workspace) (out : CountsOutside aggressive me (front_at p me) p m)
+    (gone : ℕ) where
+  -- the workspace once the classes are counted, and then once their lists are renewed
+  abbrev counted : Workspace
+  counted = record p { pe = m.pe; w = m.w; head = m.head; next = m.next; last = m.last }
+
+  abbrev renewed : Workspace → Workspace
+  renewed x = record x { iw = v.iw; pe = v.pe; e_len = v.e_len; nv = v.nv; len = v.len; degree = v.degree; last = v.last }
+
+  abbrev Renewed : ℕ → List ℕ → Workspace → Type 0
+  Renewed n front x = RenewsFront n me (is_kept x.w) (is_outside x.nv) (λ e. num x.w e - x.flag) front x.free x.iw x.pe x.e_len x.nv
+      x.len x.degree x.last v.iw v.pe v.e_len v.nv v.len v.degree v.last gone
+
+  turned : Renewed (length m.w) (front_at m me) m → Renewed (length p.w) (front_at p me) counted
+  turned h = subst (λ xs. Renewed (length p.w) xs counted) (left_list aggressive r.laid r.two.0 r.two.1 r.front m.pe out.starts)
+      (subst (λ n. Renewed n (front_at counted me) counted) out.long.0
+      (subst (λ x. Renewed (length x.w) (front_at x me) x) out.same h))
+
+  turns_counted : Renewed (length p.w) (front_at p me) counted → Turns aggressive me p (renewed counted) gone
+  turns_counted h = record {
+    turns = record { left = m.pe; links = m.last; counted = out.counted; ended = out.starts; renewed = h };
+    linked = λ lists member l. others_linked m.head m.next lists h
+        (subst (λ d. DegreeLists (length p.w) m.head m.next m.last d (λ b. filter (λ j. not (has (front_at p me) j)) (lists b)))
+        (ap (λ x. x.degree) out.same) (out.linked lists member l));
+    lengths = (out.long.0, out.lengths.0, out.lengths.1);
+    more_lengths = (h.lengths.0 ∙ out.long.1 ∙ r.lengths.0.0, h.lengths.4 ∙ out.lengths.2 ∙ r.more_lengths.2);
+    same = refl;
+  }
+
+  pub turns_front : Renewed (length m.w) (front_at m me) m → v ≡ renewed m → Turns aggressive me p v gone
+  turns_front h same = subst (λ x. Turns aggressive me p x gone) (sym (same ∙ ap renewed out.same)) (turns_counted (turned h))

@@ -11,7 +11,7 @@ use Rattle.amd_merging.specs.Effects.{RestoresFront}
 use Rattle.amd_lists.specs.Renewal.{Filters}
 use Rattle.amd_lists.specs.Sizes.{bucket_count}
 use Rattle.amd_merging.specs.Restoring.{marked_in, bound_in, put_all, IsPlaceable}
-use Rattle.amd_rounds.specs.Parts.{front_at}
+use Rattle.amd_fronts.specs.Tallies.{front_at}
 use Rattle.amd_lists.specs.Workspaces.{workspace_of}
 use Rattle.amd_rounds.proofs.Fronts.{other_degree, not_placed, ends_before}
 use Rattle.amd_rounds.proofs.round.end_front.Goals.{then-is_built, else-is_built}
