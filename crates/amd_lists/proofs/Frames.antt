@@ -206,7 +206,8 @@ module _ {n me : ℕ} {kept is_apart : ℕ → Bool} {i free : ℕ} {p v : Works
     | inl m ↦ old (inl m)
     | inr m ↦ elim (cases_lt k (start p.pe i + num v.len i)) [
       | inl b ↦ (let at : start p.pe i + (k - start p.pe i) ≡ k = omega (arith, m) in
-          subst (λ p. (is_place (word v.iw p) ≡ true) × (place (word v.iw p) < n)) at (h.list.names (k - start p.pe i) (omega (arith, m, b))))
+          subst (λ q. (is_place (word v.iw q) ≡ true) × (place (word v.iw q) < n)) at
+          (h.list.names (k - start p.pe i) (omega (arith, m, b))))
       | inr b ↦ old (inr b)
     ]
   ]

@@ -5,7 +5,7 @@ use Rattle.std.specs.Prelude.{length, filter, sum_by, slice_set}
 use Rattle.amd_model.specs.Figures.{cut}
 use Rattle.amd_model.specs.Quotient.{has, turned}
 use Rattle.amd_words.specs.Words.{num, word, size_of, in_front, rows, Names}
-use Rattle.amd_lists.specs.Spans.{Span, Left, left, RowList, rows_at, elements_at, variables_at}
+use Rattle.amd_lists.specs.Spans.{Span, Sifted, sifted, RowList, rows_of, elements_at, variables_at}
 
 -- an element is kept: it stands still
 abbrev pub is_kept : List ℕ → ℕ → Bool
@@ -29,19 +29,19 @@ key_of n xs = (sum_by (λ j. j) xs % 2 ^ 64) % n
 
 -- of the words of a span, which name rows below n, those that pass stand from `to` on now, to the end that is left; the
 -- sum is theirs, cut, on top of first
-pub record Filters (n : ℕ) (pass : ℕ → Bool) (share : ℕ → ℕ) (first : ℕ) (s : Span) (to : ℕ) (l : Left) : Type 0 where
+pub record Filters (n : ℕ) (pass : ℕ → Bool) (share : ℕ → ℕ) (first : ℕ) (s : Span) (to : ℕ) (l : Sifted) : Type 0 where
   pub long : length l.words ≡ length s.words
   pub low : to ≤ l.end
   pub high : l.end ≤ to + s.count
-  pub list : rows l.words to (l.end - to) ≡ filter pass (rows_at s)
+  pub list : rows l.words to (l.end - to) ≡ filter pass (rows_of s)
   pub names : Names n l.words to (l.end - to)
   pub below : (k : ℕ) → k < to → word l.words k ≡ word s.words k
   pub above : (k : ℕ) → l.end ≤ k → word l.words k ≡ word s.words k
-  pub sum_is : l.sum ≡ cut (first + sum_by share (filter pass (rows_at s)))
+  pub sum_is : l.sum ≡ cut (first + sum_by share (filter pass (rows_of s)))
 
 -- what is left, with the word that was there at first where those that stay end
-abbrev pub closed : Span → Left → Left
-closed s l = left (slice_set l.words l.end (word s.words l.end)) l.end l.sum
+abbrev pub closed : Span → Sifted → Sifted
+closed s l = sifted (slice_set l.words l.end (word s.words l.end)) l.end l.sum
 
 -- the new element stands in front of what a list keeps, which starts where it did: the first kept element and the first
 -- kept variable each stand behind the others
@@ -61,18 +61,18 @@ IsExact most count = (most < 2 ^ 32) × (count < 2 ^ 32)
 
 -- of the words of a span, which name elements, those of standing ones stand at its front now; the sum is what their
 -- counters have above `less`, cut, and hash is their own sum, as a word wraps it. The word at which they end is left open
-pub record KeepsWords (narrow : Bool) (less : ℕ) (w : List ℕ) (s : Span) (l : Left) (hash : ℕ) : Type 0 where
+pub record KeepsWords (narrow : Bool) (less : ℕ) (w : List ℕ) (s : Span) (l : Sifted) (hash : ℕ) : Type 0 where
   pub filters : Filters (length w) (is_kept w) (λ e. num w e - less) 0 s s.from (closed s l)
   pub behind : (k : ℕ) → s.from + s.count ≤ k → word l.words k ≡ word s.words k
-  pub hash_is : hash ≡ hashed 0 (filter (is_kept w) (rows_at s))
+  pub hash_is : hash ≡ hashed 0 (filter (is_kept w) (rows_of s))
   pub small : narrow ≡ true → l.sum ≤ 4294967295 * s.count
 
 -- of the words of a span, which name variables, those of classes outside the front stand from `to` on now; the sum is
 -- their number of rows on top of first, cut, and hash is their own sum on top of another one, as a word wraps it. The
 -- word at which they end is left open
-pub record KeepsVariables (nv : List ℤ) (first before : ℕ) (s : Span) (to : ℕ) (l : Left) (hash : ℕ) : Type 0 where
+pub record KeepsVariables (nv : List ℤ) (first before : ℕ) (s : Span) (to : ℕ) (l : Sifted) (hash : ℕ) : Type 0 where
   pub filters : Filters (length nv) (is_outside nv) (size_of nv) first s to (closed s l)
-  pub hash_is : hash ≡ hashed before (filter (is_outside nv) (rows_at s))
+  pub hash_is : hash ≡ hashed before (filter (is_outside nv) (rows_of s))
 
 -- what a list keeps: the standing ones among its elements, and the classes outside the front among its variables
 abbrev pub kept_words : List ℕ → RowList → List ℕ

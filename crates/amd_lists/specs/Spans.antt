@@ -18,17 +18,17 @@ abbrev pub span : List ℤ → ℕ → ℕ → Span
 span iw from count = record { words = iw; from = from; count = count }
 
 -- the rows that they name
-abbrev pub rows_at : Span → List ℕ
-rows_at s = rows s.words s.from s.count
+abbrev pub rows_of : Span → List ℕ
+rows_of s = rows s.words s.from s.count
 
--- what is left where words were gone through: the words, where those that stay end, and a sum over these
-pub record Left : Type 0 where
+-- what is left where words were sifted: the words, where those that stay end, and a sum over these
+pub record Sifted : Type 0 where
   pub words : List ℤ
   pub end : ℕ
   pub sum : ℕ
 
-abbrev pub left : List ℤ → ℕ → ℕ → Left
-left iw end sum = record { words = iw; end = end; sum = sum }
+abbrev pub sifted : List ℤ → ℕ → ℕ → Sifted
+sifted iw end sum = record { words = iw; end = end; sum = sum }
 
 -- the list of a row among the words: count words from a place on, the first of which name elements
 pub record RowList : Type 0 where

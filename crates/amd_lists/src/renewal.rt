@@ -4,7 +4,7 @@
 ghost use Rattle.std.specs.Prelude.{◌≡◌, ◌<◌, ◌≤◌, ◌+◌, ◌*◌, ◌^◌, pos, cond, length, nat_lt, slice_set, true};
 ghost use Rattle.amd_model.specs.Figures.{cut};
 ghost use Rattle.amd_words.specs.Words.{word, rows, size_of};
-ghost use Rattle.amd_lists.specs.Spans.{IsSpan, left, row_list, span};
+ghost use Rattle.amd_lists.specs.Spans.{IsSpan, row_list, sifted, span};
 ghost use Rattle.amd_lists.specs.Renewal.{AreMet, IsExact, KeepsWords, KeepsVariables, CanRenew, RenewsList};
 ghost use Rattle.amd_lists.specs.Renewal.{is_outside};
 
@@ -55,7 +55,7 @@ fn keep_words<S: Signed, U: Unsigned>(
 ) -> (usize, usize, usize)
     requires span { IsSpan (length w.now) iw.old from count }
     requires narrow { narrow ≡ true → IsExact U.MOST count }
-    ensures { KeepsWords narrow less w.now (span iw.old from count) (left iw.new result.0 result.1) result.2 }
+    ensures { KeepsWords narrow less w.now (span iw.old from count) (sifted iw.new result.0 result.1) result.2 }
 {
     let mut end = from;
     let mut outside: usize = 0;
@@ -87,7 +87,7 @@ fn keep_elements<S: Signed, U: Unsigned>(
     requires span { IsSpan (length w.now) iw.old from count }
     requires narrow { narrow ≡ true → IsExact U.MOST count }
     requires met { AreMet flag w.now (rows iw.old from count) }
-    ensures { KeepsWords narrow flag w.now (span iw.old from count) (left iw.new result.0 result.1) result.2 }
+    ensures { KeepsWords narrow flag w.now (span iw.old from count) (sifted iw.new result.0 result.1) result.2 }
 {
     let less = if narrow { 0 } else { flag };
     let (end, total, hash) = keep_words(iw, w, from, count, less, narrow);
@@ -158,7 +158,7 @@ fn keep_part<W: Writing, S: Signed>(
     requires span { IsSpan (length nv.now) iw.old part.from part.count }
     requires down { part.to ≤ part.from }
     requires narrow { narrow ≡ true → IsExact S.MOST part.count × (first + 4294967295 * part.count < 2 ^ 64) }
-    ensures { KeepsVariables nv.now first sum (span iw.old part.from part.count) part.to (left iw.new result.0 result.1)
+    ensures { KeepsVariables nv.now first sum (span iw.old part.from part.count) part.to (sifted iw.new result.0 result.1)
         result.2 }
 {
     let mut end = part.to;
@@ -206,7 +206,7 @@ fn keep_variables<S: Signed>(
     requires span { IsSpan (length nv.now) iw.old from count }
     requires down { to ≤ from }
     requires narrow { narrow ≡ true → IsExact S.MOST count × (first + 4294967295 * count < 2 ^ 64) }
-    ensures { KeepsVariables nv.now first sum (span iw.old from count) to (left iw.new result.0 result.1) result.2 }
+    ensures { KeepsVariables nv.now first sum (span iw.old from count) to (sifted iw.new result.0 result.1) result.2 }
 {
     let part = Part { from, count, to };
     if are_scattered(iw, from, count) {
