@@ -13,11 +13,11 @@ use Rattle.amd_lists.specs.Renewal.{is_kept, is_outside, AreMet}
 use Rattle.amd_lists.specs.Layout.{elements_in, rows_met, list_in, Layout, IsRenewable}
 use Rattle.amd_lists.specs.Workspaces.{Workspace}
 use Rattle.amd_fronts.specs.Counts.{counter, ends, settled, IsListed}
-use Rattle.amd_fronts.specs.Effects.{CountsOutside, Turns}
-use Rattle.amd_fronts.specs.Fronts.{RenewsFront}
+use Rattle.amd_fronts.specs.Effects.{CountsOutside, RenewsAllClasses, Turns}
+use Rattle.amd_fronts.specs.Fronts.{RenewsFront, renewed_in}
 use Rattle.amd_fronts.specs.Premises.{CanTurnFront, CanRenewAll}
 use Rattle.amd_fronts.specs.Tallies.{front_at, counted_in, IsPart, CountsFront, EndsCounted}
-use Rattle.amd_fronts.specs.Turning.{IsTurning}
+use Rattle.amd_fronts.specs.Turning.{IsTurning, once_counted}
 use Rattle.amd_fronts.specs.TurningLists.{AreTurning}
 use Rattle.amd_lists.proofs.Frames.{has_parts, has_from, dropped}
 use Rattle.amd_fronts.proofs.Counting.{start_stays, met_stands}
@@ -122,84 +122,71 @@ module _ {n me : ℕ} {p : Workspace} (aggressive : Bool) (y : Layout n p.iw p.p
 
 -- ---- lists by bound that name no class of the front stay
 
-pub others_linked : {n me : ℕ} {kept is_apart : ℕ → Bool} {beyond : ℕ → ℕ} {front : List ℕ} {free : ℕ} {iw pe e_len nv : List ℤ}
-    {len degree last : List ℕ} {iw' pe' e_len' nv' : List ℤ} {len' degree' last' : List ℕ} {gone : ℕ} (head next : List ℕ)
-    (lists : ℕ → List ℕ) →
-    RenewsFront n me kept is_apart beyond front free iw pe e_len nv len degree last iw' pe' e_len' nv' len' degree' last' gone →
-    DegreeLists n head next last degree (λ d. filter (λ j. not (has front j)) (lists d)) →
-    DegreeLists n head next last' degree' (λ d. filter (λ j. not (has front j)) (lists d))
-others_linked {n} {me} {kept} {is_apart} {beyond} {front} {free} {iw} {pe} {e_len} {nv} {len} {degree} {last} {iw'} {pe'} {e_len'} {nv'}
-    {len'}
-    {degree'} {last'} {gone} head next lists r h =
+pub others_linked : {n me : ℕ} {front : List ℕ} {p v : Workspace} {gone : ℕ} (head next : List ℕ) (lists : ℕ → List ℕ) →
+    RenewsFront n me front p v gone →
+    DegreeLists n head next p.last p.degree (λ d. filter (λ j. not (has front j)) (lists d)) →
+    DegreeLists n head next v.last v.degree (λ d. filter (λ j. not (has front j)) (lists d))
+others_linked {n} {me} {front} {p} {v} {gone} head next lists r h =
     let out : (d x : ℕ) → has (filter (λ j. not (has front j)) (lists d)) x ≡ true → has front x ≡ false = λ d x k.
     false_from_ne_true (has front x) (λ q. clash {P = ⊥} (filter_gives (λ j. not (has front j)) (lists d) x k).1 (not_from_true
     (has front x) q)) in record {
       chains = h.chains;
-      backs = λ d l. back_same last last' n (filter (λ j. not (has front j)) (lists d)) (λ x k. r.keys x
-          ∙ cond-false (has front x) _ (num last x) (out d x k)) (h.backs d l);
-      bounds = λ d x l k. r.bounds x ∙ cond-false (has front x) _ (num degree x) (out d x k) ∙ h.bounds d x l k;
+      backs = λ d l. back_same p.last v.last n (filter (λ j. not (has front j)) (lists d)) (λ x k. r.keys x
+          ∙ cond-false (has front x) _ (num p.last x) (out d x k)) (h.backs d l);
+      bounds = λ d x l k. r.bounds x ∙ cond-false (has front x) _ (num p.degree x) (out d x k) ∙ h.bounds d x l k;
       once = h.once;
     }
 
--- once the classes are counted, their lists can be renewed
-pub renewable_left : {most_word most_place most_cell me : ℕ} {p : Workspace} (aggressive : Bool) →
-    CanTurnFront most_word most_place most_cell me p → (v : Workspace) → CountsOutside aggressive me (front_at p me) p v →
-    CanRenewAll most_word most_place most_cell v.flag me v.free v.iw v.pe v.e_len v.nv v.len v.degree v.w v.last
-renewable_left {most_word} {most_place} {most_cell} {me} {p} aggressive r v out =
-    subst (λ x. CanRenewAll most_word most_place most_cell x.flag me x.free x.iw x.pe x.e_len x.nv x.len x.degree x.w x.last)
-    (sym out.same) here
-  where
-    same : list_in p.iw v.pe p.len me ≡ front_at p me
-    same = left_list aggressive r.laid r.two.0 r.two.1 r.front v.pe out.starts
+-- ---- a front that is turned over: first its classes are counted, and then their lists are renewed
 
-    here : CanRenewAll most_word most_place most_cell p.flag me p.free p.iw v.pe p.e_len p.nv p.len p.degree v.w v.last
-    here = let l = r.lengths in let long = out.long.0 in let w = sym long in record {
-      lengths = (out.long.1 ∙ l.0.0 ∙ w, l.0.1 ∙ w, l.1 ∙ w, l.0.2 ∙ w);
-      more_lengths = (l.0.3 ∙ w, out.lengths.2 ∙ r.more_lengths.2 ∙ w);
-      narrow = (r.narrow.0, le_trans (le_of_eq long) r.narrow.1);
-      end = r.end;
-      laid = subst (λ n. Layout n p.iw v.pe p.e_len p.len p.free) w
-          (left_laid aggressive r.laid r.two.0 r.two.1 r.front v.pe out.starts);
-      row = (lt_of_lt_of_le r.row.0 (le_of_eq w), r.row.1, r.row.2);
-      list = ap is_place (left_me aggressive r.laid r.two.0 r.two.1 r.front v.pe out.starts) ∙ r.list.starts;
-      apart = ap (λ xs. has xs me) same ∙ r.list.apart;
-      once = subst Once (sym same) r.list.once;
-      front = left_renewable aggressive r.laid r.two.0 r.two.1 r.front v.pe out.starts v.w out.counted;
-      marked = λ i h. (r.front i (sym (ap (λ xs. has xs i) same) ∙ h)).marked;
-      met = λ i h. left_met aggressive r.laid r.two.0 r.two.1 r.front v.pe out.starts v.w out.counted i h r.part;
-      few = let a = ap (sum_by (size_of p.nv)) same in let b = r.few in omega (arith, a, b);
-    }
-
--- and once they were, the front is turned over
 module _ {most_word most_place most_cell me : ℕ} {p : Workspace} (aggressive : Bool)
-    (r : CanTurnFront most_word most_place most_cell me p) (m v : Workspace) (out : CountsOutside aggressive me (front_at p me) p m)
-    (gone : ℕ) where
-  -- the workspace once the classes are counted, and then once their lists are renewed
+    (r : CanTurnFront most_word most_place most_cell me p) (m : Workspace) (out : CountsOutside aggressive me (front_at p me) p m) where
+  -- the workspace once its classes are counted
   abbrev counted : Workspace
-  counted = record p { pe = m.pe; w = m.w; head = m.head; next = m.next; last = m.last }
+  counted = once_counted p m m.pe m.last
 
-  abbrev renewed : Workspace → Workspace
-  renewed x = record x { iw = v.iw; pe = v.pe; e_len = v.e_len; nv = v.nv; len = v.len; degree = v.degree; last = v.last }
+  same_list : list_in p.iw m.pe p.len me ≡ front_at p me
+  same_list = left_list aggressive r.laid r.two.0 r.two.1 r.front m.pe out.starts
 
-  abbrev Renewed : ℕ → List ℕ → Workspace → Type 0
-  Renewed n front x = RenewsFront n me (is_kept x.w) (is_outside x.nv) (λ e. num x.w e - x.flag) front x.free x.iw x.pe x.e_len x.nv
-      x.len x.degree x.last v.iw v.pe v.e_len v.nv v.len v.degree v.last gone
-
-  turned : Renewed (length m.w) (front_at m me) m → Renewed (length p.w) (front_at p me) counted
-  turned h = subst (λ xs. Renewed (length p.w) xs counted) (left_list aggressive r.laid r.two.0 r.two.1 r.front m.pe out.starts)
-      (subst (λ n. Renewed n (front_at counted me) counted) out.long.0
-      (subst (λ x. Renewed (length x.w) (front_at x me) x) out.same h))
-
-  turns_counted : Renewed (length p.w) (front_at p me) counted → Turns aggressive me p (renewed counted) gone
-  turns_counted h = record {
-    turns = record { left = m.pe; links = m.last; counted = out.counted; ended = out.starts; renewed = h };
-    linked = λ lists member l. others_linked m.head m.next lists h
-        (subst (λ d. DegreeLists (length p.w) m.head m.next m.last d (λ b. filter (λ j. not (has (front_at p me) j)) (lists b)))
-        (ap (λ x. x.degree) out.same) (out.linked lists member l));
-    lengths = (out.long.0, out.lengths.0, out.lengths.1);
-    more_lengths = (h.lengths.0 ∙ out.long.1 ∙ r.lengths.0.0, h.lengths.4 ∙ out.lengths.2 ∙ r.more_lengths.2);
-    same = refl;
+  renewable_counted : CanRenewAll most_word most_place most_cell me counted
+  renewable_counted = let l = r.lengths in let long = out.long.0 in let w = sym long in record {
+    lengths = (out.long.1 ∙ l.0.0 ∙ w, l.0.1 ∙ w, l.1 ∙ w, l.0.2 ∙ w);
+    more_lengths = (l.0.3 ∙ w, out.lengths.2 ∙ r.more_lengths.2 ∙ w);
+    narrow = (r.narrow.0, le_trans (le_of_eq long) r.narrow.1);
+    end = r.end;
+    laid = subst (λ n. Layout n p.iw m.pe p.e_len p.len p.free) w
+        (left_laid aggressive r.laid r.two.0 r.two.1 r.front m.pe out.starts);
+    row = (lt_of_lt_of_le r.row.0 (le_of_eq w), r.row.1, r.row.2);
+    list = ap is_place (left_me aggressive r.laid r.two.0 r.two.1 r.front m.pe out.starts) ∙ r.list.starts;
+    apart = ap (λ xs. has xs me) same_list ∙ r.list.apart;
+    once = subst Once (sym same_list) r.list.once;
+    front = left_renewable aggressive r.laid r.two.0 r.two.1 r.front m.pe out.starts m.w out.counted;
+    marked = λ i h. (r.front i (sym (ap (λ xs. has xs i) same_list) ∙ h)).marked;
+    met = λ i h. left_met aggressive r.laid r.two.0 r.two.1 r.front m.pe out.starts m.w out.counted i h r.part;
+    few = let a = ap (sum_by (size_of p.nv)) same_list in let b = r.few in omega (arith, a, b);
   }
 
-  pub turns_front : Renewed (length m.w) (front_at m me) m → v ≡ renewed m → Turns aggressive me p v gone
-  turns_front h same = subst (λ x. Turns aggressive me p x gone) (sym (same ∙ ap renewed out.same)) (turns_counted (turned h))
+  pub renewable_left : CanRenewAll most_word most_place most_cell me m
+  renewable_left = subst (CanRenewAll most_word most_place most_cell me) (sym out.same) renewable_counted
+
+  module _ (v : Workspace) (gone : ℕ) where
+    turns_counted : RenewsFront (length p.w) me (front_at p me) counted (renewed_in counted v) gone →
+        Turns aggressive me p (renewed_in counted v) gone
+    turns_counted h = record {
+      turns = record { left = m.pe; links = m.last; counted = out.counted; ended = out.starts; renewed = h };
+      linked = λ lists member l. others_linked m.head m.next lists h
+          (subst (λ d. DegreeLists (length p.w) m.head m.next m.last d (λ b. filter (λ j. not (has (front_at p me) j)) (lists b)))
+          (ap (λ x. x.degree) out.same) (out.linked lists member l));
+      lengths = (out.long.0, out.lengths.0, out.lengths.1);
+      more_lengths = (h.lengths.0 ∙ out.long.1 ∙ r.lengths.0.0, h.lengths.4 ∙ out.lengths.2 ∙ r.more_lengths.2);
+      same = refl;
+    }
+
+    pub turns_front : RenewsAllClasses me m v gone → Turns aggressive me p v gone
+    turns_front h =
+        let same : v ≡ renewed_in counted v = h.same ∙ ap (λ x. renewed_in x v) out.same in
+        subst (λ x. Turns aggressive me p x gone) (sym same) (turns_counted
+        (subst (λ x. RenewsFront (length p.w) me (front_at p me) counted x gone) same
+        (subst (λ xs. RenewsFront (length p.w) me xs counted v gone) same_list
+        (subst (λ n. RenewsFront n me (front_at counted me) counted v gone) out.long.0
+        (subst (λ x. RenewsFront (length x.w) me (front_at x me) x v gone) out.same h.renews)))))

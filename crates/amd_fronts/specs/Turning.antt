@@ -21,6 +21,11 @@ pub record IsTurning (n me : ℕ) (p : Workspace) (i : ℕ) : Type 0 where
   pub apart : (e : ℕ) → has (front_at p me) e ≡ true → has (elements_in p.iw p.pe p.e_len i) e ≡ false
   pub other : has (elements_in p.iw p.pe p.e_len i) me ≡ false
 
+-- the workspace p once the classes of a front are counted as they are in v: lists start as in `left`, and `links` stand
+-- behind the lists by bound
+abbrev pub once_counted : Workspace → Workspace → List ℤ → List ℕ → Workspace
+once_counted p v left links = record p { pe = left; w = v.w; head = v.head; next = v.next; last = links }
+
 -- the counters are those of the rows outside the front; lists start as in `left` once elements ended; from there, with
 -- `links` behind the lists by bound, the classes of the front were renewed or ended
 pub record TurnsFront (aggressive : Bool) (n me : ℕ) (p v : Workspace) (gone : ℕ) : Type 0 where
@@ -28,5 +33,4 @@ pub record TurnsFront (aggressive : Bool) (n me : ℕ) (p v : Workspace) (gone :
   pub links : List ℕ
   pub counted : CountsFront aggressive (front_at p me) p v.w
   pub ended : EndsCounted aggressive me (front_at p me) p left
-  pub renewed : RenewsFront n me (is_kept v.w) (is_outside p.nv) (λ e. num v.w e - p.flag) (front_at p me) p.free p.iw left
-      p.e_len p.nv p.len p.degree links v.iw v.pe v.e_len v.nv v.len v.degree v.last gone
+  pub renewed : RenewsFront n me (front_at p me) (once_counted p v left links) v gone

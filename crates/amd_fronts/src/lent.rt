@@ -1,7 +1,7 @@
 // Words and cells that are read where their slices are lent for writing: a slice in a field of `Work` cannot be lent
 // again for reading from there.
 
-ghost use Rattle.std.specs.Prelude.{◌<◌, ◌≡◌, length, true};
+ghost use Rattle.std.specs.Prelude.{◌<◌, ◌≡◌, ◌≤◌, length, true};
 ghost use Rattle.amd_words.specs.Words.{is_place, num, place, start, word};
 
 use amd_words::words::named;
@@ -26,6 +26,7 @@ pub fn list_lent<P: Signed, U: Unsigned>(
     requires inside { (me < length pe.old) × (me < length len.old) }
     requires place { is_place (word pe.old me) ≡ true }
     ensures list { (result.0 ≡ start pe.old me) × (result.1 ≡ num len.old me) }
+    ensures small { result.1 ≤ U.MOST }
     ensures same { (pe.new ≡ pe.old) × (len.new ≡ len.old) }
 {
     (named(pe, me), cell_at(len, me))

@@ -1,8 +1,7 @@
 -- The goals of turning::turn.
-use Rattle.std.proofs.Common.{refl, arith, ◌+◌}
-use Rattle.amd_words.specs.Sides.{lasts}
+use Rattle.std.proofs.Common.{arith, ◌+◌, ◌∙◌}
 use Rattle.amd_words.specs.Words.{start}
-use Rattle.amd_lists.specs.Workspaces.{Workspace, workspace_of}
+use Rattle.amd_lists.specs.Workspaces.{workspace_of}
 use Rattle.amd_fronts.proofs.FrontTurns.{turn_listed, renewable_left, turns_front}
 use Rattle.amd_fronts.proofs.turning.turn.Goals as goal
 
@@ -27,25 +26,14 @@ count_outside-requires g c =
       part = r.part;
     }
 
-pub renew_lent-requires : goal.renew_lent-requires
-renew_lent-requires g c =
+pub renew_all-requires : goal.renew_all-requires
+renew_all-requires g c =
     renewable_left c.args.aggressive c.requires (workspace_of c.count_outside.new.work) c.count_outside.ensures.counts
 
 pub returns : goal.returns
 returns g c =
-    let m = workspace_of c.count_outside.new.work in let v = c.renew_lent.new in let out = c.count_outside.ensures.counts in
-    let told = c.renew_lent.ensures.renews in
-    let now : Workspace = record m {
-      iw = v.iw;
-      pe = v.pe;
-      e_len = v.e_len;
-      nv = v.nv;
-      len = v.len;
-      degree = v.degree;
-      last = lasts v.sides;
-    } in
-    record {
-      turns = rw (c.renew_lent.ensures.same, told.links)
-          (turns_front c.args.aggressive c.requires m now out c.renew_lent.result told.renews refl);
-      loans = c.count_outside.ensures.loans;
+    let l = c.count_outside.ensures.loans in let m = c.renew_all.ensures.loans in record {
+      turns = turns_front c.args.aggressive c.requires (workspace_of c.count_outside.new.work) c.count_outside.ensures.counts
+          (workspace_of c.renew_all.new.work) c.renew_all.result c.renew_all.ensures.renews;
+      loans = (m.0 ∙ l.0, m.1 ∙ l.1, m.2 ∙ l.2, m.3 ∙ l.3, m.4 ∙ l.4, m.5 ∙ l.5, m.6 ∙ l.6, m.7 ∙ l.7, m.8 ∙ l.8, m.9 ∙ l.9);
     }
