@@ -81,7 +81,8 @@ module _ (n me : ℕ) (kept is_apart : ℕ → Bool) (p : Workspace) (y : Layout
         RenewsAll n me kept is_apart (xs ++ i ∷ []) p v2
     all_more {v2} g =
         let else_one : (j : ℕ) → has xs j ≡ true → j ≡ i → ⊥ = λ j k q. clash {P = ⊥} k (ap (has xs) q ∙ fresh) in
-        let reads : (j : ℕ) → (j ≡ i → ⊥) → has_list p.pe p.len j ≡ true → ReadsSame v1.iw p.pe v1.e_len v1.len v2.iw p.pe v2.e_len v2.len j =
+        let reads : (j : ℕ) → (j ≡ i → ⊥) → has_list p.pe p.len j ≡ true → ReadsSame v1.iw p.pe v1.e_len v1.len v2.iw p.pe v2.e_len
+        v2.len j =
         λ j ne k. one_reads h.laid listed1 g j ne (h.listed j ∙ k) in
         let listed2 : (j : ℕ) → has_list p.pe v2.len j ≡ has_list p.pe p.len j = λ j. one_listed h.laid listed1 g j ∙ h.listed j in
         let shorter2 : (j : ℕ) → num v2.len j ≤ num p.len j = λ j. let a = one_shorter h.laid listed1 g j in let b = h.shorter j in

@@ -152,7 +152,8 @@ front_none n me p y = record {
 }
 
 module _ {n me : ℕ} {p : Workspace} (y : Layout n p.iw p.pe p.e_len p.len p.free)
-    (starts : is_place (word p.pe me) ≡ true) (apart : has (list_in p.iw p.pe p.len me) me ≡ false) (once : Once (list_in p.iw p.pe p.len me))
+    (starts : is_place (word p.pe me) ≡ true)
+    (apart : has (list_in p.iw p.pe p.len me) me ≡ false) (once : Once (list_in p.iw p.pe p.len me))
     (can : (i : ℕ) → has (list_in p.iw p.pe p.len me) i ≡ true → IsRenewable (is_kept p.w) (is_outside p.nv) p.iw p.pe p.e_len p.len i)
     (marked : (i : ℕ) → has (list_in p.iw p.pe p.len me) i ≡ true → in_front p.nv i ≡ true)
     {v1 : Workspace} {gone : ℕ} (k : ℕ) (l : k < num p.len me)
@@ -190,8 +191,8 @@ module _ {n me : ℕ} {p : Workspace} (y : Layout n p.iw p.pe p.e_len p.len p.fr
   row_same = h.rows i ∙ cond-false (has front i) (cond (over i) (pos 0) (word p.nv i)) (word p.nv i) fresh
 
   own_elements : elements_in v1.iw v1.pe v1.e_len i ≡ elements_in p.iw p.pe p.e_len i
-  own_elements = ap (λ z. rows v1.iw (place z) (place (word v1.e_len i))) start_same ∙ ap (λ z. rows v1.iw (start p.pe i) (place z)) list_same
-      ∙ turn_elements y starts apart once k l h.renewed can i is
+  own_elements = ap (λ z. rows v1.iw (place z) (place (word v1.e_len i))) start_same
+      ∙ ap (λ z. rows v1.iw (start p.pe i) (place z)) list_same ∙ turn_elements y starts apart once k l h.renewed can i is
 
   own_variables : variables_in v1.iw v1.pe v1.e_len v1.len i ≡ variables_in p.iw p.pe p.e_len p.len i
   own_variables = ap (λ z. rows v1.iw (place z + place (word v1.e_len i)) (num v1.len i - place (word v1.e_len i))) start_same
@@ -206,7 +207,8 @@ module _ {n me : ℕ} {p : Workspace} (y : Layout n p.iw p.pe p.e_len p.len p.fr
       | inr f ↦ inl (h.rows j ∙ cond-true (has front j) (cond (over j) (pos 0) (word p.nv j)) (word p.nv j) t
           ∙ cond-false (over j) (pos 0) (word p.nv j) f)
       | inl d ↦ inr (
-        h.rows j ∙ cond-true (has front j) (cond (over j) (pos 0) (word p.nv j)) (word p.nv j) t ∙ cond-true (over j) (pos 0) (word p.nv j) d,
+        h.rows j ∙ cond-true (has front j) (cond (over j) (pos 0) (word p.nv j)) (word p.nv j) t
+            ∙ cond-true (over j) (pos 0) (word p.nv j) d,
         marked j (rows_part p.iw (start p.pe me) k (num p.len me) j (omega (arith, l)) t),
       )
     ]
@@ -237,15 +239,15 @@ module _ {n me : ℕ} {p : Workspace} (y : Layout n p.iw p.pe p.e_len p.len p.fr
   over_same = ap (λ xs. is_empty xs && is_empty (near_in (is_outside v1.nv) v1.iw v1.pe v1.e_len v1.len i)) kept_same
       ∙ ap (λ xs. is_empty (kept_in kept p.iw p.pe p.e_len i) && is_empty xs) near_same
 
-  reached_same : reached beyond (size_of v1.nv) kept (is_outside v1.nv) v1.iw v1.pe v1.e_len v1.len i ≡ reached beyond (size_of p.nv) kept
-      (is_outside p.nv) p.iw p.pe p.e_len p.len i
-  reached_same = ap (λ xs. cut (sum_by beyond xs + sum_by (size_of v1.nv) (near_in (is_outside v1.nv) v1.iw v1.pe v1.e_len v1.len i))) kept_same
+  reached_same : reached beyond (size_of v1.nv) kept (is_outside v1.nv) v1.iw v1.pe v1.e_len v1.len i ≡ reach_of p i
+  reached_same = ap (λ xs. cut (sum_by beyond xs + sum_by (size_of v1.nv) (near_in (is_outside v1.nv) v1.iw v1.pe v1.e_len v1.len i)))
+      kept_same
       ∙ ap (λ xs. cut (sum_by beyond (kept_in kept p.iw p.pe p.e_len i) + sum_by (size_of v1.nv) xs)) near_same
       ∙ ap (λ m. cut (sum_by beyond (kept_in kept p.iw p.pe p.e_len i) + m)) (sum_named (size_of v1.nv) (size_of p.nv)
       (near_in (is_outside p.nv) p.iw p.pe p.e_len p.len i) (λ x m. size_same x (filter_gives (is_outside p.nv)
       (variables_in p.iw p.pe p.e_len p.len i) x m).1))
 
-  bucket_same : bucket_at n kept (is_outside v1.nv) v1.iw v1.pe v1.e_len v1.len i ≡ bucket_at n kept (is_outside p.nv) p.iw p.pe p.e_len p.len i
+  bucket_same : bucket_at n kept (is_outside v1.nv) v1.iw v1.pe v1.e_len v1.len i ≡ key_in n p i
   bucket_same = ap (λ xs. key_of n (xs ++ near_in (is_outside v1.nv) v1.iw v1.pe v1.e_len v1.len i)) kept_same
       ∙ ap (λ xs. key_of n (kept_in kept p.iw p.pe p.e_len i ++ xs)) near_same
 
@@ -292,13 +294,15 @@ module _ {n me : ℕ} {p : Workspace} (y : Layout n p.iw p.pe p.e_len p.len p.fr
   next_part = let e : num p.len me ≡ (k + 1) + (num p.len me - (k + 1)) = omega (arith, l) in
       let a = ap (λ m. sum_by (size_of p.nv) (rows p.iw (start p.pe me) m)) e in
       let b = ap (sum_by (size_of p.nv)) (rows_both p.iw (start p.pe me) (k + 1) (num p.len me - (k + 1))) in
-      let c = sum_by-append (size_of p.nv) (rows p.iw (start p.pe me) (k + 1)) (rows p.iw (start p.pe me + (k + 1)) (num p.len me - (k + 1))) in
+      let c = sum_by-append (size_of p.nv) (rows p.iw (start p.pe me) (k + 1))
+      (rows p.iw (start p.pe me + (k + 1)) (num p.len me - (k + 1))) in
       let d = sum_part (size_of p.nv) over (rows p.iw (start p.pe me) (k + 1)) in omega (arith, a, b, c, d)
 
   -- ---- and the state behind it
 
   module _ {v2 : Workspace} {more : ℕ} (g : RenewsOrEnds n me i (renewed_in p v1) v2 more)
-      (e_wide : length p.e_len ≡ n) (long : (length v2.pe ≡ length v1.pe) × (length v2.e_len ≡ length v1.e_len) × (length v2.nv ≡ length v1.nv)
+      (e_wide : length p.e_len ≡ n)
+      (long : (length v2.pe ≡ length v1.pe) × (length v2.e_len ≡ length v1.e_len) × (length v2.nv ≡ length v1.nv)
       × (length v2.degree ≡ length v1.degree) × (length v2.last ≡ length v1.last)) where
     more_is : more ≡ cond (over i) (size_of p.nv i) 0
     more_is = g.gone_is ∙ ap (λ b. cond b (size_of v1.nv i) 0) over_same ∙ ap (λ z. cond (over i) (rows_in z) 0) row_same
@@ -348,7 +352,8 @@ module _ {n me : ℕ} {p : Workspace} (y : Layout n p.iw p.pe p.e_len p.len p.fr
       counts = counts2;
       renewed = turn_more y starts apart once k l h.renewed can i is renewed_one;
       lengths = (long.0 ∙ f.0, long.1 ∙ f.1, long.2 ∙ f.2, long.3 ∙ f.3, long.4 ∙ f.4);
-      starts = each_next p.iw (start p.pe me) k (word p.pe) (word v1.pe) (λ x. cond (over x) (flip_of me) (word p.pe x)) h.starts i row fresh
+      starts = each_next p.iw (start p.pe me) k (word p.pe) (word v1.pe) (λ x. cond (over x) (flip_of me) (word p.pe x))
+          h.starts i row fresh
           (word v2.pe)
           (λ e. g.start_is ∙ ap (λ b. cond b (flip_of me) (word v1.pe i)) over_same ∙ ap (cond (over i) (flip_of me)) e) g.starts;
       lists = λ x. elim (cases_eq x i) [
@@ -360,26 +365,26 @@ module _ {n me : ℕ} {p : Workspace} (y : Layout n p.iw p.pe p.e_len p.len p.fr
             ∙ ap (cond (has (rows p.iw (start p.pe me) (k + 1)) x && over x) (negsuc 0))
             (sym (get_or-set_other h.counts i x (word g.counts i) (pos 0) ne))
       ];
-      rows = each_next p.iw (start p.pe me) k (word p.nv) (word v1.nv) (λ x. cond (over x) (pos 0) (word p.nv x)) h.rows i row fresh (word v2.nv)
+      rows = each_next p.iw (start p.pe me) k (word p.nv) (word v1.nv) (λ x. cond (over x) (pos 0) (word p.nv x))
+          h.rows i row fresh (word v2.nv)
           (λ e. g.row_is ∙ ap (λ b. cond b (pos 0) (word v1.nv i)) over_same ∙ ap (cond (over i) (pos 0)) e) g.rows;
       bounds = each_next p.iw (start p.pe me) k (num p.degree) (num v1.degree) (λ x. cond (over x) (num p.degree x)
-          (min (num p.degree x) (reached beyond (size_of p.nv) kept (is_outside p.nv) p.iw p.pe p.e_len p.len x))) h.bounds i row fresh (num v2.degree)
+          (min (num p.degree x) (reach_of p x))) h.bounds i row fresh (num v2.degree)
           (λ e. g.bound_is ∙ ap (λ b. cond b (num v1.degree i) (min (num v1.degree i) (reached beyond (size_of v1.nv) kept
           (is_outside v1.nv) v1.iw v1.pe v1.e_len v1.len i))) over_same
           ∙ ap (λ m. cond (over i) (num v1.degree i) (min (num v1.degree i) m)) reached_same
-          ∙ ap (λ m. cond (over i) m (min m (reached beyond (size_of p.nv) kept (is_outside p.nv) p.iw p.pe p.e_len p.len i))) e) g.bounds;
-      keys = each_next p.iw (start p.pe me) k (num p.last) (num v1.last) (λ x. cond (over x) (num p.last x) (bucket_at n kept
-          (is_outside p.nv) p.iw p.pe p.e_len p.len x))
+          ∙ ap (λ m. cond (over i) m (min m (reach_of p i))) e) g.bounds;
+      keys = each_next p.iw (start p.pe me) k (num p.last) (num v1.last) (λ x. cond (over x) (num p.last x) (key_in n p x))
           h.keys i row fresh (num v2.last)
           (λ e. g.key_is ∙ ap (λ b. cond b (num v1.last i) (bucket_at n kept (is_outside v1.nv) v1.iw v1.pe v1.e_len v1.len i)) over_same
-          ∙ ap (cond (over i) (num v1.last i)) bucket_same ∙ ap (λ m. cond (over i) m (bucket_at n kept
-          (is_outside p.nv) p.iw p.pe p.e_len p.len i)) e) g.keys;
+          ∙ ap (cond (over i) (num v1.last i)) bucket_same ∙ ap (λ m. cond (over i) m (key_in n p i)) e) g.keys;
       gone_is = let a = h.gone_is in let b = gone_next in let d = more_is in omega (arith, a, b, d);
     }
       where
         next_other : (x : ℕ) → (x ≡ i → ⊥) → has (rows p.iw (start p.pe me) (k + 1)) x ≡ has front x
         next_other x ne = rows_next p.iw (start p.pe me) k x
-            ∙ ap (λ b. has front x || b) (ne_eqb (place (word p.iw (start p.pe me + k))) x (λ e. ne (sym e ∙ sym row))) ∙ or-false (has front x)
+            ∙ ap (λ b. has front x || b) (ne_eqb (place (word p.iw (start p.pe me + k))) x (λ e. ne (sym e ∙ sym row)))
+            ∙ or-false (has front x)
 
 -- ---- the loop over the words of the new element
 

@@ -158,8 +158,8 @@ fn keep_part<W: Writing, S: Signed>(
     requires span { IsSpan (length nv.now) iw.old part.from part.count }
     requires down { part.to ≤ part.from }
     requires narrow { narrow ≡ true → IsExact S.MOST part.count × (first + 4294967295 * part.count < 2 ^ 64) }
-    ensures { KeepsVariables nv.now first sum (span iw.old part.from part.count) part.to (sifted iw.new result.0 result.1)
-        result.2 }
+    ensures { KeepsVariables nv.now first sum (span iw.old part.from part.count) part.to
+        (sifted iw.new result.0 result.1) result.2 }
 {
     let mut end = part.to;
     let mut outside = first;

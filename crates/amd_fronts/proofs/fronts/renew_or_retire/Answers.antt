@@ -70,7 +70,8 @@ returns-then-count-eq1 g c =
 
 pub lower_bound-requires : goal.lower_bound-requires
 lower_bound-requires g c = let r = c.requires.class in record {
-  inside = lt_of_lt_of_le r.placed.row (le_of_eq (sym (ap (λ x. length x.degree) c.renew_class-count.ensures.renews.same ∙ r.more_lengths.0)));
+  inside = lt_of_lt_of_le r.placed.row
+      (le_of_eq (sym (ap (λ x. length x.degree) c.renew_class-count.ensures.renews.same ∙ r.more_lengths.0)));
 }
 
 pub put_last-requires-clause-inside : goal.put_last-requires-clause-inside
