@@ -58,7 +58,8 @@ returns g c =
     let same = c.list_lent-from.ensures.same in let kept = c.renew_lent-few.ensures.same in let few = c.renew_lent-few.result.0 in
     let count = c.renew_lent-few.result.1 in let row = c.requires.placed.row in let l = c.requires.lengths in
     let told : RenewsList p.flag c.args.me p.w p.nv (list_of p p i) (row_list c.renew_lent-few.new.iw (start p.pe i) few count)
-    c.renew_lent-few.result.2 c.renew_lent-few.result.3 = rw (at.0, at.1, c.named_lent-n_elements.ensures.is) at c.renew_lent-few.ensures.list
+    c.renew_lent-few.result.2 c.renew_lent-few.result.3
+    = rw (at.0, at.1, c.named_lent-n_elements.ensures.is) at c.renew_lent-few.ensures.list
     in
     let e_len = c.put_row.ensures ∙ ap (λ xs. set xs i (pos few)) c.named_lent-n_elements.ensures.same in
     let len = c.put_cell.ensures ∙ ap (λ xs. set xs i count) same.1 in

@@ -54,29 +54,31 @@ module _ {n most_cell flag : ℕ} {p : Workspace} {w : List ℕ} (s : IsSized n 
   }
 
   turned_now : Turns aggressive me counting now gone → TurnsOver aggressive n me gone most_cell p now
-  turned_now told = let long : length w ≡ n = renewed.long ∙ s.w in let a = told.lengths in let b = told.more_lengths in let r = told.turns.renewed in let l = r.lengths in record {
-    first = w;
-    renewed = renewed.renewed;
-    zeros = renewed.zeros;
-    under = renewed.under;
-    two = renewed.two;
-    room = (let r = renewed.room in let q = s.w in omega (arith, r, q));
-    turns = subst (λ n. TurnsFront aggressive n me counting now gone) long told.turns;
-    linked = subst (λ n. LeavesLists n (front_at p me) counting now) long told.linked;
-    sized = record {
-      pe = b.0 ∙ long;
-      e_len = l.1 ∙ s.e_len;
-      nv = l.2 ∙ s.nv;
-      len = r.renewed.l_long ∙ s.len;
-      degree = l.3 ∙ s.degree;
-      w = a.0 ∙ long;
-      head = a.1 ∙ s.head;
-      next = a.2 ∙ s.next;
-      last = b.1 ∙ long;
-      hash = s.hash;
-    };
-    same = refl;
-  }
+  turned_now told =
+      let long : length w ≡ n = renewed.long ∙ s.w in let a = told.lengths in let b = told.more_lengths in
+      let r = told.turns.renewed in let l = r.lengths in record {
+        first = w;
+        renewed = renewed.renewed;
+        zeros = renewed.zeros;
+        under = renewed.under;
+        two = renewed.two;
+        room = (let r = renewed.room in let q = s.w in omega (arith, r, q));
+        turns = subst (λ n. TurnsFront aggressive n me counting now gone) long told.turns;
+        linked = subst (λ n. LeavesLists n (front_at p me) counting now) long told.linked;
+        sized = record {
+          pe = b.0 ∙ long;
+          e_len = l.1 ∙ s.e_len;
+          nv = l.2 ∙ s.nv;
+          len = r.renewed.l_long ∙ s.len;
+          degree = l.3 ∙ s.degree;
+          w = a.0 ∙ long;
+          head = a.1 ∙ s.head;
+          next = a.2 ∙ s.next;
+          last = b.1 ∙ long;
+          hash = s.hash;
+        };
+        same = refl;
+      }
 
   turned_over : Turns aggressive me counting v gone → TurnsOver aggressive n me gone most_cell p v
   turned_over told = subst (TurnsOver aggressive n me gone most_cell p) (sym told.same)
