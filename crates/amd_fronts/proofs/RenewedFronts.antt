@@ -1,6 +1,6 @@
 -- The classes of a front are renewed one after another, each in the place of its list: all other lists read as before.
 use Rattle.amd_model.proofs.Counting.Below.{clash}
-use Rattle.std.proofs.Common.{ℕ, ℤ, Bool, true, false, List, [], ◌∷◌, ◌++◌, ◌≡◌, ◌<◌, ◌≤◌, ◌+◌, ◌||◌, ◌⊎◌, inl, inr, refl, sym, subst}
+use Rattle.std.proofs.Common.{ℕ, Bool, true, false, List, [], ◌∷◌, ◌++◌, ◌≡◌, ◌<◌, ◌≤◌, ◌+◌, ◌||◌, ◌⊎◌, inl, inr, refl, sym, subst}
 use Rattle.std.proofs.Common.{ap, ◌∙◌, arith, length, filter, pos, set, length-set, get_or-set_same, get_or-set_other}
 use Rattle.std.specs.Prelude.{◌==◌}
 use Rattle.std.proofs.lemmas.Bool.{true≢false, eq-eqb, eqb-true, or_left, or_cases, or_parts, false_from_ne_true}

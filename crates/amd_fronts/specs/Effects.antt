@@ -1,9 +1,8 @@
 -- What the parts of turning a front over to its element leave behind, each between what it found and what it left.
-use Rattle.std.specs.Prelude.{ℕ, ℤ, pos, negsuc, Bool, true, List, ◌≡◌, ◌<◌, ◌≤◌, ◌+◌, ◌-◌, ◌==◌, ◌&&◌, ◌++◌, cond}
+use Rattle.std.specs.Prelude.{ℕ, ℤ, pos, negsuc, Bool, true, List, ◌≡◌, ◌<◌, ◌≤◌, ◌+◌, ◌==◌, ◌&&◌, ◌++◌, cond}
 use Rattle.std.specs.Prelude.{length}
 use Rattle.std.specs.Prelude.{slice_set}
 use Rattle.amd_model.specs.Quotient.{has}
-use Rattle.amd_words.specs.Sides.{nexts, lasts}
 use Rattle.amd_words.specs.Words.{num, word, flip_of, size_of}
 use Rattle.amd_lists.specs.Lengths.{KeepsLinks}
 use Rattle.amd_lists.specs.Chains.{DegreeLists, without}

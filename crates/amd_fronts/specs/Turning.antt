@@ -1,5 +1,5 @@
 -- A front turned over to its new element: counters, aggressive absorption, and what is left of its classes.
-use Rattle.std.specs.Prelude.{ℕ, ℤ, Bool, true, false, List, ◌≡◌, ◌<◌, ◌-◌}
+use Rattle.std.specs.Prelude.{ℕ, ℤ, Bool, true, false, List, ◌≡◌, ◌<◌}
 use Rattle.amd_model.specs.Quotient.{has, Once}
 use Rattle.amd_words.specs.Words.{num, word, is_place, size_of, in_front}
 use Rattle.amd_lists.specs.Layout.{elements_in, has_list, LosesOne}

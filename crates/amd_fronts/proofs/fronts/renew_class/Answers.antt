@@ -1,5 +1,5 @@
 -- The goals of fronts::renew_class.
-use Rattle.std.proofs.Common.{ℕ, refl, sym, ap, ◌∙◌, ◌≡◌, arith, set, pos, get_or-set_same}
+use Rattle.std.proofs.Common.{refl, sym, ap, ◌∙◌, arith, set, pos, get_or-set_same}
 use Rattle.amd_words.specs.Words.{num, start}
 use Rattle.amd_lists.specs.Layout.{list_of}
 use Rattle.amd_lists.specs.Renewal.{CanRenew, RenewsList}

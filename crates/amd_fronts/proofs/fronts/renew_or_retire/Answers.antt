@@ -1,5 +1,5 @@
 -- The goals of fronts::renew_or_retire.
-use Rattle.std.proofs.Common.{ℕ, List, refl, sym, ap, subst, ◌∙◌, ◌≡◌, ◌%◌, arith, length, set, length-set, negsuc, pos}
+use Rattle.std.proofs.Common.{ℕ, List, sym, ap, subst, ◌∙◌, ◌%◌, arith, length, set, length-set, negsuc, pos}
 use Rattle.std.proofs.Common.{lt_of_lt_of_le, le_of_eq}
 use Rattle.std.specs.Prelude.{min}
 use Rattle.amd_words.specs.Words.{num, size_of, flip_of}
