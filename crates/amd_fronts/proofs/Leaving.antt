@@ -1,13 +1,12 @@
 -- The classes of a front leave the lists by bound, one after another.
-use Rattle.std.proofs.Common.{ℕ, ℤ, Bool, true, false, List, ◌≡◌, ◌≤◌, ◌+◌, ◌-◌, ◌||◌, ◌&&◌, not, inl}
-use Rattle.std.proofs.Common.{inr, refl, sym, subst, ap, ◌∙◌, filter, length}
+use Rattle.std.proofs.Common.{ℕ, ℤ, Bool, true, false, List, ◌≡◌, ◌+◌, ◌-◌, ◌||◌, ◌&&◌, not, inl}
+use Rattle.std.proofs.Common.{inr, refl, sym, ap, ◌∙◌, filter}
 use Rattle.std.specs.Prelude.{◌==◌}
 use Rattle.std.proofs.lemmas.Bool.{cases_eq, eq-eqb, ne_eqb, not_from_false}
-use Rattle.amd_model.specs.Quotient.{has, Once}
+use Rattle.amd_model.specs.Quotient.{has}
 use Rattle.amd_round_laws.proofs.Lists.Named.{filter_named, filter_all, filter_both}
-use Rattle.amd_words.specs.Words.{word, place, is_place, rows, Names}
+use Rattle.amd_words.specs.Words.{word, place, rows}
 use Rattle.amd_lists.specs.Chains.{without}
-use Rattle.amd_fronts.specs.Counts.{IsListed}
 use Rattle.amd_words.proofs.WordMarks.{rows_start, rows_next}
 
 -- all are left at first
@@ -32,16 +31,3 @@ one_leaves iw from k i is xs = sym (filter_both (λ j. not (has (rows iw from k)
       | inl q ↦ eq-eqb j i q ∙ sym (eq-eqb (place (word iw (from + k))) j (sym is ∙ sym q))
       | inr ne ↦ ne_eqb j i ne ∙ sym (ne_eqb (place (word iw (from + k))) j (λ q. ne (sym q ∙ sym is)))
     ]
-
--- a class of a front whose list starts where it did
-pub listed_same : (n : ℕ) (iw pe pe' e_len nv : List ℤ) (i : ℕ) → word pe' i ≡ word pe i → IsListed n iw pe e_len nv i →
-    IsListed n iw pe' e_len nv i
-listed_same n iw pe pe' e_len nv i e h = record {
-  starts = ap is_place e ∙ h.starts;
-  counts = h.counts;
-  within = subst (λ z. place z + place (word e_len i) ≤ length iw) (sym e) h.within;
-  names = subst (λ z. Names n iw (place z) (place (word e_len i))) (sym e) h.names;
-  once = subst (λ z. Once (rows iw (place z) (place (word e_len i)))) (sym e) h.once;
-  class = h.class;
-  inside = h.inside;
-}

@@ -4,4 +4,5 @@ pub mod WordReads
 pub mod Leaving
 pub mod RenewedFronts
 pub mod Retiring
+pub mod FrontCounts
 pub mod FrontTurns

@@ -1,9 +1,10 @@
 -- The rows of elements outside a front, counted in one list of numbers with a flag: 0 stands for what is no standing
 -- element, and before a count each number is below the flag.
-use Rattle.std.specs.Prelude.{ℕ, ℤ, Bool, true, List, ◌≡◌, ◌<◌, ◌≤◌, ◌+◌, ◌-◌, ◌==◌, ◌&&◌, nat_le, cond, length}
+use Rattle.std.specs.Prelude.{ℕ, Bool, true, ◌≡◌, ◌<◌, ◌≤◌, ◌+◌, ◌-◌, ◌==◌, ◌&&◌, nat_le, cond, length}
 use Rattle.amd_model.specs.Quotient.{Once}
 use Rattle.amd_words.specs.Words.{is_place, place, word, start, size_of, in_front, Names}
 use Rattle.amd_lists.specs.Layout.{elements_in}
+use Rattle.amd_lists.specs.Workspaces.{Workspace}
 
 -- the counter of an element when a class of `more` rows is met that it holds: `all` is the number of rows of its border
 abbrev pub touched : ℕ → ℕ → ℕ → ℕ → ℕ
@@ -22,11 +23,11 @@ abbrev pub settled : Bool → ℕ → ℕ → ℕ
 settled aggressive flag x = cond (ends aggressive flag x) 0 x
 
 -- a class of the front, and the part of its list that names elements
-pub record IsListed (n : ℕ) (iw pe e_len nv : List ℤ) (i : ℕ) : Type 0 where
-  pub starts : is_place (word pe i) ≡ true
-  pub counts : is_place (word e_len i) ≡ true
-  pub within : start pe i + place (word e_len i) ≤ length iw
-  pub names : Names n iw (start pe i) (place (word e_len i))
-  pub once : Once (elements_in iw pe e_len i)
-  pub class : 0 < size_of nv i
-  pub inside : in_front nv i ≡ true
+pub record IsListed (p : Workspace) (i : ℕ) : Type 0 where
+  pub starts : is_place (word p.pe i) ≡ true
+  pub counts : is_place (word p.e_len i) ≡ true
+  pub within : start p.pe i + place (word p.e_len i) ≤ length p.iw
+  pub names : Names (length p.w) p.iw (start p.pe i) (place (word p.e_len i))
+  pub once : Once (elements_in p.iw p.pe p.e_len i)
+  pub class : 0 < size_of p.nv i
+  pub inside : in_front p.nv i ≡ true

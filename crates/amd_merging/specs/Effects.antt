@@ -10,6 +10,7 @@ use Rattle.amd_lists.specs.Chains.{Linked}
 use Rattle.amd_lists.specs.Layout.{has_list, end_of, variables_in, Layout}
 use Rattle.amd_lists.specs.Lengths.{row_count}
 use Rattle.amd_lists.specs.Renewal.{Filters}
+use Rattle.amd_lists.specs.Spans.{span, sifted}
 use Rattle.amd_merging.specs.Closing.{Closes}
 use Rattle.amd_merging.specs.FrontLists.{LongToMerge, LongToPlace, MergesList, PutsAll}
 use Rattle.amd_lists.specs.Sizes.{bucket_count}
@@ -83,7 +84,7 @@ pub record PlacesClass (border left count i : ℕ) (nv : List ℤ) (degree head 
 pub record RestoresFront (border left least from count : ℕ) (iw nv : List ℤ) (degree head : List ℕ)
     (sides : List (ℕ × ℕ)) (iw' nv' : List ℤ) (degree' head' hash' : List ℕ) (sides' : List (ℕ × ℕ)) (end least' : ℕ)
     : Type 0 where
-  pub filters : Filters (row_count sides) (in_front nv) (λ j. 0) 0 iw from count from iw' end 0
+  pub filters : Filters (row_count sides) (in_front nv) (λ j. 0) 0 (span iw from count) from (sifted iw' end 0)
   pub placed : Restores (rows iw from count) border left least nv degree nv' degree' least'
   pub empty : (b : ℕ) → b < bucket_count (row_count sides) → row_count sides ≤ num hash' b
   pub linked : PutsAll (row_count sides) border left (rows iw from count) nv head (nexts sides) (lasts sides) degree
@@ -100,7 +101,7 @@ pub record ClosesElement (me from end block border : ℕ) (e_len : List ℤ) (le
   pub borders : degree' ≡ slice_set degree me border
   pub closes : (n : ℕ) (pass : ℕ → Bool) (share : ℕ → ℕ) (first sum : ℕ) (iw iw' pe : List ℤ) (free : ℕ) →
       start pe me ≡ from → is_place (word pe me) ≡ true →
-      Filters n pass share first iw from (num len me) from iw' end sum → Layout n iw pe e_len len free →
+      Filters n pass share first (span iw from (num len me)) from (sifted iw' end sum) → Layout n iw pe e_len len free →
       Closes n me pass iw pe e_len len iw' e_len' len' free
   pub lowers : (n : ℕ) (iw pe : List ℤ) (free : ℕ) → start pe me ≡ from → end_of pe len' me ≤ free →
       ((j : ℕ) → (j ≡ me → ⊥) → has_list pe len' j ≡ true → end_of pe len' j ≤ from) →

@@ -18,7 +18,7 @@ use Rattle.amd_lists.proofs.Frames.{has_parts}
 use Rattle.amd_rounds.proofs.FrontLink.{counted_left}
 use Rattle.amd_lists.specs.Workspaces.{Workspace}
 use Rattle.amd_rounds.specs.Views.{view_of, owner_of, is_flip}
-use Rattle.amd_rounds.specs.Parts.{front_at}
+use Rattle.amd_fronts.specs.Tallies.{front_at}
 use Rattle.amd_rounds.proofs.Standing as standing
 use Rattle.amd_rounds.proofs.Settled.{settled_beyond}
 use Rattle.amd_rounds.proofs.Halves.{HalfRound, front, kept_lists, count_of, ends_by, begins_here, front_placed, pivot_placed, met_begun}

@@ -18,7 +18,8 @@ use Rattle.amd_fronts.specs.Turning.{IsTurning}
 use Rattle.amd_elements.proofs.Touching.{else_me, begun_elements, begun_rows, begun_loses, begun_met, front_apart, front_once}
 use Rattle.amd_lists.specs.Workspaces.{Workspace}
 use Rattle.amd_rounds.specs.Keeps.{Stands, by_bound}
-use Rattle.amd_rounds.specs.Parts.{Picks, BeginsElement, front_at}
+use Rattle.amd_fronts.specs.Tallies.{front_at}
+use Rattle.amd_rounds.specs.Parts.{Picks, BeginsElement}
 use Rattle.amd_rounds.specs.Premises.{HasFront, CanTurn}
 use Rattle.amd_rounds.proofs.ByBound as by_bounds
 use Rattle.amd_rounds.proofs.Standing as standing
@@ -44,18 +45,17 @@ kept_zero a b h = elim (cases_eq a 0) [
 ]
 
 -- counters that are 0 for the same rows keep the same elements
-pub turning_zeros : {n me : ℕ} {front : List ℕ} {iw pe e_len nv : List ℤ} {len degree w w' : List ℕ} {i : ℕ} →
-    ((e : ℕ) → (num w' e == 0) ≡ (num w e == 0)) → IsTurning n me front iw pe e_len nv len degree w i →
-    IsTurning n me front iw pe e_len nv len degree w' i
-turning_zeros {n} {me} {front} {iw} {pe} {e_len} {nv} {len} {degree} {w} {w'} {i} zeros h = record {
+pub turning_zeros : {n me i flag : ℕ} {p : Workspace} {w : List ℕ} → ((e : ℕ) → (num w e == 0) ≡ (num p.w e == 0)) →
+    IsTurning n me p i → IsTurning n me (record p { w = w; flag = flag }) i
+turning_zeros {n} {me} {i} {flag} {p} {w} zeros h = record {
   listed = h.listed;
   counts = h.counts;
   once = h.once;
   class = h.class;
   marked = h.marked;
   bound = h.bound;
-  loses = let a = ap length (filter_named (is_kept w') (is_kept w) (elements_in iw pe e_len i)
-      (λ e k. kept_zero (num w' e) (num w e) (zeros e))) in let l = h.loses in omega (arith, a, l);
+  loses = let a = ap length (filter_named (is_kept w) (is_kept p.w) (elements_in p.iw p.pe p.e_len i)
+      (λ e k. kept_zero (num w e) (num p.w e) (zeros e))) in let l = h.loses in omega (arith, a, l);
   apart = h.apart;
   other = h.other;
 }
@@ -127,7 +127,7 @@ module _ (g : Graph) (dense : ℕ → Bool) (nzaat : ℕ) (p : Workspace) (t : Q
     apart = ap (λ l. has l c) front_is ∙ apart;
   }
 
-  front_turning : (i : ℕ) → has front i ≡ true → IsTurning g.size c front p2.iw p2.pe p2.e_len p2.nv p2.len p2.degree p2.w i
+  front_turning : (i : ℕ) → has front i ≡ true → IsTurning g.size c p2 i
   front_turning i h =
       let k = front_placed i h in let o = touched i h in
       let ne = else_me p.w p2.w st.laid.laid begins_front counters_are apart touched i h in record {
@@ -139,7 +139,8 @@ module _ (g : Graph) (dense : ℕ → Bool) (nzaat : ℕ) (p : Workspace) (t : Q
         bound = let a = standing.bound_small g dense nzaat p t s st i k in let b : num p.degree i ≡ t.bound i = st.view.keeps.bound i k in
             let d = ap (λ l. num l i) bounds_stay in omega (arith, a, b, d);
         loses = begun_loses p.w p2.w st.laid.laid begins_front counters_are apart touched i h;
-        apart = λ e f. ap (λ l. has l e) (elements_stay i h) ∙ standing.element_apart g dense nzaat p t s st i e k (front_placed e f);
+        apart = λ e f. ap (λ l. has l e) (elements_stay i h) ∙ standing.element_apart g dense nzaat p t s st i e k
+            (front_placed e (sym (ap (λ l. has l e) front_is) ∙ f));
         other = ap (λ l. has l c) (elements_stay i h) ∙ standing.element_apart g dense nzaat p t s st i c k pivot_placed;
       }
 
@@ -153,8 +154,7 @@ module _ (g : Graph) (dense : ℕ → Bool) (nzaat : ℕ) (p : Workspace) (t : Q
   pub can_turn : CanTurn g.size c p2
   can_turn = record {
     front = has_front;
-    classes = λ i h. subst (λ l. IsTurning g.size c l p2.iw p2.pe p2.e_len p2.nv p2.len p2.degree p2.w i) (sym front_is)
-        (front_turning i (sym (ap (λ l. has l i) front_is) ∙ h));
+    classes = λ i h. front_turning i (sym (ap (λ l. has l i) front_is) ∙ h);
     few = let a = ap (sum_by (size_of p2.nv)) front_is in let b = sum_named (size_of p2.nv) (size_of p.nv) front rows_stay in
         let l = standing.front_few g dense nzaat p t s st c pivot_placed in omega (arith, a, b, l);
     two = let a = st.laid.two in let f = flag_stays in omega (arith, a, f);

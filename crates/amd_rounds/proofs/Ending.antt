@@ -18,7 +18,8 @@ use Rattle.amd_merging.specs.Restoring.{marked_in, IsPlaceable}
 use Rattle.amd_lists.proofs.Frames.{has_parts, has_from, dropped}
 use Rattle.amd_lists.specs.Workspaces.{Workspace}
 use Rattle.amd_rounds.specs.Keeps.{by_bound}
-use Rattle.amd_rounds.specs.Parts.{LinksByBound, MergesFront, front_at}
+use Rattle.amd_fronts.specs.Tallies.{front_at}
+use Rattle.amd_rounds.specs.Parts.{LinksByBound, MergesFront}
 use Rattle.amd_rounds.specs.Premises.{HasFront, CanEnd}
 use Rattle.amd_rounds.proofs.ByBound.{bound_names}
 use Rattle.amd_rounds.proofs.Renewed.{recounted}

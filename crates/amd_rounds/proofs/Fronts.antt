@@ -13,7 +13,7 @@ use Rattle.amd_elements.proofs.MakingRoom.{once_few}
 use Rattle.amd_words.proofs.RowLists.{rows_length}
 use Rattle.amd_elements.proofs.Settling.{names_below}
 use Rattle.amd_lists.specs.Workspaces.{Workspace}
-use Rattle.amd_rounds.specs.Parts.{front_at}
+use Rattle.amd_fronts.specs.Tallies.{front_at}
 use Rattle.amd_rounds.specs.Premises.{HasFront}
 
 module _ {n me : ℕ} {p : Workspace} (h : HasFront n me p) where

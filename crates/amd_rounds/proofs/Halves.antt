@@ -15,12 +15,13 @@ use Rattle.amd_elements.specs.Beginning.{Begins}
 use Rattle.amd_elements.specs.Making.{IsTouched}
 use Rattle.amd_lists.specs.Renewal.{is_kept, is_outside}
 use Rattle.amd_fronts.specs.Fronts.{is_done, kept_in, near_in}
-use Rattle.amd_fronts.specs.Turning.{IsTurning}
+use Rattle.amd_fronts.specs.TurningLists.{AreTurning}
 use Rattle.amd_fronts.proofs.FrontTurns.{left_me, left_front}
 use Rattle.amd_elements.proofs.Touching.{front_apart, begun_elements, begun_variables, begun_rows, begun_met}
 use Rattle.amd_lists.specs.Workspaces.{Workspace}
 use Rattle.amd_rounds.specs.Keeps.{Stands, by_bound}
-use Rattle.amd_rounds.specs.Parts.{Picks, BeginsElement, TurnsOver, front_at}
+use Rattle.amd_fronts.specs.Tallies.{front_at}
+use Rattle.amd_rounds.specs.Parts.{Picks, BeginsElement, TurnsOver}
 use Rattle.amd_rounds.specs.Premises.{CanTurn}
 use Rattle.amd_rounds.proofs.ByBound as by_bounds
 use Rattle.amd_rounds.proofs.Standing as standing
@@ -172,13 +173,17 @@ module _ {g : Graph} {dense : ℕ → Bool} {nzaat : ℕ} {aggressive : Bool} {p
   pub left_is : (e : ℕ) → word r.turns.turns.left e ≡ cond (ends_by e) (flip_of r.c) (word r.p2.pe e)
   left_is e = r.turns.turns.ended e ∙ ap (λ m. cond (ends aggressive r.p3.flag m) (flip_of r.c) (word r.p2.pe e)) (count_same e)
 
-  turning : (i : ℕ) → has (front_at r.p2 r.c) i ≡ true →
-      IsTurning g.size r.c (front_at r.p2 r.c) r.p2.iw r.p2.pe r.p2.e_len r.p2.nv r.p2.len r.p2.degree r.turns.first i
+  -- the workspace as the count reads it
+  abbrev counting : Workspace
+  counting = record r.p2 { w = r.turns.first; flag = r.p3.flag }
+
+  turning : AreTurning g.size r.c counting
   turning i h = begun.turning_zeros r.turns.zeros (can_turn.classes i h)
 
   pub left_pivot : word r.turns.turns.left r.c ≡ word r.p2.pe r.c
-  left_pivot = left_me aggressive r.p3.flag can_turn.front.laid r.turns.two r.turns.under turning r.turns.turns.left r.turns.turns.ended
+  left_pivot = left_me {p = counting} aggressive can_turn.front.laid r.turns.two r.turns.under turning r.turns.turns.left
+      r.turns.turns.ended
 
   pub left_class : (i : ℕ) → has front i ≡ true → word r.turns.turns.left i ≡ word r.p2.pe i
-  left_class i h = left_front aggressive r.p3.flag can_turn.front.laid r.turns.two r.turns.under turning r.turns.turns.left
+  left_class i h = left_front {p = counting} aggressive can_turn.front.laid r.turns.two r.turns.under turning r.turns.turns.left
       r.turns.turns.ended i (ap (λ l. has l i) front_begun ∙ h)

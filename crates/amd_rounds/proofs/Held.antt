@@ -18,7 +18,8 @@ use Rattle.amd_lists.specs.Layout.{has_list, elements_in}
 use Rattle.amd_lists.proofs.Frames.{has_parts}
 use Rattle.amd_lists.specs.Workspaces.{Workspace}
 use Rattle.amd_rounds.specs.Views.{view_of}
-use Rattle.amd_rounds.specs.Parts.{MergesFront, EndsFront, front_at}
+use Rattle.amd_fronts.specs.Tallies.{front_at}
+use Rattle.amd_rounds.specs.Parts.{MergesFront, EndsFront}
 use Rattle.amd_rounds.proofs.Standing as standing
 use Rattle.amd_rounds.proofs.Halves.{HalfRound, kept_lists, ends_by}
 use Rattle.amd_rounds.proofs.Absorbed.{absorbed, taken_ends}

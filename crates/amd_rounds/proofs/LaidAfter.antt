@@ -12,7 +12,8 @@ use Rattle.amd_merging.specs.Restoring.{bound_in}
 use Rattle.amd_lists.specs.Workspaces.{Workspace}
 use Rattle.amd_rounds.specs.Laid.{IsLaid}
 use Rattle.amd_rounds.specs.Keeps.{is_packed}
-use Rattle.amd_rounds.specs.Parts.{MergesFront, EndsFront, front_at}
+use Rattle.amd_fronts.specs.Tallies.{front_at}
+use Rattle.amd_rounds.specs.Parts.{MergesFront, EndsFront}
 use Rattle.amd_rounds.proofs.Halves.{HalfRound, front}
 use Rattle.amd_rounds.proofs.Mergeable.{can_merge}
 use Rattle.amd_rounds.proofs.Relaid as relaid

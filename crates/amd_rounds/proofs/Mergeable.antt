@@ -23,7 +23,7 @@ use Rattle.amd_lists.proofs.Frames.{dropped}
 use Rattle.amd_merging.proofs.MergeLink.{is_renewed, key_turned}
 use Rattle.amd_lists.specs.Workspaces.{Workspace}
 use Rattle.amd_rounds.specs.Views.{view_of}
-use Rattle.amd_rounds.specs.Parts.{front_at}
+use Rattle.amd_fronts.specs.Tallies.{front_at}
 use Rattle.amd_rounds.specs.Premises.{HasFront, CanMerge}
 use Rattle.amd_rounds.proofs.Standing as standing
 use Rattle.amd_rounds.proofs.Renewed.{recounted}

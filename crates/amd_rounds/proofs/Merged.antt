@@ -20,7 +20,8 @@ use Rattle.amd_merging.specs.Restoring.{marked_in}
 use Rattle.amd_merging.proofs.MergeLink.{last_same}
 use Rattle.amd_merging.proofs.MergeEnds.{made_gives, class_gives}
 use Rattle.amd_lists.specs.Workspaces.{Workspace}
-use Rattle.amd_rounds.specs.Parts.{MergesFront, front_at}
+use Rattle.amd_fronts.specs.Tallies.{front_at}
+use Rattle.amd_rounds.specs.Parts.{MergesFront}
 use Rattle.amd_rounds.proofs.Halves.{HalfRound, front, kept_lists, front_other}
 use Rattle.amd_rounds.proofs.Turned.{front_after, kept_after}
 use Rattle.amd_rounds.proofs.Mergeable.{can_merge}

@@ -17,7 +17,8 @@ use Rattle.amd_lists.specs.Layout.{has_list, end_of, elements_in, variables_in, 
 use Rattle.amd_fronts.proofs.Counting.{ends_none}
 use Rattle.amd_lists.proofs.Frames.{has_same, reads_elements, reads_variables}
 use Rattle.amd_lists.specs.Workspaces.{Workspace}
-use Rattle.amd_rounds.specs.Parts.{MergesFront, EndsFront, front_at}
+use Rattle.amd_fronts.specs.Tallies.{front_at}
+use Rattle.amd_rounds.specs.Parts.{MergesFront, EndsFront}
 use Rattle.amd_rounds.proofs.Standing as standing
 use Rattle.amd_rounds.proofs.Halves.{HalfRound, ends_by, begins_here, front_other, pivot_placed, left_pivot, left_class}
 use Rattle.amd_rounds.proofs.Halves.{can_turn, free_stays, counters_here, front_placed, degree_stays, most_stays}

@@ -20,7 +20,8 @@ use Rattle.amd_lists.proofs.ChainLists.{lists_same}
 use Rattle.amd_lists.specs.Workspaces.{Workspace}
 use Rattle.amd_rounds.specs.Views.{view_of}
 use Rattle.amd_rounds.specs.Keeps.{by_bound}
-use Rattle.amd_rounds.specs.Parts.{MergesFront, EndsFront, front_at}
+use Rattle.amd_fronts.specs.Tallies.{front_at}
+use Rattle.amd_rounds.specs.Parts.{MergesFront, EndsFront}
 use Rattle.amd_rounds.proofs.ByBound as by_bounds
 use Rattle.amd_rounds.proofs.Standing as standing
 use Rattle.amd_rounds.proofs.Halves.{HalfRound, chosen, bound_small, front, kept_lists, front_here, front_begun, front_other}

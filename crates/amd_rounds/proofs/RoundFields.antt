@@ -15,7 +15,8 @@ use Rattle.amd_lists.specs.Layout.{has_list, elements_in}
 use Rattle.amd_lists.proofs.Frames.{has_parts}
 use Rattle.amd_lists.specs.Workspaces.{Workspace}
 use Rattle.amd_rounds.specs.Views.{view_of, owner_of, is_flip, is_over, flipped}
-use Rattle.amd_rounds.specs.Parts.{MergesFront, EndsFront, front_at}
+use Rattle.amd_fronts.specs.Tallies.{front_at}
+use Rattle.amd_rounds.specs.Parts.{MergesFront, EndsFront}
 use Rattle.amd_rounds.proofs.Standing as standing
 use Rattle.amd_rounds.proofs.Halves.{HalfRound, front, ended_in, ends_by, begins_here, front_other, front_placed, pivot_placed, left_is}
 use Rattle.amd_rounds.proofs.Turned.{in_front, done_is, rest_parts, pivot_start, pivot_place}

@@ -26,7 +26,8 @@ use Rattle.amd_lists.proofs.Frames.{has_same, reads_elements, reads_variables, r
 use Rattle.amd_lists.specs.Workspaces.{Workspace}
 use Rattle.amd_rounds.specs.Views.{view_of, is_flip, flipped}
 use Rattle.amd_rounds.specs.Keeps.{by_bound}
-use Rattle.amd_rounds.specs.Parts.{MergesFront, EndsFront, front_at}
+use Rattle.amd_fronts.specs.Tallies.{front_at}
+use Rattle.amd_rounds.specs.Parts.{MergesFront, EndsFront}
 use Rattle.amd_rounds.proofs.Standing as standing
 use Rattle.amd_rounds.proofs.Halves.{HalfRound, front, kept_lists, ends_by, begins_here, front_here, front_placed, degree_stays}
 use Rattle.amd_rounds.proofs.Turned.{done_is, rest_is, rest_parts, elements_left, variables_left, class_front, class_start, class_listed}

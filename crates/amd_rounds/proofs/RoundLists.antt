@@ -17,7 +17,8 @@ use Rattle.amd_lists.specs.Renewal.{is_kept, is_outside}
 use Rattle.amd_fronts.specs.Fronts.{is_done}
 use Rattle.amd_lists.proofs.Frames.{has_parts, has_from, has_same, live_part}
 use Rattle.amd_lists.specs.Workspaces.{Workspace}
-use Rattle.amd_rounds.specs.Parts.{MergesFront, EndsFront, front_at}
+use Rattle.amd_fronts.specs.Tallies.{front_at}
+use Rattle.amd_rounds.specs.Parts.{MergesFront, EndsFront}
 use Rattle.amd_rounds.proofs.Begun as begun
 use Rattle.amd_rounds.proofs.Halves.{HalfRound, ends_by, begins_here, left_is, can_turn}
 use Rattle.amd_rounds.proofs.Turned.{in_front, front_after}

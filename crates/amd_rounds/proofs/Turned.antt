@@ -20,7 +20,7 @@ use Rattle.amd_words.proofs.Signs.{place_is}
 use Rattle.amd_merging.proofs.MergeLink.{kept_is, words_is}
 use Rattle.amd_words.proofs.RowLists.{rows_none}
 use Rattle.amd_lists.specs.Workspaces.{Workspace}
-use Rattle.amd_rounds.specs.Parts.{front_at}
+use Rattle.amd_fronts.specs.Tallies.{front_at}
 use Rattle.amd_rounds.proofs.Standing as standing
 use Rattle.amd_rounds.proofs.Halves.{HalfRound, front, kept_lists, ended_in, begins_here, total_here, front_placed, front_other}
 use Rattle.amd_rounds.proofs.Halves.{elements_begun, variables_begun, rows_begun, front_begun, left_pivot, left_class}

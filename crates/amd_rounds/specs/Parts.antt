@@ -1,5 +1,5 @@
 -- What the parts of a round do to a workspace, each between the workspace before and after it.
-use Rattle.std.specs.Prelude.{ℕ, Bool, true, false, List, ◌≡◌, ◌<◌, ◌≤◌, ◌+◌, ◌-◌, ◌==◌, ◌&&◌, not, cond, max, nat_lt}
+use Rattle.std.specs.Prelude.{ℕ, Bool, true, false, List, ◌≡◌, ◌<◌, ◌≤◌, ◌+◌, ◌-◌, ◌==◌, ◌&&◌, cond, max, nat_lt}
 use Rattle.std.specs.Prelude.{length, filter}
 use Rattle.std.specs.Prelude.{sum_by, slice_set}
 use Rattle.amd_model.specs.Figures.{cut, front_sum, entries, ldl_steps, lu_steps}
@@ -8,10 +8,11 @@ use Rattle.amd_words.specs.Words.{num, word, place, start, size_of, in_front, cl
 use Rattle.amd_elements.specs.Element.{front_of}
 use Rattle.amd_elements.specs.Pivots.{built_front}
 use Rattle.amd_elements.specs.Room.{Rooms}
-use Rattle.amd_lists.specs.Layout.{has_list, end_of, elements_in, list_in, Layout}
+use Rattle.amd_lists.specs.Layout.{has_list, end_of, elements_in, Layout}
 use Rattle.amd_lists.specs.Chains.{DegreeLists, Chooses, without}
 use Rattle.amd_elements.specs.Beginning.{Begins}
 use Rattle.amd_fronts.specs.Effects.{KeepsOrResets}
+use Rattle.amd_fronts.specs.Tallies.{front_at, LeavesLists}
 use Rattle.amd_fronts.specs.Turning.{TurnsFront}
 use Rattle.amd_lists.specs.Sizes.{bucket_count}
 use Rattle.amd_merging.specs.Merging.{MergesAll, represents_in, bucket_of}
@@ -23,10 +24,6 @@ use Rattle.amd_lists.specs.Sizes.{IsSized}
 -- the lists by bound of a workspace are these
 abbrev pub LinksByBound : ℕ → Workspace → (ℕ → List ℕ) → Type 0
 LinksByBound n p lists = DegreeLists n p.head p.next p.last p.degree lists
-
--- the list of the element me
-abbrev pub front_at : Workspace → ℕ → List ℕ
-front_at p me = list_in p.iw p.pe p.len me
 
 -- the pivot me was chosen and taken out of its list
 pub record Picks (n me : ℕ) (p v : Workspace) : Type 0 where
@@ -81,11 +78,8 @@ pub record TurnsOver (aggressive : Bool) (n me gone most_cell : ℕ) (p v : Work
   pub under : (e : ℕ) → num first e < v.flag
   pub two : 2 ≤ v.flag
   pub room : v.flag + n ≤ most_cell
-  pub turns : TurnsFront aggressive n me v.flag (front_at p me) p.free p.iw p.pe p.e_len p.nv p.len p.degree first v.iw
-      v.pe v.e_len v.nv
-      v.len v.degree v.w v.last gone
-  pub linked : (lists : ℕ → List ℕ) → ((i : ℕ) → has (front_at p me) i ≡ true → has (lists (num p.degree i)) i ≡ true) →
-      LinksByBound n p lists → LinksByBound n v (λ d. filter (λ j. not (has (front_at p me) j)) (lists d))
+  pub turns : TurnsFront aggressive n me (record p { w = first; flag = v.flag }) v gone
+  pub linked : LeavesLists n (front_at p me) p v
   pub sized : IsSized n v
   pub same : v ≡ record p {
     iw = v.iw;

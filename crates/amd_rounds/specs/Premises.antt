@@ -4,13 +4,13 @@ use Rattle.amd_model.specs.Quotient.{has, Once}
 use Rattle.amd_words.specs.Words.{num, word, place, is_place, start, size_of, in_front, classes}
 use Rattle.amd_elements.specs.Element.{front_of}
 use Rattle.amd_lists.specs.Layout.{has_list, end_of, elements_in, Layout}
-use Rattle.amd_lists.specs.Layout.{rows_met}
-use Rattle.amd_fronts.specs.Turning.{IsTurning}
+use Rattle.amd_fronts.specs.Tallies.{front_at, IsPart}
+use Rattle.amd_fronts.specs.TurningLists.{AreTurning}
 use Rattle.amd_lists.specs.Sizes.{bucket_count}
 use Rattle.amd_merging.specs.Merging.{AreRenewed, bucket_of}
 use Rattle.amd_merging.specs.Restoring.{marked_in, IsPlaceable}
 use Rattle.amd_lists.specs.Workspaces.{Workspace}
-use Rattle.amd_rounds.specs.Parts.{LinksByBound, front_at}
+use Rattle.amd_rounds.specs.Parts.{LinksByBound}
 
 -- a class can become an element: it lists no element twice, and not itself
 pub record CanBegin (n me : ℕ) (p : Workspace) : Type 0 where
@@ -33,13 +33,12 @@ pub record HasFront (n me : ℕ) (p : Workspace) : Type 0 where
 -- the classes of the front of me can be turned over to it
 pub record CanTurn (n me : ℕ) (p : Workspace) : Type 0 where
   pub front : HasFront n me p
-  pub classes : (i : ℕ) → has (front_at p me) i ≡ true →
-      IsTurning n me (front_at p me) p.iw p.pe p.e_len p.nv p.len p.degree p.w i
+  pub classes : AreTurning n me p
   pub few : sum_by (size_of p.nv) (front_at p me) ≤ n
   pub two : 2 ≤ p.flag
   pub under : (e : ℕ) → num p.w e < p.flag
   pub degrees : (e : ℕ) → num p.degree e ≤ n
-  pub part : (e : ℕ) → 0 < num p.w e → rows_met p.iw p.pe p.e_len p.nv (front_at p me) e ≤ num p.degree e
+  pub part : IsPart (front_at p me) p
 
 -- the classes that are left of the front of me can be merged, where counters are below the flag and the greatest border
 -- together

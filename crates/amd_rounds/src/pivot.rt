@@ -14,10 +14,10 @@ ghost use Rattle.amd_lists.specs.Workspaces.{KeepsLoans, workspace_of};
 use crate::packing::compact;
 use amd_elements::beginning::{begin_built, begin_own};
 use amd_elements::fitting::has_room;
+use amd_fronts::lent::named_lent;
 use amd_lists::chains::choose;
 use amd_lists::work::Work;
-use amd_words::words::named;
-use amd_words::{Cell, Signed, Unsigned, Word};
+use amd_words::{Signed, Unsigned};
 
 /// A new element in its round.
 #[derive(Drop)]
@@ -28,16 +28,6 @@ pub struct Element {
     pub total: usize,
     /// Whether its list stands behind all others.
     pub is_built: bool,
-}
-
-/// As `named`, with the slice lent for writing.
-fn named_lent<S: Signed>(words: &mut [Word<S>], i: usize) -> usize
-    requires inside { i < length words.old }
-    requires place { is_place (word words.old i) ≡ true }
-    ensures is { result ≡ place (word words.old i) }
-    ensures same { words.new ≡ words.old }
-{
-    named(words, i)
 }
 
 /// Chooses the pivot and takes it out of the lists by bound.

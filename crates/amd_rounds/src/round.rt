@@ -15,6 +15,7 @@ ghost use Rattle.amd_rounds.specs.Premises.{CanEnd, CanMerge, CanTurn};
 ghost use Rattle.amd_lists.specs.Workspaces.{KeepsLoans, workspace_of};
 
 use crate::pivot::{begin, pick};
+use amd_fronts::lent::list_lent;
 use amd_fronts::outside::renew_flag;
 use amd_fronts::turning::turn;
 use amd_lists::work::Work;
@@ -22,8 +23,7 @@ use amd_merging::closing::close;
 use amd_merging::merging::merge_front;
 use amd_merging::restoring::restore;
 use amd_types::amd::Control;
-use amd_words::words::named;
-use amd_words::{Cell, Signed, Unsigned, Word, cell_at};
+use amd_words::{Signed, Unsigned};
 
 /// Turns the classes of the front of the new element `me` over to it. Returns the number of rows of those that ended.
 pub fn turn_over<S: Signed, P: Signed, U: Unsigned>(
@@ -38,39 +38,9 @@ pub fn turn_over<S: Signed, P: Signed, U: Unsigned>(
         (workspace_of work.new) }
     ensures loans { KeepsLoans work.old work.new }
 {
-    let free = work.free;
     let before = work.flag;
-    let flag = renew_flag(work.w, before);
-    work.flag = flag;
-    turn(
-        work.iw,
-        work.pe,
-        work.e_len,
-        work.nv,
-        work.len,
-        work.degree,
-        work.w,
-        work.head,
-        work.sides,
-        me,
-        free,
-        flag,
-        aggressive,
-    )
-}
-
-/// Where the list of a row starts, and how many words it has, with both slices lent for writing.
-fn list_lent<P: Signed, U: Unsigned>(
-    pe: &mut [Word<P>],
-    len: &mut [Cell<U>],
-    me: usize,
-) -> (usize, usize)
-    requires inside { (me < length pe.old) × (me < length len.old) }
-    requires place { is_place (word pe.old me) ≡ true }
-    ensures list { (result.0 ≡ start pe.old me) × (result.1 ≡ num len.old me) }
-    ensures same { (pe.new ≡ pe.old) × (len.new ≡ len.old) }
-{
-    (named(pe, me), cell_at(len, me))
+    work.flag = renew_flag(work.w, before);
+    turn(work, me, aggressive)
 }
 
 /// Takes the rows of the block off those that are live, and merges the classes of the front of `me` that are alike. The

@@ -5,7 +5,7 @@ use Rattle.std.proofs.lemmas.Bool.{cases_eq, eq-eqb, ne_eqb, cond-true, cond-fal
 use Rattle.amd_words.specs.Words.{num}
 use Rattle.amd_fronts.specs.Counts.{touched}
 use Rattle.amd_fronts.proofs.outside.touch.Goals as goal
-use Rattle.amd_fronts.proofs.outside.touch.Goals.{then-before-flag, else-before-flag, then-before-eq0, else-before-eq0}
+use Rattle.amd_fronts.proofs.outside.touch.Goals.{then-before-tally, else-before-tally, then-before-eq0, else-before-eq0}
 
 pub cell_at-before-requires : goal.cell_at-before-requires
 cell_at-before-requires g c = c.requires.inside.0
@@ -44,22 +44,23 @@ pub returns-clause-counted : goal.returns-clause-counted
 returns-clause-counted g c x =
     let v : ℕ = num c.args.w.now c.args.e in let all : ℕ = num c.args.degree.now c.args.e in
     let read = c.cell_at-before.ensures.is in let whole = c.cell_at.ensures.is in
-    let base : ((c.args.flag ≤ v) × (c.if-before-flag.base ≡ v)) ⊎ ((v < c.args.flag) × (c.if-before-flag.base ≡ all + c.args.flag)) =
-    elim c.if-before-flag.branch [
-      | then-before-flag w ↦ (let t = w.if-before-flag.true in let b = w.base-is in
+    let base : ((c.args.tally.flag ≤ v) × (c.if-before-tally.base ≡ v))
+    ⊎ ((v < c.args.tally.flag) × (c.if-before-tally.base ≡ all + c.args.tally.flag)) =
+    elim c.if-before-tally.branch [
+      | then-before-tally w ↦ (let t = w.if-before-tally.true in let b = w.base-is in
           inl ((omega (arith, read, t)), (omega (arith, read, b))))
-      | else-before-flag w ↦ (let t = w.if-before-flag.false in let b = w.base-is in
+      | else-before-tally w ↦ (let t = w.if-before-tally.false in let b = w.base-is in
           inr ((omega (arith, read, t)), (omega (arith, whole, b))))
     ] in
-    let taken : ((v ≡ 0) × (c.if-before-eq0.taken ≡ c.if-before-flag.base)) ⊎ ((v ≡ 0 → ⊥) × (c.if-before-eq0.taken ≡ c.args.more)) =
+    let taken : ((v ≡ 0) × (c.if-before-eq0.taken ≡ c.if-before-tally.base)) ⊎ ((v ≡ 0 → ⊥) × (c.if-before-eq0.taken ≡ c.args.tally.more)) =
     elim c.if-before-eq0.branch [
       | then-before-eq0 w ↦ inl (sym read ∙ w.if-before-eq0.true, w.taken-is)
       | else-before-eq0 w ↦ inr ((λ z. w.if-before-eq0.false (read ∙ z)), w.taken-is)
     ] in
     ap (λ l. num l x) c.put_cell.ensures
-    ∙ written c.args.w.now c.args.e (c.if-before-flag.base - c.if-before-eq0.taken) x c.requires.inside.0
+    ∙ written c.args.w.now c.args.e (c.if-before-tally.base - c.if-before-eq0.taken) x c.requires.inside.0
     ∙ ap (λ y. cond (x == c.args.e) y (num c.args.w.now x))
-    (left_is c.args.flag all c.args.more v c.if-before-flag.base c.if-before-eq0.taken base taken)
+    (left_is c.args.tally.flag all c.args.tally.more v c.if-before-tally.base c.if-before-eq0.taken base taken)
 
 pub returns-clause-long : goal.returns-clause-long
 returns-clause-long g c = c.put_cell.auto.cells

@@ -2,7 +2,7 @@
 use Rattle.std.proofs.Common.{◌≡◌, ◌-◌, ℕ, cond, length}
 use Rattle.amd_model.specs.Quotient.{has}
 use Rattle.amd_words.specs.Words.{num, word, flip_of, rows}
-use Rattle.amd_fronts.specs.Counts.{touched, ends, settled}
+use Rattle.amd_fronts.specs.Tallies.{settled_in, ends_in}
 use Rattle.amd_fronts.proofs.outside.touch_all.Given as goal
 
 abbrev pub invariant-loop-q : goal.invariant-loop-q
@@ -10,8 +10,8 @@ invariant-loop-q g l = record {
   long : length l.w ≡ length l.fn.w;
   p_long : length l.pe ≡ length l.fn.pe;
   counted : (e : ℕ) → num l.w e ≡ cond (has (rows l.iw l.from (l.q - l.from)) e)
-      (settled l.aggressive l.flag (touched l.flag (num l.degree e) l.more (num l.fn.w e))) (num l.fn.w e);
+      (settled_in l.tally l.degree l.fn.w e) (num l.fn.w e);
   starts : (e : ℕ) → word l.pe e ≡ cond (has (rows l.iw l.from (l.q - l.from)) e)
-      (cond (ends l.aggressive l.flag (touched l.flag (num l.degree e) l.more (num l.fn.w e))) (flip_of l.me) (word l.fn.pe e))
+      (cond (ends_in l.tally l.degree l.fn.w e) (flip_of l.tally.me) (word l.fn.pe e))
       (word l.fn.pe e);
 }

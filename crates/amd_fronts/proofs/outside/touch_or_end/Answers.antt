@@ -24,53 +24,56 @@ ends_not {aggressive} {flag} {top} either is = elim either [
   | inr h ↦ ap (λ b. b && top == flag) h
 ]
 
-pub returns-then-left-flag : goal.returns-then-left-flag
-returns-then-left-flag g c = record {
+pub returns-then-left-tally : goal.returns-then-left-tally
+returns-then-left-tally g c = record {
   long = ((c.put_cell.auto.cells ∙ c.touch.ensures.long, c.put_flip.auto.words));
-  counted = (λ x. let e : ℕ = c.args.e in let flag : ℕ = c.args.flag in let w1 : List ℕ = c.touch.new.w in let w : List ℕ = c.args.w.now in
-      let top : ℕ = touched flag (num c.args.degree.now e) c.args.more (num w e) in
+  counted = (λ x. let e : ℕ = c.args.e in let flag : ℕ = c.args.tally.flag in
+      let w1 : List ℕ = c.touch.new.w in let w : List ℕ = c.args.w.now in
+      let top : ℕ = touched flag (num c.args.degree.now e) c.args.tally.more (num w e) in
       let here : (e == e) ≡ true = eq-eqb e e refl in
       let left_is = has_top e (num w e) top c.cell_at-left.ensures.is (c.touch.ensures.counted e) in
-      let over = ends_there c.if-aggressive.true (sym left_is ∙ c.if-left-flag.true) in
+      let over = ends_there c.if-tally.true (sym left_is ∙ c.if-left-tally.true) in
       let small : e < length w1 = (let i = c.requires.touch.inside.0 in let l = c.touch.ensures.long in omega (arith, i, l)) in
       elim (cases_eq x e) [
         | inl q ↦ rw q (ap (λ ws. num ws e) c.put_cell.ensures ∙ get_or-set_same w1 e 0 0 small
-            ∙ sym (cond-true (e == e) (settled c.args.aggressive flag top) (num w e) here
-            ∙ cond-true (ends c.args.aggressive flag top) 0 top over))
+            ∙ sym (cond-true (e == e) (settled c.args.tally.aggressive flag top) (num w e) here
+            ∙ cond-true (ends c.args.tally.aggressive flag top) 0 top over))
         | inr ne ↦ ap (λ ws. num ws x) c.put_cell.ensures ∙ get_or-set_other w1 e x 0 0 ne ∙ c.touch.ensures.counted x
             ∙ cond-false (x == e) top (num w x) (ne_eqb x e ne)
-            ∙ sym (cond-false (x == e) (settled c.args.aggressive flag top) (num w x) (ne_eqb x e ne))
+            ∙ sym (cond-false (x == e) (settled c.args.tally.aggressive flag top) (num w x) (ne_eqb x e ne))
       ]);
-  starts = (λ x. let e : ℕ = c.args.e in let flag : ℕ = c.args.flag in let w : List ℕ = c.args.w.now in let pe : List ℤ = c.args.pe.now in
-      let top : ℕ = touched flag (num c.args.degree.now e) c.args.more (num w e) in
+  starts = (λ x. let e : ℕ = c.args.e in let flag : ℕ = c.args.tally.flag in let w : List ℕ = c.args.w.now in
+      let pe : List ℤ = c.args.pe.now in
+      let top : ℕ = touched flag (num c.args.degree.now e) c.args.tally.more (num w e) in
       let here : (e == e) ≡ true = eq-eqb e e refl in
       let left_is = has_top e (num w e) top c.cell_at-left.ensures.is (c.touch.ensures.counted e) in
-      let over = ends_there c.if-aggressive.true (sym left_is ∙ c.if-left-flag.true) in
-      let flipped : ℤ = flip_of c.args.me in
+      let over = ends_there c.if-tally.true (sym left_is ∙ c.if-left-tally.true) in
+      let flipped : ℤ = flip_of c.args.tally.me in
       elim (cases_eq x e) [
         | inl q ↦ rw q (ap (λ ws. word ws e) c.put_flip.ensures ∙ get_or-set_same pe e flipped (pos 0) c.requires.end.0
-            ∙ sym (cond_both (e == e) (ends c.args.aggressive flag top) flipped (word pe e)
-            ∙ cond-true (e == e) (cond (ends c.args.aggressive flag top) flipped (word pe e)) (word pe e) here
-            ∙ cond-true (ends c.args.aggressive flag top) flipped (word pe e) over))
+            ∙ sym (cond_both (e == e) (ends c.args.tally.aggressive flag top) flipped (word pe e)
+            ∙ cond-true (e == e) (cond (ends c.args.tally.aggressive flag top) flipped (word pe e)) (word pe e) here
+            ∙ cond-true (ends c.args.tally.aggressive flag top) flipped (word pe e) over))
         | inr ne ↦ ap (λ ws. word ws x) c.put_flip.ensures ∙ get_or-set_other pe e x flipped (pos 0) ne
-            ∙ sym (cond_both (x == e) (ends c.args.aggressive flag top) flipped (word pe x)
-            ∙ cond-false (x == e) (cond (ends c.args.aggressive flag top) flipped (word pe x)) (word pe x) (ne_eqb x e ne))
+            ∙ sym (cond_both (x == e) (ends c.args.tally.aggressive flag top) flipped (word pe x)
+            ∙ cond-false (x == e) (cond (ends c.args.tally.aggressive flag top) flipped (word pe x)) (word pe x) (ne_eqb x e ne))
       ]);
 }
 
-pub returns-else-aggressive : goal.returns-else-aggressive
-returns-else-aggressive g c = record {
+pub returns-else-tally : goal.returns-else-tally
+returns-else-tally g c = record {
   long = ((c.touch.ensures.long, refl));
-  counted = (λ x. let e : ℕ = c.args.e in let flag : ℕ = c.args.flag in let w : List ℕ = c.args.w.now in
-      let top : ℕ = touched flag (num c.args.degree.now e) c.args.more (num w e) in
-      let stays = ends_not c.else-aggressive.either (has_top e (num w e) top c.cell_at-left.ensures.is (c.touch.ensures.counted e)) in
+  counted = (λ x. let e : ℕ = c.args.e in let flag : ℕ = c.args.tally.flag in let w : List ℕ = c.args.w.now in
+      let top : ℕ = touched flag (num c.args.degree.now e) c.args.tally.more (num w e) in
+      let stays = ends_not c.else-tally.either (has_top e (num w e) top c.cell_at-left.ensures.is (c.touch.ensures.counted e)) in
       c.touch.ensures.counted x
-      ∙ ap (λ v. cond (x == e) v (num w x)) (sym (cond-false (ends c.args.aggressive flag top) 0 top stays)));
-  starts = (λ x. let e : ℕ = c.args.e in let flag : ℕ = c.args.flag in let w : List ℕ = c.args.w.now in let pe : List ℤ = c.args.pe.now in
-      let top : ℕ = touched flag (num c.args.degree.now e) c.args.more (num w e) in
-      let stays = ends_not c.else-aggressive.either (has_top e (num w e) top c.cell_at-left.ensures.is (c.touch.ensures.counted e)) in
-      sym (cond_both (x == e) (ends c.args.aggressive flag top) (flip_of c.args.me) (word pe x)
-      ∙ ap (λ b. cond (x == e) (cond b (flip_of c.args.me) (word pe x)) (word pe x)) stays ∙ cond_same (x == e) (word pe x)));
+      ∙ ap (λ v. cond (x == e) v (num w x)) (sym (cond-false (ends c.args.tally.aggressive flag top) 0 top stays)));
+  starts = (λ x. let e : ℕ = c.args.e in let flag : ℕ = c.args.tally.flag in let w : List ℕ = c.args.w.now in
+      let pe : List ℤ = c.args.pe.now in
+      let top : ℕ = touched flag (num c.args.degree.now e) c.args.tally.more (num w e) in
+      let stays = ends_not c.else-tally.either (has_top e (num w e) top c.cell_at-left.ensures.is (c.touch.ensures.counted e)) in
+      sym (cond_both (x == e) (ends c.args.tally.aggressive flag top) (flip_of c.args.tally.me) (word pe x)
+      ∙ ap (λ b. cond (x == e) (cond b (flip_of c.args.tally.me) (word pe x)) (word pe x)) stays ∙ cond_same (x == e) (word pe x)));
 }
 
 pub touch-requires : goal.touch-requires

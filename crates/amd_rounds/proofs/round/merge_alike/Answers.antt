@@ -8,7 +8,7 @@ use Rattle.amd_lists.specs.Sizes.{bucket_count}
 use Rattle.amd_merging.specs.Merging.{AreRenewed}
 use Rattle.amd_fronts.specs.Effects.{KeepsOrResets}
 use Rattle.amd_lists.specs.Chains.{DegreeLists}
-use Rattle.amd_rounds.specs.Parts.{front_at}
+use Rattle.amd_fronts.specs.Tallies.{front_at}
 use Rattle.amd_lists.specs.Workspaces.{workspace_of}
 use Rattle.amd_rounds.proofs.Fronts.{front_count}
 use Rattle.amd_rounds.proofs.Renewed.{renewed_zeros}
