@@ -1,9 +1,8 @@
 // The beginning of a round: the pivot is chosen, and becomes an element, in the place of its own list or behind all
-// lists. Source: Amestoy, Davis and Duff 1996 (element formation). A slice in a field of `Work` is lent for writing
-// also where a part only reads it, as `round` does.
+// lists. Source: Amestoy, Davis and Duff 1996 (element formation).
 
-ghost use Rattle.std.specs.Prelude.{ℕ, ◌<◌, ◌≡◌, pos, length, true};
-ghost use Rattle.amd_words.specs.Words.{is_place, place, word};
+ghost use Rattle.std.specs.Prelude.{ℕ, ◌<◌, ◌≡◌, pos, length};
+ghost use Rattle.amd_words.specs.Words.{place, word};
 ghost use Rattle.amd_lists.specs.Chains.{SomeFrom};
 ghost use Rattle.amd_lists.specs.Sizes.{IsNarrow, IsSized};
 ghost use Rattle.amd_rounds.specs.Laid.{IsLaid};
@@ -14,10 +13,10 @@ ghost use Rattle.amd_lists.specs.Workspaces.{KeepsLoans, workspace_of};
 use crate::packing::compact;
 use amd_elements::beginning::{begin_built, begin_own};
 use amd_elements::fitting::has_room;
+use amd_elements::lent::named_lent;
 use amd_lists::chains::choose;
 use amd_lists::work::Work;
-use amd_words::words::named;
-use amd_words::{Cell, Signed, Unsigned, Word};
+use amd_words::{Signed, Unsigned};
 
 /// A new element in its round.
 #[derive(Drop)]
@@ -28,16 +27,6 @@ pub struct Element {
     pub total: usize,
     /// Whether its list stands behind all others.
     pub is_built: bool,
-}
-
-/// As `named`, with the slice lent for writing.
-fn named_lent<S: Signed>(words: &mut [Word<S>], i: usize) -> usize
-    requires inside { i < length words.old }
-    requires place { is_place (word words.old i) ≡ true }
-    ensures is { result ≡ place (word words.old i) }
-    ensures same { words.new ≡ words.old }
-{
-    named(words, i)
 }
 
 /// Chooses the pivot and takes it out of the lists by bound.
@@ -66,8 +55,7 @@ fn begin_in_place<S: Signed, P: Signed, U: Unsigned>(
         (workspace_of work.old) (workspace_of work.new) }
     ensures loans { KeepsLoans work.old work.new }
 {
-    let free = work.free;
-    let begun = begin_own(work.iw, work.nv, work.e_len, work.len, work.pe, me, free);
+    let begun = begin_own(work, me);
     Element {
         block: begun.block,
         total: begun.total,
@@ -85,8 +73,7 @@ fn make_room<S: Signed, P: Signed, U: Unsigned>(work: &mut Work<'_, '_, S, P, U>
     ensures rooms { MakesRoom (length work.old.nv.now) me (workspace_of work.old) (workspace_of work.new) }
     ensures loans { KeepsLoans work.old work.new }
 {
-    let free = work.free;
-    if has_room(work.iw, work.nv, work.pe, work.e_len, work.len, me, free) {
+    if has_room(work, me) {
         return;
     }
     compact(work);
@@ -108,11 +95,7 @@ fn begin_behind<S: Signed, P: Signed, U: Unsigned>(
     ensures loans { KeepsLoans work.old work.new }
 {
     make_room(work, me);
-    let free = work.free;
-    let begun = begin_built(
-        work.iw, work.nv, work.pe, work.e_len, work.len, work.w, me, free,
-    );
-    work.free = begun.free;
+    let begun = begin_built(work, me);
     Element {
         block: begun.block,
         total: begun.total,
