@@ -1,5 +1,5 @@
 -- The flag of a round: where it stands before classes are compared, how far it rises, and the greatest border.
-use Rattle.std.proofs.Common.{ℕ, Bool, List, ◌≡◌, ◌<◌, ◌≤◌, ◌+◌, ◌-◌, inl, inr, sym, ap, ◌∙◌, arith, cond, length}
+use Rattle.std.proofs.Common.{ℕ, Bool, List, ◌≡◌, ◌≤◌, ◌+◌, ◌-◌, inl, inr, sym, ap, ◌∙◌, arith, length}
 use Rattle.std.specs.Prelude.{max, nat_lt}
 use Rattle.std.proofs.lemmas.Bool.{cases_lt, cond-true, cond-false, lt-ltb, le-ltb}
 use Rattle.amd_model.specs.Graph.{Graph}
@@ -9,9 +9,9 @@ use Rattle.amd_fronts.specs.Effects.{KeepsOrResets}
 use Rattle.amd_words.specs.Words.{num, start}
 use Rattle.amd_words.proofs.RowLists.{rows_length}
 use Rattle.amd_lists.specs.Workspaces.{Workspace}
-use Rattle.amd_rounds.specs.Keeps.{Stands, renewed_flag, compared_flag, RaisesFlagInRound}
+use Rattle.amd_rounds.specs.Keeps.{renewed_flag, compared_flag, RaisesFlagInRound}
 use Rattle.amd_rounds.specs.Parts.{Picks, BeginsElement, TurnsOver, RaisesFlag, MergesFront, EndsFront}
-use Rattle.amd_rounds.proofs.Halves.{HalfRound, front, most_stays}
+use Rattle.amd_rounds.proofs.Halves.{HalfRound, most_stays}
 use Rattle.amd_rounds.proofs.Openings.{half, merges_of, ends_of}
 use Rattle.amd_rounds.proofs.Relinked.{is_pivot}
 use Rattle.amd_rounds.proofs.RoundLaw.{pivot_border}

@@ -1,5 +1,5 @@
 -- What the slices of an elimination in one workspace say, as functions of a row, a class or an element.
-use Rattle.std.specs.Prelude.{ℕ, ℤ, pos, negsuc, zero, suc, Bool, true, false, Option, None, Some, List, ◌≡◌, ◌-◌, ◌==◌}
+use Rattle.std.specs.Prelude.{ℕ, ℤ, pos, negsuc, zero, suc, Bool, true, false, Option, None, Some, ◌-◌, ◌==◌}
 use Rattle.std.specs.Prelude.{cond}
 use Rattle.std.specs.Prelude.{length}
 use Rattle.amd_round_laws.specs.Views.{View}
