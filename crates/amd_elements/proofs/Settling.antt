@@ -124,7 +124,8 @@ module _ (p v : Workspace) {me : ℕ} {nv1 : List ℤ} {total : ℕ} (pe1 : List
   len_me = ap (λ q. num q me) len_is ∙ get_or-set_same p.len me (v.free - p.free) 0 small_l
 
   pe_taken : (e : ℕ) → has es e ≡ true → word v.pe e ≡ flip_of me
-  pe_taken e h = ap (λ q. word q e) pe_is ∙ get_or-set_other pe1 me e (pos p.free) (pos 0) (λ q. clash {P = ⊥} h (ap (has es) q ∙ elements.apart))
+  pe_taken e h = ap (λ q. word q e) pe_is
+      ∙ get_or-set_other pe1 me e (pos p.free) (pos 0) (λ q. clash {P = ⊥} h (ap (has es) q ∙ elements.apart))
       ∙ starts e
       ∙ cond-true _ (flip_of me) (word p.pe e) h
 

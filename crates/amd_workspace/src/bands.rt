@@ -8,7 +8,8 @@ ghost use Rattle.amd_model.specs.Input.Columns.{IsColumnForm};
 ghost use Rattle.amd_words.specs.Words.{num};
 ghost use Rattle.amd_workspace.specs.Lower.{IsLowerForm, AreNeighbourCounts, Matrix, HoldsOwn, HoldsLists, own_start};
 ghost use Rattle.amd_workspace.specs.Lower.{SpreadsColumns, HasColumns};
-ghost use Rattle.amd_workspace.specs.Bands.{IsReadyForPart, band_part, banded, own_from, HasHeads, IsReadyForBand, spread_to};
+ghost use Rattle.amd_workspace.specs.Bands.{IsReadyForPart, band_part, banded, own_from};
+ghost use Rattle.amd_workspace.specs.Bands.{HasHeads, IsReadyForBand, spread_to};
 
 use crate::laying::append;
 use crate::lower::{own_first, push_rows, push_until};

@@ -30,11 +30,14 @@ gather-end-requires g c = own_gather record {
       let e = c.requires.pivot.end in omega (arith, f, n, w, e));
   names = (names_at c.args.work.now.iw.now (sym c.enter.ensures.long) (sym c.list_lent-from.ensures.list.0)
       (sym c.list_lent-from.ensures.list.1) (list_laid c.requires.pivot.laid c.args.me c.requires.pivot.listed).2);
-} (subst (λ m. sum_by (size_of c.enter.new.nv) (grown c.args.work.now.iw.now c.enter.new.nv c.list_lent-from.result.0 c.list_lent-from.result.0
+} (subst (λ m. sum_by (size_of c.enter.new.nv) (grown c.args.work.now.iw.now c.enter.new.nv c.list_lent-from.result.0
+    c.list_lent-from.result.0
     (classes c.enter.new.nv (rows c.args.work.now.iw.now c.list_lent-from.result.0 m))) < 2 ^ 63) (sym c.list_lent-from.ensures.list.1)
     (subst (λ s. sum_by (size_of c.enter.new.nv) (grown c.args.work.now.iw.now c.enter.new.nv s s
-    (classes c.enter.new.nv (rows c.args.work.now.iw.now s (num c.args.work.now.len.now c.args.me)))) < 2 ^ 63) (sym c.list_lent-from.ensures.list.0)
-    (own_few c.args.work.now.iw.now c.args.work.now.nv.now c.enter.new.nv c.args.work.now.pe.now c.args.work.now.len.now c.args.me c.enter.ensures.sizes c.enter.ensures.front
+    (classes c.enter.new.nv (rows c.args.work.now.iw.now s (num c.args.work.now.len.now c.args.me)))) < 2 ^ 63)
+    (sym c.list_lent-from.ensures.list.0)
+    (own_few c.args.work.now.iw.now c.args.work.now.nv.now c.enter.new.nv c.args.work.now.pe.now c.args.work.now.len.now c.args.me
+    c.enter.ensures.sizes c.enter.ensures.front
     c.requires.pivot.clear (let f = c.requires.few in let top = g.met.P.Signed.narrow in omega (arith, f, top)))))
 
 pub put_flip-requires-clause-inside : goal.put_flip-requires-clause-inside
@@ -42,8 +45,8 @@ put_flip-requires-clause-inside g c = let a = c.requires.pivot.row.0 in let l = 
 
 pub put_flip-requires-clause-small : goal.put_flip-requires-clause-small
 put_flip-requires-clause-small g c =
-    let b = own_builds c.args.work.now.iw.now c.args.work.now.nv.now c.enter.new.nv c.args.work.now.pe.now c.args.work.now.len.now c.args.me c.enter.ensures.sizes
-    c.enter.ensures.front c.requires.pivot.clear c.enter.ensures.long
+    let b = own_builds c.args.work.now.iw.now c.args.work.now.nv.now c.enter.new.nv c.args.work.now.pe.now c.args.work.now.len.now
+    c.args.me c.enter.ensures.sizes c.enter.ensures.front c.requires.pivot.clear c.enter.ensures.long
     (gathers_at c.list_lent-from.ensures.list.0 c.list_lent-from.ensures.list.1 c.gather-end.ensures) in
     let t = b.total_is in let f = c.requires.few in omega (arith, t, f)
 
