@@ -5,12 +5,14 @@ use Rattle.std.specs.Prelude.{◌==◌}
 use Rattle.std.proofs.lemmas.Bool.{cases_eq, eq-eqb, cond-true, cond-false, ne_eqb}
 use Rattle.std.proofs.Math.Bool.{and-true, and-false}
 use Rattle.amd_model.specs.Quotient.{has}
-use Rattle.amd_words.specs.Words.{num, start, rows, rows_in, is_negative, size_of, in_front, Names}
+use Rattle.amd_words.specs.Words.{num, is_place, word, start, rows, rows_in, is_negative, size_of, in_front, Names}
 use Rattle.amd_elements.specs.Element.{Builds}
 use Rattle.amd_lists.specs.Layout.{has_list, end_of, Layout}
 use Rattle.amd_elements.specs.Making.{Makes}
 use Rattle.amd_elements.specs.Room.{Rooms}
 use Rattle.amd_elements.specs.Beginning.{Begins}
+use Rattle.amd_elements.specs.Effects.{TakesPivot}
+use Rattle.amd_lists.specs.Workspaces.{Workspace}
 use Rattle.amd_words.proofs.RowLists.{rows_length}
 use Rattle.amd_lists.proofs.Frames.{has_parts, has_from, live_part}
 
@@ -41,51 +43,65 @@ left_front j me front apart = elim (cases_eq j me) [
   | inr ne ↦ ap (λ b. (b || has front j) && not b) (ne_eqb j me ne) ∙ and-true (has front j)
 ]
 
-module _ {n : ℕ} {iw nv pe e_len : List ℤ} {len : List ℕ} {free : ℕ} {iw1 pe1 : List ℤ} {free1 : ℕ}
-    (r : Rooms n iw pe e_len len free iw1 pe1 free1) (me : ℕ) {absorbed front : List ℕ} {total from end : ℕ}
-    {iw2 nv2 pe2 e_len2 : List ℤ} {len2 : List ℕ} {free2 : ℕ} (wide : length nv ≡ n) (b : Builds me front iw1 nv from iw2 nv2 end total)
-    (m : Makes n me absorbed front total iw1 pe1 e_len len free1 iw2 pe2 e_len2 len2 free2) (at : start pe2 me ≡ from) where
+-- so it begins an element
+module _ {n me : ℕ} {absorbed front : List ℕ} {total from end : ℕ} {p v : Workspace} (wide : length p.nv ≡ n)
+    (b : Builds me front p.iw p.nv from v.iw v.nv end total) (m : Makes n me absorbed front total p v) (at : start v.pe me ≡ from) where
   -- how many words the new list has
-  count_is : num len2 me ≡ end - from
-  count_is = let a = rows_length iw2 (start pe2 me) (num len2 me) in let c = ap length m.list in
-      let d = rows_length iw2 from (end - from) in let e = ap length b.list in omega (arith, a, c, d, e)
+  count_is : num v.len me ≡ end - from
+  count_is = let a = rows_length v.iw (start v.pe me) (num v.len me) in let c = ap length m.list in
+      let d = rows_length v.iw from (end - from) in let e = ap length b.list in omega (arith, a, c, d, e)
 
-  module _ (apart : has front me ≡ false) {nv3 : List ℤ} (long : length nv3 ≡ length nv2)
-      (sizes : (j : ℕ) → size_of nv3 j ≡ cond (j == me) 0 (size_of nv2 j))
-      (marks : (j : ℕ) → in_front nv3 j ≡ (in_front nv2 j && not (j == me))) where
-    pub begins : (end_of pe2 len2 me ≤ free2) → Begins n me absorbed front total iw nv pe e_len len iw2 nv3 pe2 e_len2 len2 free2
-    begins inside = record {
-      long = b.long ∙ r.long;
-      wide = long ∙ b.wide;
-      p_long = m.p_long ∙ r.p_long;
-      e_long = m.e_long;
-      l_long = m.l_long;
-      starts = m.starts;
-      list = m.list;
-      names = subst (λ s. Names n iw2 s (num len2 me)) (sym at) (subst (Names n iw2 from) (sym count_is)
-          (subst (λ k. Names k iw2 from (end - from)) wide b.names));
-      inside = inside;
-      rows_is = m.rows_is;
-      sizes = λ j. sizes j ∙ ap (cond (j == me) 0) (b.sizes j);
-      marks = λ j. marks j ∙ ap (λ x. x && not (j == me)) (b.front_is j) ∙ left_front j me front apart;
-      parents = m.parents;
-      ended = m.ended;
-      counts = m.counts;
-      lengths = m.lengths;
-      listed = λ j no ne. m.listed j no ne ∙ r.listed j;
-      others = λ j no ne h. m.places j no ne ∙ r.others j h;
-      same = λ j no ne h. let a = r.reads j h in let d = m.same j no ne (r.listed j ∙ h) in
-          (d.0, d.1, λ k l. d.2 k l ∙ a.2 k l);
-      fewer = let a = m.fewer in let d = live_part n pe pe1 len len (λ j h. (sym (r.listed j) ∙ h, (omega arith))) in omega (arith, a, d);
-      laid = m.laid;
-    }
+  pub begins : {nv' : List ℤ} → has front me ≡ false → TakesPivot me v.nv nv' → end_of v.pe v.len me ≤ v.free →
+      Begins n me absorbed front total p (record v { nv = nv' })
+  begins apart takes inside = record {
+    long = b.long;
+    wide = takes.long ∙ b.wide;
+    p_long = m.p_long;
+    e_long = m.e_long;
+    l_long = m.l_long;
+    starts = m.starts;
+    list = m.list;
+    names = subst (λ s. Names n v.iw s (num v.len me)) (sym at) (subst (Names n v.iw from) (sym count_is)
+        (subst (λ k. Names k v.iw from (end - from)) wide b.names));
+    inside = inside;
+    rows_is = m.rows_is;
+    sizes = λ j. takes.sizes j ∙ ap (cond (j == me) 0) (b.sizes j);
+    marks = λ j. takes.front j ∙ ap (λ x. x && not (j == me)) (b.front_is j) ∙ left_front j me front apart;
+    parents = m.parents;
+    ended = m.ended;
+    counts = m.counts;
+    lengths = m.lengths;
+    listed = m.listed;
+    others = λ j no ne h. m.places j no ne;
+    same = m.same;
+    fewer = m.fewer;
+    laid = m.laid;
+  }
 
--- what begins once the lists have moved begins over the lists as they were
-pub begins_moved : {n me : ℕ} {absorbed front : List ℕ} {total : ℕ} {iw nv pe e_len : List ℤ} {len : List ℕ} {free : ℕ} {iw1 pe1 : List ℤ}
-    {free1 : ℕ} {iw2 nv2 pe2 e_len2 : List ℤ} {len2 : List ℕ} {free2 : ℕ} → Rooms n iw pe e_len len free iw1 pe1 free1 →
-    Begins n me absorbed front total iw1 nv pe1 e_len len iw2 nv2 pe2 e_len2 len2 free2 →
-    Begins n me absorbed front total iw nv pe e_len len iw2 nv2 pe2 e_len2 len2 free2
-begins_moved {n} {pe = pe} {len = len} {pe1 = pe1} r m = record {
+-- what begins once the lists have moved, and others were linked, begins over the lists as they were
+pub begins_moved : {n me : ℕ} {absorbed front : List ℕ} {total : ℕ} {p v : Workspace} {iw pe : List ℤ}
+    {head next last : List ℕ} {free least n_cmp_a : ℕ} →
+    Rooms n p (record p {
+      iw = iw;
+      pe = pe;
+      head = head;
+      next = next;
+      last = last;
+      free = free;
+      least = least;
+      n_cmp_a = n_cmp_a;
+    }) →
+    Begins n me absorbed front total (record p {
+      iw = iw;
+      pe = pe;
+      head = head;
+      next = next;
+      last = last;
+      free = free;
+      least = least;
+      n_cmp_a = n_cmp_a;
+    }) v → Begins n me absorbed front total p v
+begins_moved {n} {p = p} {pe = pe} r m = record {
   long = m.long ∙ r.long;
   wide = m.wide;
   p_long = m.p_long ∙ r.p_long;
@@ -106,16 +122,19 @@ begins_moved {n} {pe = pe} {len = len} {pe1 = pe1} r m = record {
   others = λ j no ne h. m.others j no ne (r.listed j ∙ h) ∙ r.others j h;
   same = λ j no ne h. let a = r.reads j h in let d = m.same j no ne (r.listed j ∙ h) in
       (d.0, d.1, λ k l. d.2 k l ∙ a.2 k l);
-  fewer = let a = m.fewer in let d = live_part n pe pe1 len len (λ j h. (sym (r.listed j) ∙ h, (omega arith))) in omega (arith, a, d);
+  fewer = let a = m.fewer in let d = live_part n p.pe pe p.len p.len (λ j h. (sym (r.listed j) ∙ h, (omega arith))) in
+      omega (arith, a, d);
   laid = m.laid;
 }
 
 -- a list in its old place ends where it ended, or before
-pub own_inside : {n : ℕ} {iw pe e_len : List ℤ} {len : List ℕ} {free : ℕ} {iw' e_len' : List ℤ} {len' : List ℕ} (me : ℕ) →
-    Layout n iw pe e_len len free → Layout n iw' pe e_len' len' free → has_list pe len me ≡ true → end_of pe len' me ≤ free
-own_inside {n} {iw} {pe} {e_len} {len} {free} {iw'} {e_len'} {len'} me y z h = elim (cases_eq (num len' me) 0) [
-  | inl q ↦ (let a = y.within me h in omega (arith, a, q))
-  | inr ne ↦ z.within me (has_from pe len' me (has_parts pe len me h).0 (omega (arith, ne)))
+pub own_inside : {n : ℕ} (p v : Workspace) (me : ℕ) → Layout n p.iw p.pe p.e_len p.len p.free →
+    Layout n v.iw v.pe v.e_len v.len v.free → v.pe ≡ p.pe → v.free ≡ p.free → has_list p.pe p.len me ≡ true →
+    end_of v.pe v.len me ≤ v.free
+own_inside p v me y z starts ends h = elim (cases_eq (num v.len me) 0) [
+  | inl q ↦ (let a = y.within me h in let s = ap (λ pe. start pe me) starts in omega (arith, a, q, s, ends))
+  | inr ne ↦ z.within me (has_from v.pe v.len me (ap (λ pe. is_place (word pe me)) starts ∙ (has_parts p.pe p.len me h).0)
+      (omega (arith, ne)))
 ]
 
 -- and a list behind all others before the free end, if that is where it ends

@@ -7,7 +7,7 @@ use Rattle.std.proofs.lemmas.List.Concat.{flat_map-append}
 use Rattle.amd_words.specs.Words.{num, is_place, place, word, start, size_of, classes, rows, Names}
 use Rattle.amd_elements.specs.Element.{elements_at, variables_at, members_at, IsListLaid, ListsLaid}
 use Rattle.amd_elements.specs.Room.{named_around}
-use Rattle.amd_elements.specs.Visiting.{Visit, CanTake, Takes}
+use Rattle.amd_elements.specs.Visiting.{Visit, Visited, visited, CanTake, Takes}
 use Rattle.amd_elements.specs.Premises.{HasListsAround}
 use Rattle.amd_words.proofs.RowLists.{rows_more, rows_same, rows_both, rows_has, rows_at, names_at}
 use Rattle.amd_words.proofs.WordCounts.{within_count, next_place}
@@ -127,27 +127,25 @@ module _ {pivot m : ℕ} {iw nv pe : List ℤ} {len : List ℕ} {end : ℕ} (lis
             ∙ ap (λ xs. xs ++ list_rest) (sym list_next)
 
         -- a visit comes to that list, and goes on behind it
-        module _ {V : Type 0} (holds : Visit V) (words sizes : List ℤ) (initial : V) {nv' : List ℤ} {visitor : V} (held : holds end
-            (named_around iw pe len pivot m) (flat_map (members_at iw pe len) (rows iw (start pe pivot) (p - from))) words sizes
-            initial iw' nv' visitor) where
-          pub list_visit : CanTake holds end (rows iw' first count) iw' nv' visitor
+        module _ {V : Type 0} (holds : Visit V) (initial : Visited V) {nv' : List ℤ} {visitor : V} (held : holds end
+            (named_around iw pe len pivot m) (flat_map (members_at iw pe len) (rows iw (start pe pivot) (p - from))) initial
+            (visited iw' nv' visitor)) where
+          pub list_visit : CanTake holds end (rows iw' first count) (visited iw' nv' visitor)
           list_visit = record {
             all = named_around iw pe len pivot m;
             taken = flat_map (members_at iw pe len) (rows iw (start pe pivot) (p - from));
             rest = list_rest;
-            words = words;
-            sizes = sizes;
             first = initial;
             split = list_split;
             held = held;
           }
 
-          pub list_visited : {iw2 nv2 : List ℤ} {after : V} → Takes holds end (rows iw' first count) iw' nv' visitor iw2 nv2 after →
+          pub list_visited : {after : Visited V} → Takes holds end (rows iw' first count) (visited iw' nv' visitor) after →
               holds end (named_around iw pe len pivot m) (flat_map (members_at iw pe len) (rows iw (start pe pivot) (p + 1 - from)))
-              words sizes initial iw2 nv2 after
+              initial after
           unfolding list_visit
-          list_visited {iw2} {nv2} {after} takes = subst (λ xs. holds end (named_around iw pe len pivot m) xs words sizes initial
-              iw2 nv2 after) list_next (takes list_visit)
+          list_visited {after} takes = subst (λ xs. holds end (named_around iw pe len pivot m) xs initial after) list_next
+              (takes list_visit)
 
   -- the rest of the pivot's words
   module _ {count : ℕ} (count_is : count ≡ num len pivot) where
@@ -172,24 +170,21 @@ module _ {pivot m : ℕ} {iw nv pe : List ℤ} {len : List ℕ} {end : ℕ} (lis
         ++ rows iw' (from + m) (count - m)))
 
     -- a visit comes to them, and ends behind them
-    module _ {V : Type 0} (holds : Visit V) (words sizes : List ℤ) (initial : V) {nv' : List ℤ} {visitor : V} (held : holds end
-        (named_around iw pe len pivot m) (flat_map (members_at iw pe len) (elements_at iw pe pivot m)) words sizes initial iw' nv'
-        visitor) where
-      pub rest_visit : CanTake holds end (rows iw' (from + m) (count - m)) iw' nv' visitor
+    module _ {V : Type 0} (holds : Visit V) (initial : Visited V) {nv' : List ℤ} {visitor : V} (held : holds end
+        (named_around iw pe len pivot m) (flat_map (members_at iw pe len) (elements_at iw pe pivot m)) initial
+        (visited iw' nv' visitor)) where
+      pub rest_visit : CanTake holds end (rows iw' (from + m) (count - m)) (visited iw' nv' visitor)
       rest_visit = record {
         all = named_around iw pe len pivot m;
         taken = flat_map (members_at iw pe len) (elements_at iw pe pivot m);
         rest = [];
-        words = words;
-        sizes = sizes;
         first = initial;
         split = rest_split;
         held = held;
       }
 
-      pub rest_visited : {iw2 nv2 : List ℤ} {after : V} →
-          Takes holds end (rows iw' (from + m) (count - m)) iw' nv' visitor iw2 nv2 after →
-          holds end (named_around iw pe len pivot m) (named_around iw pe len pivot m) words sizes initial iw2 nv2 after
+      pub rest_visited : {after : Visited V} → Takes holds end (rows iw' (from + m) (count - m)) (visited iw' nv' visitor) after →
+          holds end (named_around iw pe len pivot m) (named_around iw pe len pivot m) initial after
       unfolding rest_visit
-      rest_visited {iw2} {nv2} {after} takes = subst (λ xs. holds end (named_around iw pe len pivot m) xs words sizes initial iw2
-          nv2 after) rest_next (takes rest_visit)
+      rest_visited {after} takes = subst (λ xs. holds end (named_around iw pe len pivot m) xs initial after) rest_next
+          (takes rest_visit)

@@ -15,15 +15,18 @@ use Rattle.amd_words.specs.Words.{num, place, word, start, classes}
 use Rattle.amd_elements.specs.Element.{front_of, elements_at, variables_at, members_at, ListsLaid}
 use Rattle.amd_lists.specs.Layout.{has_list, elements_in, Layout}
 use Rattle.amd_elements.specs.Compaction.{Packs}
+use Rattle.amd_elements.specs.Pivots.{built_front}
 use Rattle.amd_elements.specs.Room.{Rooms, named_around}
+use Rattle.amd_lists.specs.Workspaces.{Workspace}
 use Rattle.amd_lists.proofs.Frames.{reads_list, reads_elements, reads_variables}
 use Rattle.amd_elements.proofs.Settling.{names_below}
 use Rattle.amd_elements.proofs.Touching.{front_once}
 use Rattle.amd_elements.proofs.ListsAround.{own_variables}
 use Rattle.amd_elements.proofs.Meeting.{front_named}
 
-pub rooms_stay : {n : ℕ} {iw pe e_len : List ℤ} {len : List ℕ} {free : ℕ} → Layout n iw pe e_len len free →
-    Rooms n iw pe e_len len free iw pe free
+-- the lists stay where others are linked
+pub rooms_stay : {n : ℕ} {p : Workspace} {head next last : List ℕ} {least : ℕ} → Layout n p.iw p.pe p.e_len p.len p.free →
+    Rooms n p (record p { head = head; next = next; last = last; least = least })
 rooms_stay y = record {
   long = refl;
   p_long = refl;
@@ -34,8 +37,7 @@ rooms_stay y = record {
   lower = omega arith;
 }
 
-pub rooms_packed : {n : ℕ} {iw pe e_len : List ℤ} {len : List ℕ} {free : ℕ} {iw' pe' : List ℤ} {free' : ℕ} →
-    Packs n iw pe e_len len free iw' pe' free' → Rooms n iw pe e_len len free iw' pe' free'
+pub rooms_packed : {n : ℕ} {p v : Workspace} → Packs n p v → Rooms n p v
 rooms_packed h = record {
   long = h.long;
   p_long = h.p_long;
@@ -71,21 +73,24 @@ front_few n iw nv pe len free me m within laid = once_few n (front_of iw nv pe l
         ]
 
 -- the list of the new element is the same after a move
-module _ {n : ℕ} {iw pe e_len : List ℤ} {len : List ℕ} {free : ℕ} {iw' pe' : List ℤ} {free' : ℕ} (y : Layout n iw pe e_len len free)
-    (h : Rooms n iw pe e_len len free iw' pe' free') (me : ℕ) (listed : has_list pe len me ≡ true)
-    (elements : (e : ℕ) → has (elements_in iw pe e_len me) e ≡ true → has_list pe len e ≡ true) where
-  pub rooms_elements : elements_in iw' pe' e_len me ≡ elements_in iw pe e_len me
-  rooms_elements = reads_elements iw pe e_len len iw' pe' e_len len me (h.reads me listed) (y.parts me listed)
+module _ {n : ℕ} {p v : Workspace} (y : Layout n p.iw p.pe p.e_len p.len p.free) (h : Rooms n p v) (me : ℕ)
+    (listed : has_list p.pe p.len me ≡ true)
+    (elements : (e : ℕ) → has (elements_in p.iw p.pe p.e_len me) e ≡ true → has_list p.pe p.len e ≡ true) where
+  pub rooms_elements : elements_in v.iw v.pe p.e_len me ≡ elements_in p.iw p.pe p.e_len me
+  rooms_elements = reads_elements p.iw p.pe p.e_len p.len v.iw v.pe p.e_len p.len me (h.reads me listed) (y.parts me listed)
 
-  pub rooms_known : (e : ℕ) → has (elements_in iw' pe' e_len me) e ≡ true → has_list pe' len e ≡ true
+  pub rooms_known : (e : ℕ) → has (elements_in v.iw v.pe p.e_len me) e ≡ true → has_list v.pe p.len e ≡ true
   rooms_known e k = h.listed e ∙ elements e (sym (ap (λ xs. has xs e) rooms_elements) ∙ k)
 
-  pub rooms_front : (nv : List ℤ) → front_of iw' nv pe' len me (place (word e_len me)) ≡ front_of iw nv pe len me (place (word e_len me))
-  rooms_front nv = let m : ℕ = place (word e_len me) in let skip : (ℕ → Bool) = λ x. x == me in
-      ap (λ es. firsts skip (flat_map (λ e. classes nv (members_at iw' pe' len e)) es ++ classes nv (variables_at iw' pe' len me m)))
+  pub rooms_front : front_of v.iw p.nv v.pe p.len me (place (word p.e_len me)) ≡ built_front p me
+  rooms_front = let m : ℕ = place (word p.e_len me) in let skip : (ℕ → Bool) = λ x. x == me in
+      ap (λ es. firsts skip (flat_map (λ e. classes p.nv (members_at v.iw v.pe p.len e)) es
+      ++ classes p.nv (variables_at v.iw v.pe p.len me m)))
       rooms_elements
-      ∙ ap (λ xs. firsts skip (xs ++ classes nv (variables_at iw' pe' len me m)))
-      (flat_same (λ e. classes nv (members_at iw' pe' len e)) (λ e. classes nv (members_at iw pe len e)) (elements_in iw pe e_len me)
-      (λ e k. ap (classes nv) (reads_list iw pe e_len len iw' pe' e_len len e (h.reads e (elements e k)))))
-      ∙ ap (λ xs. firsts skip (flat_map (λ e. classes nv (members_at iw pe len e)) (elements_in iw pe e_len me) ++ classes nv xs))
-      (reads_variables iw pe e_len len iw' pe' e_len len me (h.reads me listed) (y.parts me listed))
+      ∙ ap (λ xs. firsts skip (xs ++ classes p.nv (variables_at v.iw v.pe p.len me m)))
+      (flat_same (λ e. classes p.nv (members_at v.iw v.pe p.len e)) (λ e. classes p.nv (members_at p.iw p.pe p.len e))
+      (elements_in p.iw p.pe p.e_len me)
+      (λ e k. ap (classes p.nv) (reads_list p.iw p.pe p.e_len p.len v.iw v.pe p.e_len p.len e (h.reads e (elements e k)))))
+      ∙ ap (λ xs. firsts skip (flat_map (λ e. classes p.nv (members_at p.iw p.pe p.len e)) (elements_in p.iw p.pe p.e_len me)
+      ++ classes p.nv xs))
+      (reads_variables p.iw p.pe p.e_len p.len v.iw v.pe p.e_len p.len me (h.reads me listed) (y.parts me listed))

@@ -8,6 +8,7 @@ use Rattle.amd_model.proofs.Counting.Below.{sum_same, sum_zero, sum_at}
 use Rattle.amd_words.specs.Words.{num, is_place, place, flip_of, word, start}
 use Rattle.amd_lists.specs.Layout.{Layout, has_list, end_of}
 use Rattle.amd_elements.specs.Compaction.{Spaced, Compacts, Moves, Packs}
+use Rattle.amd_lists.specs.Workspaces.{Workspace}
 use Rattle.amd_lists.proofs.Frames.{has_parts, has_from, has_same}
 use Rattle.amd_words.proofs.Signs.{mark_no_place, place_of, is_place_of}
 use Rattle.amd_elements.proofs.MoveSigns.{flip_same, flip_some}
@@ -302,9 +303,9 @@ not_empty y l f h e = let a = word_owner y l f h in flip_some a.0 (sym a.3 ∙ e
 
 -- ---- the layout after it
 
-pub packs : {iw pe e_len : List ℤ} {len : List ℕ} {free : ℕ} {iw' pe' : List ℤ} {free' : ℕ} → Layout (length len) iw pe e_len len free →
-    Compacts iw pe len free iw' pe' free' → Packs (length len) iw pe e_len len free iw' pe' free'
-packs {iw} {pe} {e_len} {len} {free} {iw'} {pe'} {free'} y c = record {
+pub packs : {p v : Workspace} → Layout (length p.len) p.iw p.pe p.e_len p.len p.free → Compacts p.iw p.pe p.len p.free v.iw v.pe v.free →
+    Packs (length p.len) p v
+packs {p} {v} y c = record {
   long = c.long;
   p_long = c.rows;
   listed = c.live;
@@ -314,10 +315,10 @@ packs {iw} {pe} {e_len} {len} {free} {iw'} {pe'} {free'} y c = record {
     within = c.laid.within;
     apart = c.laid.apart;
     parts = λ j k. y.parts j (sym (c.live j) ∙ k);
-    words = λ q l. let a = c.full q l in let low = a.2 in let high = a.3 in let k : ℕ = q - start pe' a.0 in
-        let e : start pe' a.0 + k ≡ q = omega (arith, low) in let small : k < num len a.0 = omega (arith, low, high) in
-        let w : word iw' q ≡ word iw (start pe a.0 + k) = ap (word iw') (sym e) ∙ c.same a.0 k a.1 small in
-        let b = y.words (start pe a.0 + k) (let d = y.within a.0 a.1 in omega (arith, d, small)) in
+    words = λ q l. let a = c.full q l in let low = a.2 in let high = a.3 in let k : ℕ = q - start v.pe a.0 in
+        let e : start v.pe a.0 + k ≡ q = omega (arith, low) in let small : k < num p.len a.0 = omega (arith, low, high) in
+        let w : word v.iw q ≡ word p.iw (start p.pe a.0 + k) = ap (word v.iw) (sym e) ∙ c.same a.0 k a.1 small in
+        let b = y.words (start p.pe a.0 + k) (let d = y.within a.0 a.1 in omega (arith, d, small)) in
         (ap is_place w ∙ b.0, (let z = ap place w in let s = b.1 in omega (arith, z, s)));
   };
   count = c.count;

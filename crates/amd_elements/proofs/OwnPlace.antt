@@ -7,12 +7,13 @@ use Rattle.amd_model.specs.Quotient.{has}
 use Rattle.amd_words.specs.Words.{num, is_place, place, flip_of, word, start, size_of, in_front, classes, rows}
 use Rattle.amd_round_laws.proofs.Lists.Named.{sum_named}
 use Rattle.amd_elements.specs.Element.{grown, Gathers, front_of, members_at, Builds}
-use Rattle.amd_lists.specs.Layout.{has_list, end_of, Layout}
+use Rattle.amd_lists.specs.Layout.{has_list, end_of}
 use Rattle.amd_elements.specs.Making.{Makes}
+use Rattle.amd_lists.specs.Workspaces.{Workspace}
 use Rattle.amd_words.proofs.Signs.{mark_none}
 use Rattle.amd_words.proofs.RowLists.{rows_none}
 use Rattle.amd_lists.specs.Spans.{IsSpan}
-use Rattle.amd_elements.specs.Premises.{CanGather}
+use Rattle.amd_elements.specs.Premises.{IsPivot, CanGather}
 use Rattle.amd_elements.proofs.Gathering.{gathers_empty, grown_short}
 use Rattle.amd_elements.proofs.Building.{all, classes_same, grown_all, builds_all}
 use Rattle.amd_lists.proofs.Frames.{has_parts, has_length, relaid, live_part}
@@ -65,84 +66,74 @@ module _ (iw nv nv1 pe : List ℤ) (len : List ℕ) (me : ℕ) (sizes : (i : ℕ
 
 -- ---- what it leaves
 
-module _ {n me : ℕ} {iw nv pe e_len : List ℤ} {len : List ℕ} {free : ℕ} {front : List ℕ} {iw' nv' : List ℤ} {end total : ℕ}
-    (y : Layout n iw pe e_len len free) (wide : length nv ≡ n) (small_e : me < length e_len) (small_l : me < length len)
-    (own : has_list pe len me ≡ true) (b : Builds me front iw nv (start pe me) iw' nv' end total) (last : end ≤ end_of pe len me) where
-  abbrev e_len' : List ℤ
-  e_len' = set e_len me (flip_of total)
-
-  abbrev len' : List ℕ
-  len' = set len me (end - start pe me)
-
+module _ {me : ℕ} {p : Workspace} {front : List ℕ} {iw' nv' e_len' : List ℤ} {len' : List ℕ} {end total : ℕ} (pivot : IsPivot me p)
+    (b : Builds me front p.iw p.nv (start p.pe me) iw' nv' end total) (last : end ≤ end_of p.pe p.len me)
+    (e_len_is : e_len' ≡ set p.e_len me (flip_of total)) (len_is : len' ≡ set p.len me (end - start p.pe me)) where
   e_len_me : word e_len' me ≡ flip_of total
-  e_len_me = get_or-set_same e_len me (flip_of total) (pos 0) small_e
+  e_len_me = let a = pivot.row.0 in let l = pivot.lengths.1 in
+      ap (λ q. word q me) e_len_is ∙ get_or-set_same p.e_len me (flip_of total) (pos 0) (omega (arith, a, l))
 
-  len_me : num len' me ≡ end - start pe me
-  len_me = get_or-set_same len me (end - start pe me) 0 small_l
+  len_me : num len' me ≡ end - start p.pe me
+  len_me = let a = pivot.row.0 in let l = pivot.lengths.2 in
+      ap (λ q. num q me) len_is ∙ get_or-set_same p.len me (end - start p.pe me) 0 (omega (arith, a, l))
 
-  e_len_else : (j : ℕ) → (j ≡ me → ⊥) → word e_len' j ≡ word e_len j
-  e_len_else j ne = get_or-set_other e_len me j (flip_of total) (pos 0) ne
+  e_len_else : (j : ℕ) → (j ≡ me → ⊥) → word e_len' j ≡ word p.e_len j
+  e_len_else j ne = ap (λ q. word q j) e_len_is ∙ get_or-set_other p.e_len me j (flip_of total) (pos 0) ne
 
-  len_else : (j : ℕ) → (j ≡ me → ⊥) → num len' j ≡ num len j
-  len_else j ne = get_or-set_other len me j (end - start pe me) 0 ne
+  len_else : (j : ℕ) → (j ≡ me → ⊥) → num len' j ≡ num p.len j
+  len_else j ne = ap (λ q. num q j) len_is ∙ get_or-set_other p.len me j (end - start p.pe me) 0 ne
 
-  part : (j : ℕ) → has_list pe len' j ≡ true → (has_list pe len j ≡ true) × (num len' j ≤ num len j)
+  part : (j : ℕ) → has_list p.pe len' j ≡ true → (has_list p.pe p.len j ≡ true) × (num len' j ≤ num p.len j)
   part j h = elim (cases_eq j me) [
     | inl q ↦ (
-      ap (has_list pe len) q ∙ own,
-      (let a = ap (num len') q in let c = ap (num len) q in let d = len_me in
+      ap (has_list p.pe p.len) q ∙ pivot.listed,
+      (let a = ap (num len') q in let c = ap (num p.len) q in let d = len_me in
           omega (arith, a, c, d, last)),
     )
-    | inr ne ↦ (sym (has_length pe len len' j (len_else j ne)) ∙ h, (let a = len_else j ne in omega (arith, a)))
+    | inr ne ↦ (sym (has_length p.pe p.len len' j (len_else j ne)) ∙ h, (let a = len_else j ne in omega (arith, a)))
   ]
 
-  out : (k : ℕ) → (k < start pe me) ⊎ (end ≤ k) → word iw' k ≡ word iw k
+  out : (k : ℕ) → (k < start p.pe me) ⊎ (end ≤ k) → word iw' k ≡ word p.iw k
   out k o = elim o [ inl l ↦ b.below k l | inr l ↦ b.above k l ]
 
-  pub own_makes : Makes n me [] front total iw pe e_len len free iw' pe e_len' len' free
+  pub own_makes : Makes (length p.nv) me [] front total p (record p { iw = iw'; nv = nv'; e_len = e_len'; len = len' })
   unfolding has
   own_makes = record {
     p_long = refl;
-    e_long = length-set e_len me (flip_of total);
-    l_long = length-set len me (end - start pe me);
-    starts = (has_parts pe len me own).0;
-    list = ap (rows iw' (start pe me)) len_me ∙ b.list;
+    e_long = ap length e_len_is ∙ length-set p.e_len me (flip_of total);
+    l_long = ap length len_is ∙ length-set p.len me (end - start p.pe me);
+    starts = (has_parts p.pe p.len me pivot.listed).0;
+    list = ap (rows iw' (start p.pe me)) len_me ∙ b.list;
     rows_is = e_len_me;
     parents = λ e h. absurd (true≢false (sym h));
     places = λ j h ne. refl;
     counts = e_len_else;
     lengths = len_else;
     ended = λ e h. absurd (true≢false (sym h));
-    listed = λ j h ne. has_length pe len len' j (len_else j ne);
+    listed = λ j h ne. has_length p.pe p.len len' j (len_else j ne);
     same = λ j h ne k. (
       e_len_else j ne,
       len_else j ne,
       λ t l.
-          out (start pe j + t) (elim (y.apart me j own k (λ q. ne (sym q)))
+          out (start p.pe j + t) (elim (pivot.laid.apart me j pivot.listed k (λ q. ne (sym q)))
           [ inl m ↦ inr (omega (arith, m, last)) | inr m ↦ inl (omega (arith, m, l)) ]),
     );
-    before = λ j ne h. let a = y.within j (part j h).0 in let t = len_else j ne in omega (arith, a, t);
-    fewer = live_part n pe pe len len' part;
-    laid = relaid 0 y (omega arith) (λ j h. let p = part j h in inr (p.0, (omega arith), (let a = p.1 in omega (arith, a))))
+    before = λ j ne h. let a = pivot.laid.within j (part j h).0 in let t = len_else j ne in omega (arith, a, t);
+    fewer = live_part (length p.nv) p.pe p.pe p.len len' part;
+    laid = relaid 0 pivot.laid (omega arith) (λ j h. let k = part j h in inr (k.0, (omega arith), (let a = k.1 in omega (arith, a))))
         (λ j h. elim (cases_eq j me) [
           | inl q ↦ (let s : place (word e_len' j) ≡ 0 = ap (λ m. place (word e_len' m)) q ∙ ap place e_len_me ∙ mark_none total in
               omega (arith, s))
-          | inr ne ↦ (let s = ap place (e_len_else j ne) in let t = len_else j ne in let u = y.parts j (part j h).0 in
+          | inr ne ↦ (let s = ap place (e_len_else j ne) in let t = len_else j ne in let u = pivot.laid.parts j (part j h).0 in
               omega (arith, s, t, u))
         ])
-        (λ k l. elim (cases_lt k (start pe me)) [
-          | inl m ↦ subst (λ z. (is_place z ≡ true) × (place z < n)) (sym (out k (inl m))) (y.words k l)
+        (λ k l. elim (cases_lt k (start p.pe me)) [
+          | inl m ↦ subst (λ z. (is_place z ≡ true) × (place z < length p.nv)) (sym (out k (inl m))) (pivot.laid.words k l)
           | inr m ↦ elim (cases_lt k end) [
-            | inl m' ↦ (let at : start pe me + (k - start pe me) ≡ k = omega (arith, m) in
-                let a = b.names (k - start pe me) (omega (arith, m, m')) in
-                subst (λ p. (is_place (word iw' p) ≡ true) × (place (word iw' p) < n)) at (a.0, (let s = a.1 in omega (arith, s, wide))))
-            | inr m' ↦ subst (λ z. (is_place z ≡ true) × (place z < n)) (sym (out k (inr m'))) (y.words k l)
+            | inl m' ↦ (let at : start p.pe me + (k - start p.pe me) ≡ k = omega (arith, m) in
+                let a = b.names (k - start p.pe me) (omega (arith, m, m')) in
+                subst (λ q. (is_place (word iw' q) ≡ true) × (place (word iw' q) < length p.nv)) at a)
+            | inr m' ↦ subst (λ z. (is_place z ≡ true) × (place z < length p.nv)) (sym (out k (inr m'))) (pivot.laid.words k l)
           ]
         ]);
   }
-
-  -- the same of lists that are equal to these
-  pub own_makes_as : {e_len2 : List ℤ} {len2 : List ℕ} → e_len2 ≡ e_len' → len2 ≡ len' →
-      Makes n me [] front total iw pe e_len len free iw' pe e_len2 len2 free
-  own_makes_as {e_len2} {len2} e l = subst (λ q. Makes n me [] front total iw pe e_len len free iw' pe q len2 free) (sym e)
-      (subst (λ q. Makes n me [] front total iw pe e_len len free iw' pe e_len' q free) (sym l) own_makes)

@@ -15,6 +15,7 @@ use Rattle.amd_lists.specs.Renewal.{is_kept, is_outside}
 use Rattle.amd_lists.specs.Layout.{variables_in, Layout, ReadsSame, LosesOne}
 use Rattle.amd_elements.specs.Making.{IsTouched}
 use Rattle.amd_elements.specs.Beginning.{Begins}
+use Rattle.amd_lists.specs.Workspaces.{Workspace}
 use Rattle.amd_words.proofs.RowLists.{rows_length}
 use Rattle.amd_elements.proofs.RoundWords.{filter_few}
 use Rattle.amd_lists.proofs.Frames.{reads_elements, reads_variables}
@@ -43,56 +44,54 @@ front_once iw nv pe len me m = once_firsts (λ x. x == me) [] (flat_map (λ e. c
     ++ classes nv (variables_at iw pe len me m)) _
 
 -- each class of the front loses a word by the new element
-module _ {n me total : ℕ} {absorbed front : List ℕ} {iw nv pe e_len : List ℤ} {len : List ℕ} {free : ℕ} {iw' nv' pe' e_len' : List ℤ}
-    {len' : List ℕ} {free' : ℕ} (w w' : List ℕ) (y : Layout n iw pe e_len len free)
-    (b : Begins n me absorbed front total iw nv pe e_len len iw' nv' pe' e_len' len' free')
-    (counters : (e : ℕ) → num w' e ≡ cond (has absorbed e) 0 (num w e)) (apart : has front me ≡ false)
-    (touched : (i : ℕ) → has front i ≡ true → IsTouched me absorbed iw pe e_len len i) where
+module _ {n me total : ℕ} {absorbed front : List ℕ} {p v : Workspace} (y : Layout n p.iw p.pe p.e_len p.len p.free)
+    (b : Begins n me absorbed front total p v) (counters : (e : ℕ) → num v.w e ≡ cond (has absorbed e) 0 (num p.w e))
+    (apart : has front me ≡ false) (touched : (i : ℕ) → has front i ≡ true → IsTouched me absorbed p i) where
   pub else_me : (i : ℕ) → has front i ≡ true → i ≡ me → ⊥
   else_me i h q = clash {P = ⊥} h (ap (has front) q ∙ apart)
 
-  pub begun_reads : (i : ℕ) → has front i ≡ true → ReadsSame iw pe e_len len iw' pe' e_len' len' i
+  pub begun_reads : (i : ℕ) → has front i ≡ true → ReadsSame p.iw p.pe p.e_len p.len v.iw v.pe v.e_len v.len i
   begun_reads i h = b.same i (touched i h).stands (else_me i h) (touched i h).listed
 
-  pub begun_elements : (i : ℕ) → has front i ≡ true → elements_in iw' pe' e_len' i ≡ elements_in iw pe e_len i
-  begun_elements i h = reads_elements iw pe e_len len iw' pe' e_len' len' i (begun_reads i h) (y.parts i (touched i h).listed)
+  pub begun_elements : (i : ℕ) → has front i ≡ true → elements_in v.iw v.pe v.e_len i ≡ elements_in p.iw p.pe p.e_len i
+  begun_elements i h = reads_elements p.iw p.pe p.e_len p.len v.iw v.pe v.e_len v.len i (begun_reads i h) (y.parts i (touched i h).listed)
 
-  pub begun_variables : (i : ℕ) → has front i ≡ true → variables_in iw' pe' e_len' len' i ≡ variables_in iw pe e_len len i
-  begun_variables i h = reads_variables iw pe e_len len iw' pe' e_len' len' i (begun_reads i h) (y.parts i (touched i h).listed)
+  pub begun_variables : (i : ℕ) → has front i ≡ true → variables_in v.iw v.pe v.e_len v.len i ≡ variables_in p.iw p.pe p.e_len p.len i
+  begun_variables i h = reads_variables p.iw p.pe p.e_len p.len v.iw v.pe v.e_len v.len i (begun_reads i h) (y.parts i (touched i h).listed)
 
   -- it keeps its rows
-  pub begun_rows : (i : ℕ) → has front i ≡ true → size_of nv' i ≡ size_of nv i
-  begun_rows i h = b.sizes i ∙ cond-false (i == me) 0 (size_of nv i) (ne_eqb i me (else_me i h))
+  pub begun_rows : (i : ℕ) → has front i ≡ true → size_of v.nv i ≡ size_of p.nv i
+  begun_rows i h = b.sizes i ∙ cond-false (i == me) 0 (size_of p.nv i) (ne_eqb i me (else_me i h))
 
   -- the new element has no rows
-  me_inside : is_outside nv' me ≡ false
-  me_inside = let z : size_of nv' me ≡ 0 = b.sizes me ∙ cond-true (me == me) 0 (size_of nv me) (eq-eqb me me refl) in
-      ap (λ k. k && not (in_front nv' me)) (le-ltb 0 (size_of nv' me) (omega (arith, z)))
+  me_inside : is_outside v.nv me ≡ false
+  me_inside = let z : size_of v.nv me ≡ 0 = b.sizes me ∙ cond-true (me == me) 0 (size_of p.nv me) (eq-eqb me me refl) in
+      ap (λ k. k && not (in_front v.nv me)) (le-ltb 0 (size_of v.nv me) (omega (arith, z)))
 
   -- and what it absorbed does not stand
-  absorbed_ended : (e : ℕ) → has absorbed e ≡ true → is_kept w' e ≡ false
-  absorbed_ended e h = let z : num w' e ≡ 0 = counters e ∙ cond-true (has absorbed e) 0 (num w e) h in
-      le-ltb 0 (num w' e) (omega (arith, z))
+  absorbed_ended : (e : ℕ) → has absorbed e ≡ true → is_kept v.w e ≡ false
+  absorbed_ended e h = let z : num v.w e ≡ 0 = counters e ∙ cond-true (has absorbed e) 0 (num p.w e) h in
+      le-ltb 0 (num v.w e) (omega (arith, z))
 
-  pub begun_loses : (i : ℕ) → has front i ≡ true → LosesOne (is_kept w') (is_outside nv') iw' pe' e_len' len' i
+  pub begun_loses : (i : ℕ) → has front i ≡ true → LosesOne (is_kept v.w) (is_outside v.nv) v.iw v.pe v.e_len v.len i
   begun_loses i h =
       let t = touched i h in let parts = y.parts i t.listed in let same = (begun_reads i h).1 in
-      let es : List ℕ = elements_in iw pe e_len i in let vs : List ℕ = variables_in iw pe e_len len i in
-      let a = ap (λ xs. length (filter (is_kept w') xs)) (begun_elements i h) in
-      let c = ap (λ xs. length (filter (is_outside nv') xs)) (begun_variables i h) in
-      let le = rows_length iw (start pe i) (place (word e_len i)) in
-      let lv = rows_length iw (start pe i + place (word e_len i)) (num len i - place (word e_len i)) in
+      let es : List ℕ = elements_in p.iw p.pe p.e_len i in let vs : List ℕ = variables_in p.iw p.pe p.e_len p.len i in
+      let a = ap (λ xs. length (filter (is_kept v.w) xs)) (begun_elements i h) in
+      let c = ap (λ xs. length (filter (is_outside v.nv) xs)) (begun_variables i h) in
+      let le = rows_length p.iw (start p.pe i) (place (word p.e_len i)) in
+      let lv = rows_length p.iw (start p.pe i + place (word p.e_len i)) (num p.len i - place (word p.e_len i)) in
       elim t.touches [
-        | inl v ↦ (let d = filter_less (is_outside nv') vs me v me_inside in let f = filter_few (is_kept w') es in
+        | inl k ↦ (let d = filter_less (is_outside v.nv) vs me k me_inside in let f = filter_few (is_kept v.w) es in
             omega (arith, a, c, d, f, le, lv, parts, same))
-        | inr v ↦ (let d = filter_less (is_kept w') es v.0 v.2 (absorbed_ended v.0 v.1) in let f = filter_few (is_outside nv') vs in
+        | inr k ↦ (let d = filter_less (is_kept v.w) es k.0 k.2 (absorbed_ended k.0 k.1) in let f = filter_few (is_outside v.nv) vs in
             omega (arith, a, c, d, f, le, lv, parts, same))
       ]
 
   -- as many rows of each element are met
-  pub begun_met : (e : ℕ) → rows_met iw' pe' e_len' nv' front e ≡ rows_met iw pe e_len nv front e
+  pub begun_met : (e : ℕ) → rows_met v.iw v.pe v.e_len v.nv front e ≡ rows_met p.iw p.pe p.e_len p.nv front e
   begun_met e =
-      sum_named (λ i. cond (has (elements_in iw' pe' e_len' i) e) (size_of nv' i) 0)
-      (λ i. cond (has (elements_in iw pe e_len i) e) (size_of nv i) 0) front
-      (λ i h. ap (λ l. cond (has l e) (size_of nv' i) 0) (begun_elements i h)
-      ∙ ap (λ m. cond (has (elements_in iw pe e_len i) e) m 0) (begun_rows i h))
+      sum_named (λ i. cond (has (elements_in v.iw v.pe v.e_len i) e) (size_of v.nv i) 0)
+      (λ i. cond (has (elements_in p.iw p.pe p.e_len i) e) (size_of p.nv i) 0) front
+      (λ i h. ap (λ l. cond (has l e) (size_of v.nv i) 0) (begun_elements i h)
+      ∙ ap (λ m. cond (has (elements_in p.iw p.pe p.e_len i) e) m 0) (begun_rows i h))

@@ -2,6 +2,7 @@
 use Rattle.std.specs.Prelude.{ℕ, ℤ, true, false, List, ◌≡◌, ◌<◌, ◌≤◌, ◌+◌, ◌⊎◌, length}
 use Rattle.amd_words.specs.Words.{num, is_place, word, start}
 use Rattle.amd_lists.specs.Layout.{has_list, end_of, live_words, Layout, ReadsSame}
+use Rattle.amd_lists.specs.Workspaces.{Workspace}
 
 -- lists lie below the free end and do not overlap, and no word below it is a mark
 pub record Spaced (iw pe : List ℤ) (len : List ℕ) (free : ℕ) : Type 0 where
@@ -33,13 +34,13 @@ pub record Moves (iw iw' : List ℤ) (from to count : ℕ) : Type 0 where
   pub below : (k : ℕ) → k < to → word iw' k ≡ word iw k
   pub above : (k : ℕ) → to + count ≤ k → word iw' k ≡ word iw k
 
--- the lists stand with no gap between them, and each reads as before
-pub record Packs (n : ℕ) (iw pe e_len : List ℤ) (len : List ℕ) (free : ℕ) (iw' pe' : List ℤ) (free' : ℕ) : Type 0 where
-  pub long : length iw' ≡ length iw
-  pub p_long : length pe' ≡ length pe
-  pub listed : (j : ℕ) → has_list pe' len j ≡ has_list pe len j
-  pub reads : (j : ℕ) → has_list pe len j ≡ true → ReadsSame iw pe e_len len iw' pe' e_len len j
-  pub others : (j : ℕ) → has_list pe len j ≡ false → word pe' j ≡ word pe j
-  pub laid : Layout n iw' pe' e_len len free'
-  pub count : free' ≡ live_words n pe len
-  pub lower : free' ≤ free
+-- from the workspace p to v the lists moved so that no gap is between them, and each reads as before
+pub record Packs (n : ℕ) (p v : Workspace) : Type 0 where
+  pub long : length v.iw ≡ length p.iw
+  pub p_long : length v.pe ≡ length p.pe
+  pub listed : (j : ℕ) → has_list v.pe p.len j ≡ has_list p.pe p.len j
+  pub reads : (j : ℕ) → has_list p.pe p.len j ≡ true → ReadsSame p.iw p.pe p.e_len p.len v.iw v.pe p.e_len p.len j
+  pub others : (j : ℕ) → has_list p.pe p.len j ≡ false → word v.pe j ≡ word p.pe j
+  pub laid : Layout n v.iw v.pe p.e_len p.len v.free
+  pub count : v.free ≡ live_words n p.pe p.len
+  pub lower : v.free ≤ p.free

@@ -6,43 +6,43 @@ use Rattle.amd_words.specs.Words.{num, word, is_place, start, size_of, in_front,
 use Rattle.amd_lists.specs.Lengths.{AreWide}
 use Rattle.amd_lists.specs.Spans.{IsSpan}
 use Rattle.amd_lists.specs.Layout.{has_list, elements_in, Layout}
+use Rattle.amd_lists.specs.Workspaces.{Workspace}
 use Rattle.amd_elements.specs.Element.{grown, front_of, ListsLaid}
 use Rattle.amd_elements.specs.Compaction.{Spaced}
-use Rattle.amd_elements.specs.Pivots.{built_front, HasElements}
+use Rattle.amd_elements.specs.Pivots.{own_front, built_front, HasElements}
 
 -- the list of the class me is one of those laid in the workspace, and no class is marked
-pub record IsPivot (me : ℕ) (iw nv pe e_len : List ℤ) (len : List ℕ) (free : ℕ) : Type 0 where
-  pub lengths : (length pe ≡ length nv) × (length e_len ≡ length nv) × (length len ≡ length nv)
-  pub end : free ≤ length iw
-  pub laid : Layout (length nv) iw pe e_len len free
-  pub row : (me < length nv) × (0 < size_of nv me)
-  pub listed : has_list pe len me ≡ true
-  pub clear : (j : ℕ) → in_front nv j ≡ false
+pub record IsPivot (me : ℕ) (p : Workspace) : Type 0 where
+  pub lengths : (length p.pe ≡ length p.nv) × (length p.e_len ≡ length p.nv) × (length p.len ≡ length p.nv)
+  pub end : p.free ≤ length p.iw
+  pub laid : Layout (length p.nv) p.iw p.pe p.e_len p.len p.free
+  pub row : (me < length p.nv) × (0 < size_of p.nv me)
+  pub listed : has_list p.pe p.len me ≡ true
+  pub clear : (j : ℕ) → in_front p.nv j ≡ false
 
 -- a pivot that lists no element, whose front is small enough for a mark
-pub record CanBeginOwn (most_place me : ℕ) (iw nv pe e_len : List ℤ) (len : List ℕ) (free : ℕ) : Type 0 where
-  pub pivot : IsPivot me iw nv pe e_len len free
-  pub count : word e_len me ≡ pos 0
-  pub few : sum_by (size_of nv) (front_of iw nv pe len me 0) + 2 ≤ most_place
+pub record CanBeginOwn (most_place me : ℕ) (p : Workspace) : Type 0 where
+  pub pivot : IsPivot me p
+  pub count : word p.e_len me ≡ pos 0
+  pub few : sum_by (size_of p.nv) (own_front p me) + 2 ≤ most_place
 
 -- a pivot that may list elements, whose new element may have room behind all lists
-pub record CanFit (most_place me : ℕ) (iw nv pe e_len : List ℤ) (len : List ℕ) (free : ℕ) : Type 0 where
-  pub pivot : IsPivot me iw nv pe e_len len free
-  pub wide : AreWide most_place (length nv) iw
-  pub count : is_place (word e_len me) ≡ true
-  pub elements : (e : ℕ) → has (elements_in iw pe e_len me) e ≡ true → has_list pe len e ≡ true
+pub record CanFit (most_place me : ℕ) (p : Workspace) : Type 0 where
+  pub pivot : IsPivot me p
+  pub wide : AreWide most_place (length p.nv) p.iw
+  pub count : is_place (word p.e_len me) ≡ true
+  pub elements : (e : ℕ) → has (elements_in p.iw p.pe p.e_len me) e ≡ true → has_list p.pe p.len e ≡ true
 
 -- a pivot that lists elements, whose new element has room behind all lists
-pub record CanMakeElement (most_place most_cell me : ℕ) (iw nv pe e_len : List ℤ) (len w : List ℕ) (free : ℕ) : Type 0
-  where
-    pub pivot : IsPivot me iw nv pe e_len len free
-    pub counters : length w ≡ length nv
-    pub wide : AreWide most_place (length nv) iw
-    pub cells : length iw ≤ most_cell
-    pub count : is_place (word e_len me) ≡ true
-    pub elements : HasElements iw pe e_len len me
-    pub fits : free + length (built_front iw nv pe e_len len me) ≤ length iw
-    pub few : sum_by (size_of nv) (built_front iw nv pe e_len len me) + 2 ≤ most_place
+pub record CanMakeElement (most_place most_cell me : ℕ) (p : Workspace) : Type 0 where
+  pub pivot : IsPivot me p
+  pub counters : length p.w ≡ length p.nv
+  pub wide : AreWide most_place (length p.nv) p.iw
+  pub cells : length p.iw ≤ most_cell
+  pub count : is_place (word p.e_len me) ≡ true
+  pub elements : HasElements me p
+  pub fits : p.free + length (built_front p me) ≤ length p.iw
+  pub few : sum_by (size_of p.nv) (built_front p me) + 2 ≤ most_place
 
 -- the lists around the class me, which lists n_elements elements, stand before `free`
 pub record HasListsAround (me n_elements : ℕ) (iw nv pe : List ℤ) (len : List ℕ) (free : ℕ) : Type 0 where

@@ -5,6 +5,7 @@ use Rattle.amd_model.specs.Quotient.{has}
 use Rattle.amd_round_laws.specs.Rounds.{firsts}
 use Rattle.amd_words.specs.Words.{word, size_of, in_front, classes}
 use Rattle.amd_lists.specs.Layout.{has_list, Layout, ReadsSame}
+use Rattle.amd_lists.specs.Workspaces.{Workspace}
 use Rattle.amd_elements.specs.Element.{elements_at, variables_at, members_at}
 
 -- some classes were met: they are in the front now, and each that was not in the front before took one place
@@ -40,12 +41,12 @@ abbrev pub named_around : List ℤ → List ℤ → List ℕ → ℕ → ℕ →
 named_around iw pe len pivot n_elements = flat_map (members_at iw pe len) (elements_at iw pe pivot n_elements)
     ++ variables_at iw pe len pivot n_elements
 
--- the lists of a workspace may have moved, with their free end, and each reads as before
-pub record Rooms (n : ℕ) (iw pe e_len : List ℤ) (len : List ℕ) (free : ℕ) (iw' pe' : List ℤ) (free' : ℕ) : Type 0 where
-  pub long : length iw' ≡ length iw
-  pub p_long : length pe' ≡ length pe
-  pub listed : (j : ℕ) → has_list pe' len j ≡ has_list pe len j
-  pub reads : (j : ℕ) → has_list pe len j ≡ true → ReadsSame iw pe e_len len iw' pe' e_len len j
-  pub others : (j : ℕ) → has_list pe len j ≡ false → word pe' j ≡ word pe j
-  pub laid : Layout n iw' pe' e_len len free'
-  pub lower : free' ≤ free
+-- from the workspace p to v the lists may have moved, with their free end, and each reads as before
+pub record Rooms (n : ℕ) (p v : Workspace) : Type 0 where
+  pub long : length v.iw ≡ length p.iw
+  pub p_long : length v.pe ≡ length p.pe
+  pub listed : (j : ℕ) → has_list v.pe p.len j ≡ has_list p.pe p.len j
+  pub reads : (j : ℕ) → has_list p.pe p.len j ≡ true → ReadsSame p.iw p.pe p.e_len p.len v.iw v.pe p.e_len p.len j
+  pub others : (j : ℕ) → has_list p.pe p.len j ≡ false → word v.pe j ≡ word p.pe j
+  pub laid : Layout n v.iw v.pe p.e_len p.len v.free
+  pub lower : v.free ≤ p.free

@@ -7,14 +7,14 @@ ghost use Rattle.amd_words.specs.Words.{rows, word};
 ghost use Rattle.amd_lists.specs.Spans.{IsSpan};
 ghost use Rattle.amd_elements.specs.Premises.{HasListsAround};
 ghost use Rattle.amd_elements.specs.Room.{named_around};
-ghost use Rattle.amd_elements.specs.Visiting.{CanTake, Takes, Visit};
+ghost use Rattle.amd_elements.specs.Visiting.{CanTake, Takes, Visit, visited};
 
 use amd_words::words::named;
 use amd_words::{Cell, Signed, Unsigned, Word, cell_at};
 
 /// What takes the words of lists that stand before a place `end`, one list after another. What holds of it speaks of
-/// `end`, of the rows that all lists name and those that were taken so far, and of the words, the sizes and the visitor
-/// at first and now.
+/// `end`, of the rows that all lists name and those that were taken so far, and of the visitor at first and now, with
+/// the words and the sizes before it.
 pub trait ListVisitor {
     ghost holds: { Visit Self };
 
@@ -29,8 +29,9 @@ pub trait ListVisitor {
     )
         requires span { IsSpan (length nv.old) iw.old from count }
         requires before { from + count ≤ end }
-        requires held { CanTake holds end (rows iw.old from count) iw.old nv.old self.old }
-        ensures held { Takes holds end (rows iw.old from count) iw.old nv.old self.old iw.new nv.new self.new }
+        requires held { CanTake holds end (rows iw.old from count) (visited iw.old nv.old self.old) }
+        ensures held { Takes holds end (rows iw.old from count) (visited iw.old nv.old self.old)
+            (visited iw.new nv.new self.new) }
         ensures words { (k : ℕ) → k < end → word iw.new k ≡ word iw.old k }
         ensures lengths { (length iw.new ≡ length iw.old) × (length nv.new ≡ length nv.old) };
 }
@@ -50,10 +51,11 @@ pub fn visit_around<S: Signed, P: Signed, U: Unsigned, V: ListVisitor>(
     requires lists { HasListsAround pivot n_elements iw.old nv.old pe.now len.now end }
     requires pivot { pivot < length nv.old }
     requires end { end ≤ length iw.old }
-    requires held { V.holds end (named_around iw.old pe.now len.now pivot n_elements) [] iw.old nv.old visitor.old
-        iw.old nv.old visitor.old }
+    requires held { V.holds end (named_around iw.old pe.now len.now pivot n_elements) []
+        (visited iw.old nv.old visitor.old) (visited iw.old nv.old visitor.old) }
     ensures held { V.holds end (named_around iw.old pe.now len.now pivot n_elements)
-        (named_around iw.old pe.now len.now pivot n_elements) iw.old nv.old visitor.old iw.new nv.new visitor.new }
+        (named_around iw.old pe.now len.now pivot n_elements) (visited iw.old nv.old visitor.old)
+        (visited iw.new nv.new visitor.new) }
     ensures lengths { (length iw.new ≡ length iw.old) × (length nv.new ≡ length nv.old) }
 {
     let from = named(pe, pivot);

@@ -6,18 +6,19 @@ ghost use Rattle.std.specs.Prelude.{◌<◌, ◌≡◌, length, true};
 ghost use Rattle.amd_words.specs.Words.{in_front, size_of};
 ghost use Rattle.amd_elements.specs.Effects.{BeginsBuilt, BeginsOwn, TakesPivot};
 ghost use Rattle.amd_elements.specs.Premises.{CanBeginOwn, CanMakeElement};
+ghost use Rattle.amd_lists.specs.Workspaces.{KeepsLoans, workspace_of};
 
 use crate::element::build;
+use amd_lists::lent::named_lent;
 use crate::making::{absorb_own, settle};
 use crate::own_place::make_own;
-use amd_words::words::{named, put_row, size_inside};
-use amd_words::{Cell, Signed, Unsigned, Word};
+use amd_lists::work::Work;
+use amd_words::words::{put_row, size_inside};
+use amd_words::{Signed, Unsigned, Word};
 
 /// What the beginning of an element returns.
 #[derive(Drop)]
 pub struct Begun {
-    /// No list has a word from here on.
-    pub free: usize,
     /// The number of rows of the pivot.
     pub block: usize,
     /// The number of rows of the front.
@@ -36,51 +37,37 @@ fn take_pivot<S: Signed>(nv: &mut [Word<S>], me: usize) -> usize
     rows
 }
 
-/// Begins the element of a pivot that lists no element, in the place of its list. `pe` is only read.
-#[tactic(none)]
+/// Begins the element of a pivot that lists no element, in the place of its list.
 pub fn begin_own<S: Signed, P: Signed, U: Unsigned>(
-    iw: &mut [Word<S>],
-    nv: &mut [Word<S>],
-    e_len: &mut [Word<P>],
-    len: &mut [Cell<U>],
-    pe: &mut [Word<P>],
+    work: &mut Work<'_, '_, S, P, U>,
     me: usize,
-    free: usize,
 ) -> Begun
-    requires { CanBeginOwn P.MOST me iw.old nv.old pe.old e_len.old len.old free }
-    ensures { BeginsOwn me iw.old nv.old pe.old e_len.old len.old free iw.new nv.new pe.new e_len.new len.new result }
+    requires { CanBeginOwn P.MOST me (workspace_of work.old) }
+    ensures begins { BeginsOwn me (workspace_of work.old) (workspace_of work.new) result }
+    ensures loans { KeepsLoans work.old work.new }
 {
-    let (_, total) = make_own(iw, nv, e_len, len, pe, me, free);
-    let block = take_pivot(nv, me);
-    Begun { free, block, total }
+    let (_, total) = make_own(work, me);
+    let block = take_pivot(work.nv, me);
+    Begun { block, total }
 }
 
-/// Begins the element of a pivot that lists elements, behind all lists, where there is room for it. The elements that
-/// it lists end.
-#[tactic(none)]
+/// Begins the element of a pivot that lists elements, behind all lists, where there is room for it, and moves the free
+/// end behind it. The elements that it lists end.
 pub fn begin_built<S: Signed, P: Signed, U: Unsigned>(
-    iw: &mut [Word<S>],
-    nv: &mut [Word<S>],
-    pe: &mut [Word<P>],
-    e_len: &mut [Word<P>],
-    len: &mut [Cell<U>],
-    w: &mut [Cell<U>],
+    work: &mut Work<'_, '_, S, P, U>,
     me: usize,
-    free: usize,
 ) -> Begun
-    requires { CanMakeElement P.MOST U.MOST me iw.old nv.old pe.old e_len.old len.old w.old free }
-    ensures { BeginsBuilt me iw.old nv.old pe.old e_len.old len.old w.old free iw.new nv.new pe.new e_len.new len.new
-        w.new result }
+    requires { CanMakeElement P.MOST U.MOST me (workspace_of work.old) }
+    ensures begins { BeginsBuilt me (workspace_of work.old) (workspace_of work.new) result }
+    ensures loans { KeepsLoans work.old work.new }
 {
-    let from = named(pe, me);
-    let n_elements = named(e_len, me);
-    let (end, total) = build(iw, nv, pe, len, me, n_elements, free);
-    absorb_own(iw, pe, w, from, n_elements, me);
-    settle(pe, e_len, len, me, free, end, total);
-    let block = take_pivot(nv, me);
-    Begun {
-        free: end,
-        block,
-        total,
-    }
+    let from = named_lent(work.pe, me);
+    let n_elements = named_lent(work.e_len, me);
+    let free = work.free;
+    let (end, total) = build(work.iw, work.nv, work.pe, work.len, me, n_elements, free);
+    absorb_own(work.iw, work.pe, work.w, from, n_elements, me);
+    settle(work.pe, work.e_len, work.len, me, free, end, total);
+    work.free = end;
+    let block = take_pivot(work.nv, me);
+    Begun { block, total }
 }

@@ -1,6 +1,7 @@
 // The list of a new element, built at the free end of the workspace from the lists of its pivot and of the elements
 // that the pivot lists. All other lists stay as they are. Source: Amestoy, Davis and Duff 1996 (element formation).
 
+ghost use Rattle.std.specs.Prelude.{◌≡◌};
 ghost use Rattle.amd_words.specs.Words.{classes, rows};
 ghost use Rattle.amd_elements.specs.Element.{Builds, Gathers, IsGathering, front_of};
 ghost use Rattle.amd_elements.specs.Premises.{CanBuild, CanGather};
@@ -48,8 +49,8 @@ struct Gathering {
 }
 
 impl ListVisitor for Gathering {
-    ghost holds = { λ free all taken words sizes first iw nv g. IsGathering free all taken words sizes iw nv g.end
-        g.total };
+    ghost holds = { λ free all taken first now. IsGathering free all taken first.words first.sizes now.words now.sizes
+        now.visitor.end now.visitor.total };
 
     fn take<S: Signed>(
         &mut self,
@@ -65,19 +66,20 @@ impl ListVisitor for Gathering {
 
 /// Builds the list of the pivot's new element behind the lists: the classes of the pivot's elements, element after
 /// element, and then those of its variables, each at its first occurrence and without the pivot. They and the pivot are
-/// in the front then. Returns the new end, and the number of rows of the front.
+/// in the front then. Returns the new end, and the number of rows of the front. `pe` and `len` are only read.
 pub fn build<S: Signed, P: Signed, U: Unsigned>(
     iw: &mut [Word<S>],
     nv: &mut [Word<S>],
-    pe: &[Word<P>],
-    len: &[Cell<U>],
+    pe: &mut [Word<P>],
+    len: &mut [Cell<U>],
     pivot: usize,
     n_elements: usize,
     free: usize,
 ) -> (usize, usize)
-    requires { CanBuild pivot n_elements iw.old nv.old pe.now len.now free }
-    ensures { Builds pivot (front_of iw.old nv.old pe.now len.now pivot n_elements) iw.old nv.old free iw.new nv.new
-        result.0 result.1 }
+    requires { CanBuild pivot n_elements iw.old nv.old pe.old len.old free }
+    ensures builds { Builds pivot (front_of iw.old nv.old pe.old len.old pivot n_elements) iw.old nv.old free iw.new
+        nv.new result.0 result.1 }
+    ensures same { (pe.new ≡ pe.old) × (len.new ≡ len.old) }
 {
     enter(nv, pivot);
     let mut list = Gathering {

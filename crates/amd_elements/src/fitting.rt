@@ -10,8 +10,11 @@ ghost use Rattle.amd_elements.specs.Element.{front_of};
 ghost use Rattle.amd_elements.specs.Premises.{CanFit, IsAround};
 ghost use Rattle.amd_elements.specs.Pivots.{built_front};
 ghost use Rattle.amd_elements.specs.Room.{IsMeeting, IsRemainder, IsUnmarking, Meets, Unmarks};
+ghost use Rattle.amd_lists.specs.Workspaces.{KeepsLoans, workspace_of};
 
 use crate::around::{ListVisitor, visit_around};
+use amd_lists::lent::named_lent;
+use amd_lists::work::Work;
 use amd_words::words::{enter, is_marked, is_open, leave, named};
 use amd_words::{Cell, Signed, Unsigned, Word};
 
@@ -54,7 +57,8 @@ struct Meeting {
 }
 
 impl ListVisitor for Meeting {
-    ghost holds = { λ end all taken words sizes first iw nv m. IsMeeting taken words sizes first.left iw nv m.left };
+    ghost holds = { λ end all taken first now. IsMeeting taken first.words first.sizes first.visitor.left now.words
+        now.sizes now.visitor.left };
 
     fn take<S: Signed>(
         &mut self,
@@ -94,7 +98,7 @@ fn unmark_all<S: Signed>(iw: &[Word<S>], nv: &mut [Word<S>], from: usize, count:
 struct Unmarking {}
 
 impl ListVisitor for Unmarking {
-    ghost holds = { λ end all taken words sizes first iw nv u. IsUnmarking taken words sizes iw nv };
+    ghost holds = { λ end all taken first now. IsUnmarking taken first.words first.sizes now.words now.sizes };
 
     fn take<S: Signed>(
         &mut self,
@@ -115,7 +119,8 @@ struct Remainder {
 }
 
 impl ListVisitor for Remainder {
-    ghost holds = { λ end all taken words sizes first iw nv r. IsRemainder taken words sizes first.left iw nv r.left };
+    ghost holds = { λ end all taken first now. IsRemainder taken first.words first.sizes first.visitor.left now.words
+        now.sizes now.visitor.left };
 
     fn take<S: Signed>(
         &mut self,
@@ -159,17 +164,17 @@ fn room_beyond_front<S: Signed, P: Signed, U: Unsigned>(
 fn fits<S: Signed, P: Signed, U: Unsigned>(
     iw: &mut [Word<S>],
     nv: &mut [Word<S>],
-    pe: &[Word<P>],
-    len: &[Cell<U>],
+    pe: &mut [Word<P>],
+    len: &mut [Cell<U>],
     pivot: usize,
     n_elements: usize,
     free: usize,
 ) -> bool
     requires end { (free ≤ length iw.old) × (length iw.old < 2 ^ 63) }
-    requires around { IsAround pivot n_elements iw.old nv.old pe.now len.now free }
-    ensures fits { result ≡ nat_le (free + length (front_of iw.old nv.old pe.now len.now pivot n_elements))
+    requires around { IsAround pivot n_elements iw.old nv.old pe.old len.old free }
+    ensures fits { result ≡ nat_le (free + length (front_of iw.old nv.old pe.old len.old pivot n_elements))
         (length iw.old) }
-    ensures same { (iw.new ≡ iw.old) × (nv.new ≡ nv.old) }
+    ensures same { (iw.new ≡ iw.old) × (nv.new ≡ nv.old) × (pe.new ≡ pe.old) × (len.new ≡ len.old) }
 {
     let room = iw.len() - free + 1;
     let mut words = Remainder { left: room };
@@ -177,22 +182,18 @@ fn fits<S: Signed, P: Signed, U: Unsigned>(
     words.left > 0 || room_beyond_front(iw, nv, pe, len, pivot, n_elements, free, room) > 0
 }
 
-/// Whether the list of the new element of the pivot `me` fits behind `free`. All that is lent is only read.
+/// Whether the list of the new element of the pivot `me` fits behind all lists. The workspace is as before then.
 pub fn has_room<S: Signed, P: Signed, U: Unsigned>(
-    iw: &mut [Word<S>],
-    nv: &mut [Word<S>],
-    pe: &mut [Word<P>],
-    e_len: &mut [Word<P>],
-    len: &mut [Cell<U>],
+    work: &mut Work<'_, '_, S, P, U>,
     me: usize,
-    free: usize,
 ) -> bool
-    requires { CanFit P.MOST me iw.old nv.old pe.old e_len.old len.old free }
-    ensures fits { result ≡ nat_le (free + length (built_front iw.old nv.old pe.old e_len.old len.old me))
-        (length iw.old) }
-    ensures same { (iw.new ≡ iw.old) × (nv.new ≡ nv.old) × (pe.new ≡ pe.old) × (e_len.new ≡ e_len.old) ×
-        (len.new ≡ len.old) }
+    requires { CanFit P.MOST me (workspace_of work.old) }
+    ensures fits { result ≡ nat_le (work.old.free + length (built_front (workspace_of work.old) me))
+        (length work.old.iw.now) }
+    ensures same { workspace_of work.new ≡ workspace_of work.old }
+    ensures loans { KeepsLoans work.old work.new }
 {
-    let n_elements = named(e_len, me);
-    fits(iw, nv, pe, len, me, n_elements, free)
+    let n_elements = named_lent(work.e_len, me);
+    let free = work.free;
+    fits(work.iw, work.nv, work.pe, work.len, me, n_elements, free)
 }

@@ -9,17 +9,18 @@ ghost use Rattle.amd_elements.specs.Premises.{CanAbsorb, CanSettle};
 use amd_words::words::{named, put_flip, put_row};
 use amd_words::{Cell, Signed, Unsigned, Word, put_cell};
 
-/// Ends the elements that some words name: `me` absorbs them.
+/// Ends the elements that some words name: `me` absorbs them. `iw` is only read.
 pub fn absorb_own<S: Signed, P: Signed, U: Unsigned>(
-    iw: &[Word<S>],
+    iw: &mut [Word<S>],
     pe: &mut [Word<P>],
     w: &mut [Cell<U>],
     from: usize,
     count: usize,
     me: usize,
 )
-    requires { CanAbsorb P.MOST me iw.now pe.old w.old from count }
-    ensures { Absorbs me iw.now from count pe.old w.old pe.new w.new }
+    requires { CanAbsorb P.MOST me iw.old pe.old w.old from count }
+    ensures absorbs { Absorbs me iw.old from count pe.old w.old pe.new w.new }
+    ensures same { iw.new ≡ iw.old }
 {
     for p in from..from + count {
         let e = named(iw, p);

@@ -1,38 +1,43 @@
 // The list of a new element whose pivot lists no element: it is made in the place of the pivot's list, so it needs no
 // room. Source: Amestoy, Davis and Duff 1996 (element formation in place).
 
-ghost use Rattle.std.specs.Prelude.{[], length};
+ghost use Rattle.std.specs.Prelude.{[], ◌≡◌, length};
 ghost use Rattle.amd_words.specs.Words.{start};
-ghost use Rattle.amd_elements.specs.Element.{Builds, front_of};
+ghost use Rattle.amd_elements.specs.Element.{Builds};
 ghost use Rattle.amd_elements.specs.Making.{Makes};
+ghost use Rattle.amd_elements.specs.Pivots.{own_front};
 ghost use Rattle.amd_elements.specs.Premises.{CanBeginOwn};
+ghost use Rattle.amd_lists.specs.Workspaces.{KeepsLoans, workspace_of};
 
 use crate::element::gather;
-use amd_words::words::{enter, named, put_flip};
-use amd_words::{Cell, Signed, Unsigned, Word, cell_at, put_cell};
+use amd_lists::lent::list_lent;
+use amd_lists::work::Work;
+use amd_words::words::{enter, put_flip};
+use amd_words::{Signed, Unsigned, put_cell};
 
 /// Makes the pivot `me`, which lists no element, an element in its own place: the classes that it lists. Returns where
 /// the list ends, and its number of rows.
 pub fn make_own<S: Signed, P: Signed, U: Unsigned>(
-    iw: &mut [Word<S>],
-    nv: &mut [Word<S>],
-    e_len: &mut [Word<P>],
-    len: &mut [Cell<U>],
-    pe: &[Word<P>],
+    work: &mut Work<'_, '_, S, P, U>,
     me: usize,
-    free: usize,
 ) -> (usize, usize)
-    requires { CanBeginOwn P.MOST me iw.old nv.old pe.now e_len.old len.old free }
-    ensures builds { Builds me (front_of iw.old nv.old pe.now len.old me 0) iw.old nv.old (start pe.now me) iw.new
-        nv.new result.0 result.1 }
-    ensures makes { Makes (length nv.old) me [] (front_of iw.old nv.old pe.now len.old me 0) result.1 iw.old pe.now
-        e_len.old len.old free iw.new pe.now e_len.new len.new free }
+    requires { CanBeginOwn P.MOST me (workspace_of work.old) }
+    ensures builds { Builds me (own_front (workspace_of work.old) me) work.old.iw.now work.old.nv.now
+        (start work.old.pe.now me) work.new.iw.now work.new.nv.now result.0 result.1 }
+    ensures makes { Makes (length work.old.nv.now) me [] (own_front (workspace_of work.old) me) result.1
+        (workspace_of work.old) (workspace_of work.new) }
+    ensures same { workspace_of work.new ≡ record (workspace_of work.old) {
+      iw = work.new.iw.now;
+      nv = work.new.nv.now;
+      e_len = work.new.e_len.now;
+      len = work.new.len.now;
+    } }
+    ensures loans { KeepsLoans work.old work.new }
 {
-    let from = named(pe, me);
-    let count = cell_at(len, me);
-    enter(nv, me);
-    let (end, total) = gather(iw, nv, from, count, from, from, 0);
-    put_flip(e_len, me, total);
-    put_cell(len, me, end - from);
+    let (from, count) = list_lent(work.pe, work.len, me);
+    enter(work.nv, me);
+    let (end, total) = gather(work.iw, work.nv, from, count, from, from, 0);
+    put_flip(work.e_len, me, total);
+    put_cell(work.len, me, end - from);
     (end, total)
 }

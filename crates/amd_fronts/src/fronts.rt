@@ -10,7 +10,7 @@ ghost use Rattle.amd_lists.specs.Workspaces.{KeepsLoans, workspace_of};
 ghost use Rattle.amd_fronts.specs.Effects.{RenewsAllClasses, RenewsClass, RenewsOrRetires, Retires};
 ghost use Rattle.amd_fronts.specs.Premises.{CanRenewAll, CanRenewClass, CanRenewOrRetire, CanRetire};
 
-use crate::lent::{list_lent, named_lent};
+use amd_lists::lent::{list_lent, named_lent};
 use amd_lists::renewal::renew_list;
 use amd_lists::work::Work;
 use amd_words::sides::put_last;

@@ -4,6 +4,5 @@
 #![tactic(auto)]
 
 pub mod fronts;
-pub mod lent;
 pub mod outside;
 pub mod turning;

@@ -11,7 +11,7 @@ ghost use Rattle.amd_fronts.specs.Effects.{CountsClass, CountsOutside, RenewsFla
 ghost use Rattle.amd_fronts.specs.Premises.{CanCountClass, CanCountFront, CanRenewFlag, CanTouch, CanTouchAll};
 ghost use Rattle.amd_fronts.specs.Tallies.{front_at, tally_of, touched_in};
 
-use crate::lent::{list_lent, named_lent};
+use amd_lists::lent::{list_lent, named_lent};
 use amd_lists::chains::take_out;
 use amd_lists::work::Work;
 use amd_words::sides::Sides;

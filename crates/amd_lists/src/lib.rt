@@ -4,5 +4,6 @@
 #![tactic(auto)]
 
 pub mod chains;
+pub mod lent;
 pub mod renewal;
 pub mod work;

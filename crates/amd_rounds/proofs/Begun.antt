@@ -9,12 +9,14 @@ use Rattle.amd_model.specs.Quotient.{QuotientGraph, has, Once}
 use Rattle.amd_round_laws.proofs.Lists.Named.{filter_named, sum_named}
 use Rattle.amd_words.specs.Words.{num, word, place, is_place, size_of}
 use Rattle.amd_lists.specs.Layout.{rows_met}
-use Rattle.amd_elements.specs.Element.{front_of}
+use Rattle.amd_elements.specs.Pivots.{built_front}
 use Rattle.amd_lists.specs.Layout.{elements_in, ReadsSame}
 use Rattle.amd_elements.specs.Making.{IsTouched}
 use Rattle.amd_elements.specs.Beginning.{Begins}
 use Rattle.amd_lists.specs.Renewal.{is_kept}
 use Rattle.amd_fronts.specs.Turning.{IsTurning}
+use Rattle.amd_elements.proofs.Beginnings.{begins_moved}
+use Rattle.amd_elements.proofs.MakingRoom.{rooms_stay}
 use Rattle.amd_elements.proofs.Touching.{else_me, begun_elements, begun_rows, begun_loses, begun_met, front_apart, front_once}
 use Rattle.amd_lists.specs.Workspaces.{Workspace}
 use Rattle.amd_rounds.specs.Keeps.{Stands, by_bound}
@@ -82,11 +84,11 @@ module _ (g : Graph) (dense : ℕ → Bool) (nzaat : ℕ) (p : Workspace) (t : Q
   absorbed = elements_in p.iw p.pe p.e_len c
 
   abbrev front : List ℕ
-  front = front_of p.iw p.nv p.pe p.len c (place (word p.e_len c))
+  front = built_front p c
 
-  pub begins_front : Begins g.size c absorbed front total p.iw p.nv p.pe p.e_len p.len p2.iw p2.nv p2.pe p2.e_len p2.len p2.free
-  begins_front = subst (λ l. Begins g.size c absorbed l total p.iw p.nv p.pe p.e_len p.len p2.iw p2.nv p2.pe p2.e_len p2.len p2.free)
-      begun.front_is begun.begins
+  pub begins_front : Begins g.size c absorbed front total p p2
+  begins_front = begins_moved (rooms_stay st.laid.laid)
+      (subst (λ l. Begins g.size c absorbed l total chosen p2) begun.front_is begun.begins)
 
   pub front_is : front_at p2 c ≡ front
   front_is = begins_front.list
@@ -103,7 +105,7 @@ module _ (g : Graph) (dense : ℕ → Bool) (nzaat : ℕ) (p : Workspace) (t : Q
   pub apart : has front c ≡ false
   apart = front_apart p.iw p.nv p.pe p.len c (place (word p.e_len c))
 
-  pub touched : (i : ℕ) → has front i ≡ true → IsTouched c absorbed p.iw p.pe p.e_len p.len i
+  pub touched : (i : ℕ) → has front i ≡ true → IsTouched c absorbed p i
   touched = standing.touched g dense nzaat p t s st c pivot_placed
 
   pub front_placed : (i : ℕ) → has front i ≡ true → has t.placed i ≡ true
@@ -111,10 +113,10 @@ module _ (g : Graph) (dense : ℕ → Bool) (nzaat : ℕ) (p : Workspace) (t : Q
 
   -- what a class of the front lists is as it was
   pub elements_stay : (i : ℕ) → has front i ≡ true → elements_in p2.iw p2.pe p2.e_len i ≡ elements_in p.iw p.pe p.e_len i
-  elements_stay = begun_elements p.w p2.w st.laid.laid begins_front counters_are apart touched
+  elements_stay = begun_elements st.laid.laid begins_front counters_are apart touched
 
   pub rows_stay : (i : ℕ) → has front i ≡ true → size_of p2.nv i ≡ size_of p.nv i
-  rows_stay = begun_rows p.w p2.w st.laid.laid begins_front counters_are apart touched
+  rows_stay = begun_rows st.laid.laid begins_front counters_are apart touched
 
   pub has_front : HasFront g.size c p2
   has_front = record {
@@ -130,7 +132,7 @@ module _ (g : Graph) (dense : ℕ → Bool) (nzaat : ℕ) (p : Workspace) (t : Q
   front_turning : (i : ℕ) → has front i ≡ true → IsTurning g.size c p2 i
   front_turning i h =
       let k = front_placed i h in let o = touched i h in
-      let ne = else_me p.w p2.w st.laid.laid begins_front counters_are apart touched i h in record {
+      let ne = else_me st.laid.laid begins_front counters_are apart touched i h in record {
         listed = begins_front.listed i o.stands ne ∙ o.listed;
         counts = ap is_place (begins_front.counts i ne) ∙ o.counts;
         once = subst Once (sym (elements_stay i h)) (standing.elements_once g dense nzaat p t s st i k);
@@ -138,7 +140,7 @@ module _ (g : Graph) (dense : ℕ → Bool) (nzaat : ℕ) (p : Workspace) (t : Q
         marked = begins_front.marks i ∙ h;
         bound = let a = standing.bound_small g dense nzaat p t s st i k in let b : num p.degree i ≡ t.bound i = st.view.keeps.bound i k in
             let d = ap (λ l. num l i) bounds_stay in omega (arith, a, b, d);
-        loses = begun_loses p.w p2.w st.laid.laid begins_front counters_are apart touched i h;
+        loses = begun_loses st.laid.laid begins_front counters_are apart touched i h;
         apart = λ e f. ap (λ l. has l e) (elements_stay i h) ∙ standing.element_apart g dense nzaat p t s st i e k
             (front_placed e (sym (ap (λ l. has l e) front_is) ∙ f));
         other = ap (λ l. has l c) (elements_stay i h) ∙ standing.element_apart g dense nzaat p t s st i c k pivot_placed;
@@ -161,7 +163,7 @@ module _ (g : Graph) (dense : ℕ → Bool) (nzaat : ℕ) (p : Workspace) (t : Q
     under = front_under;
     degrees = λ e. let a = st.laid.degrees e in let d = ap (λ l. num l e) bounds_stay in omega (arith, a, d);
     part = λ e l. let a = ap (λ xs. rows_met p2.iw p2.pe p2.e_len p2.nv xs e) front_is in
-        let m = begun_met p.w p2.w st.laid.laid begins_front counters_are apart touched e in
+        let m = begun_met st.laid.laid begins_front counters_are apart touched e in
         let few = standing.met_few g dense nzaat p t s st front (front_once p.iw p.nv p.pe p.len c (place (word p.e_len c))) front_placed
         e in let d = ap (λ k. num k e) bounds_stay in omega (arith, a, m, few, d);
   }

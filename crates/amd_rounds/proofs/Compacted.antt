@@ -178,8 +178,8 @@ module _ {g : Graph} {dense : ℕ → Bool} {nzaat : ℕ} {p : Workspace} {t : Q
     }
 
   module _ (iw pe : List ℤ) (free : ℕ) (moved : Compacts p.iw p.pe p.len p.free iw pe free) where
-    packed : Packs g.size p.iw p.pe p.e_len p.len p.free iw pe free
-    packed = subst (λ n. Packs n p.iw p.pe p.e_len p.len p.free iw pe free) st.laid.sized.len
+    packed : Packs g.size p (record p { iw = iw; pe = pe; free = free })
+    packed = subst (λ n. Packs n p (record p { iw = iw; pe = pe; free = free })) st.laid.sized.len
         (packs (subst (λ n. Layout n p.iw p.pe p.e_len p.len p.free) (sym st.laid.sized.len) st.laid.laid) moved)
 
     still_reads : StillReads g.size p iw pe free

@@ -8,7 +8,7 @@ use Rattle.amd_round_laws.specs.Views.{ClassLists}
 use Rattle.amd_words.specs.Words.{num, word, place, size_of, flip_of}
 use Rattle.amd_fronts.specs.Counts.{counter, settled, ends}
 use Rattle.amd_lists.specs.Layout.{rows_met}
-use Rattle.amd_elements.specs.Element.{front_of}
+use Rattle.amd_elements.specs.Pivots.{built_front}
 use Rattle.amd_lists.specs.Layout.{elements_in, variables_in}
 use Rattle.amd_lists.specs.Chains.{Chooses}
 use Rattle.amd_elements.specs.Beginning.{Begins}
@@ -17,6 +17,8 @@ use Rattle.amd_lists.specs.Renewal.{is_kept, is_outside}
 use Rattle.amd_fronts.specs.Fronts.{is_done, kept_in, near_in}
 use Rattle.amd_fronts.specs.TurningLists.{AreTurning}
 use Rattle.amd_fronts.proofs.FrontTurns.{left_me, left_front}
+use Rattle.amd_elements.proofs.Beginnings.{begins_moved}
+use Rattle.amd_elements.proofs.MakingRoom.{rooms_stay}
 use Rattle.amd_elements.proofs.Touching.{front_apart, begun_elements, begun_variables, begun_rows, begun_met}
 use Rattle.amd_lists.specs.Workspaces.{Workspace}
 use Rattle.amd_rounds.specs.Keeps.{Stands, by_bound}
@@ -87,14 +89,12 @@ module _ {g : Graph} {dense : ℕ → Bool} {nzaat : ℕ} {aggressive : Bool} {p
 
   -- ---- the beginning of its element
 
-  pub begins_here : Begins g.size r.c (elements_in p.iw p.pe p.e_len r.c) front r.total p.iw p.nv p.pe p.e_len p.len r.p2.iw r.p2.nv r.p2.pe
-      r.p2.e_len r.p2.len r.p2.free
-  begins_here = subst (λ (w : Workspace). Begins g.size r.c (elements_in w.iw w.pe w.e_len r.c) front r.total w.iw w.nv w.pe w.e_len w.len
-      r.p2.iw r.p2.nv r.p2.pe r.p2.e_len r.p2.len r.p2.free) r.picks.same r.begins.begins
+  pub begins_here : Begins g.size r.c (elements_in p.iw p.pe p.e_len r.c) front r.total p r.p2
+  begins_here = begins_moved (rooms_stay r.st.laid.laid)
+      (subst (λ (w : Workspace). Begins g.size r.c (elements_in w.iw w.pe w.e_len r.c) front r.total w r.p2) r.picks.same r.begins.begins)
 
-  pub front_here : front ≡ front_of p.iw p.nv p.pe p.len r.c (place (word p.e_len r.c))
-  front_here = subst (λ (w : Workspace). front ≡ front_of w.iw w.nv w.pe w.len r.c (place (word w.e_len r.c))) r.picks.same
-      r.begins.front_is
+  pub front_here : front ≡ built_front p r.c
+  front_here = subst (λ (w : Workspace). front ≡ built_front w r.c) r.picks.same r.begins.front_is
 
   pub counters_here : (e : ℕ) → num r.p2.w e ≡ cond (has (elements_in p.iw p.pe p.e_len r.c) e) 0 (num p.w e)
   counters_here = subst (λ (w : Workspace). (e : ℕ) → num r.p2.w e ≡ cond (has (elements_in w.iw w.pe w.e_len r.c) e) 0 (num w.w e))
@@ -135,21 +135,21 @@ module _ {g : Graph} {dense : ℕ → Bool} {nzaat : ℕ} {aggressive : Bool} {p
   front_other = ap (λ l. has l r.c) front_here
       ∙ front_apart p.iw p.nv p.pe p.len r.c (place (word p.e_len r.c))
 
-  touched : (i : ℕ) → has front i ≡ true → IsTouched r.c (elements_in p.iw p.pe p.e_len r.c) p.iw p.pe p.e_len p.len i
+  touched : (i : ℕ) → has front i ≡ true → IsTouched r.c (elements_in p.iw p.pe p.e_len r.c) p i
   touched i h = standing.touched g dense nzaat p t s r.st r.c pivot_placed i (ap (λ l. has l i) (sym front_here) ∙ h)
 
   pub elements_begun : (i : ℕ) → has front i ≡ true → elements_in r.p2.iw r.p2.pe r.p2.e_len i ≡ elements_in p.iw p.pe p.e_len i
-  elements_begun = begun_elements p.w r.p2.w r.st.laid.laid begins_here counters_here front_other touched
+  elements_begun = begun_elements r.st.laid.laid begins_here counters_here front_other touched
 
   pub variables_begun : (i : ℕ) → has front i ≡ true →
       variables_in r.p2.iw r.p2.pe r.p2.e_len r.p2.len i ≡ variables_in p.iw p.pe p.e_len p.len i
-  variables_begun = begun_variables p.w r.p2.w r.st.laid.laid begins_here counters_here front_other touched
+  variables_begun = begun_variables r.st.laid.laid begins_here counters_here front_other touched
 
   pub met_begun : (e : ℕ) → rows_met r.p2.iw r.p2.pe r.p2.e_len r.p2.nv front e ≡ rows_met p.iw p.pe p.e_len p.nv front e
-  met_begun = begun_met p.w r.p2.w r.st.laid.laid begins_here counters_here front_other touched
+  met_begun = begun_met r.st.laid.laid begins_here counters_here front_other touched
 
   pub rows_begun : (i : ℕ) → has front i ≡ true → size_of r.p2.nv i ≡ size_of p.nv i
-  rows_begun = begun_rows p.w r.p2.w r.st.laid.laid begins_here counters_here front_other touched
+  rows_begun = begun_rows r.st.laid.laid begins_here counters_here front_other touched
 
   pub front_begun : front_at r.p2 r.c ≡ front
   front_begun = begins_here.list

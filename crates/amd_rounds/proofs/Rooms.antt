@@ -9,6 +9,7 @@ use Rattle.amd_elements.specs.Beginning.{Begins}
 use Rattle.amd_elements.specs.Compaction.{Compacts, Packs}
 use Rattle.amd_elements.specs.Effects.{BeginsBuilt}
 use Rattle.amd_elements.specs.Pivots.{built_front}
+use Rattle.amd_elements.specs.Room.{Rooms}
 use Rattle.amd_elements.specs.Premises.{CanMakeElement}
 use Rattle.amd_elements.specs.declared.beginning.Begun.{Begun}
 use Rattle.amd_elements.proofs.Beginnings.{begins_moved}
@@ -21,9 +22,40 @@ use Rattle.amd_rounds.specs.Laid.{IsLaid}
 use Rattle.amd_rounds.specs.Parts.{BeginsElement, MakesRoom}
 use Rattle.amd_rounds.specs.Premises.{CanBegin}
 
+-- what an element that begins leaves is as before
+pub begun_same : (p : Workspace) {v : Workspace} {iw nv pe e_len : List ℤ} {len w : List ℕ} {free n_cmp_a : ℕ} → v ≡ record p {
+  iw = iw;
+  nv = nv;
+  pe = pe;
+  e_len = e_len;
+  len = len;
+  w = w;
+  free = free;
+  n_cmp_a = n_cmp_a;
+} → v ≡ record p {
+  iw = v.iw;
+  nv = v.nv;
+  pe = v.pe;
+  e_len = v.e_len;
+  len = v.len;
+  w = v.w;
+  free = v.free;
+  n_cmp_a = v.n_cmp_a;
+}
+begun_same p e = subst (λ (q : Workspace). q ≡ record p {
+  iw = q.iw;
+  nv = q.nv;
+  pe = q.pe;
+  e_len = q.e_len;
+  len = q.len;
+  w = q.w;
+  free = q.free;
+  n_cmp_a = q.n_cmp_a;
+}) (sym e) refl
+
 module _ {nzaat me : ℕ} {p : Workspace} (laid : IsLaid (length p.nv) nzaat p) (pivot : CanBegin (length p.nv) me p) where
   abbrev front : List ℕ
-  front = built_front p.iw p.nv p.pe p.e_len p.len me
+  front = built_front p me
 
   listed : has_list p.pe p.len me ≡ true
   listed = (laid.classes me pivot.class).0
@@ -36,8 +68,8 @@ module _ {nzaat me : ℕ} {p : Workspace} (laid : IsLaid (length p.nv) nzaat p) 
       v ≡ record p { iw = v.iw; pe = v.pe; free = v.free } → nat_le (p.free + length front) (length p.iw) ≡ false →
       MakesRoom (length p.nv) me p (record v { n_cmp_a = v.n_cmp_a + 1 })
   room_packed v moved same none =
-      let packed : Packs (length p.nv) p.iw p.pe p.e_len p.len p.free v.iw v.pe v.free =
-      subst (λ n. Packs n p.iw p.pe p.e_len p.len p.free v.iw v.pe v.free) laid.sized.len
+      let packed : Packs (length p.nv) p (record v { n_cmp_a = v.n_cmp_a + 1 }) =
+      subst (λ n. Packs n p (record v { n_cmp_a = v.n_cmp_a + 1 })) laid.sized.len
       (packs (subst (λ n. Layout n p.iw p.pe p.e_len p.len p.free) (sym laid.sized.len) laid.laid) moved) in record {
         rooms = rooms_packed packed;
         fits = (let few = front_few (length p.nv) p.iw p.nv p.pe p.len p.free me (place (word p.e_len me)) (laid.laid.parts me listed)
@@ -54,14 +86,17 @@ module _ {nzaat me : ℕ} {p : Workspace} (laid : IsLaid (length p.nv) nzaat p) 
     elements_is : elements_in v.iw v.pe p.e_len me ≡ elements_in p.iw p.pe p.e_len me
     elements_is = rooms_elements laid.laid made.rooms me listed known
 
-    front_is : built_front v.iw p.nv v.pe p.e_len p.len me ≡ front
-    front_is = rooms_front laid.laid made.rooms me listed known p.nv
+    -- the workspace once there is room
+    abbrev moved : Workspace
+    moved = record p { iw = v.iw; pe = v.pe; free = v.free; n_cmp_a = v.n_cmp_a }
+
+    front_is : built_front moved me ≡ front
+    front_is = rooms_front laid.laid made.rooms me listed known
 
     -- the element can be built
     pub can_make : (most_word most_place most_cell : ℕ) → IsNarrow most_word most_place most_cell (length p.nv) p →
-        CanMakeElement most_place most_cell me v.iw v.nv v.pe v.e_len v.len v.w v.free
-    can_make most_word most_place most_cell wide = subst
-        (λ (q : Workspace). CanMakeElement most_place most_cell me q.iw q.nv q.pe q.e_len q.len q.w q.free)
+        CanMakeElement most_place most_cell me v
+    can_make most_word most_place most_cell wide = subst (λ (q : Workspace). CanMakeElement most_place most_cell me q)
         (sym made.same) (record {
           pivot = record {
             lengths = (made.rooms.p_long ∙ laid.sized.pe, laid.sized.e_len, laid.sized.len);
@@ -84,21 +119,19 @@ module _ {nzaat me : ℕ} {p : Workspace} (laid : IsLaid (length p.nv) nzaat p) 
           few = (let a = pivot.few in let b = ap (sum_by (size_of p.nv)) front_is in omega (arith, a, b, wide));
         })
 
-    module _ {iw nv pe e_len : List ℤ} {len w : List ℕ} {begun : Begun} (count : 0 < place (word p.e_len me))
-        (built : BeginsBuilt me v.iw v.nv v.pe v.e_len v.len v.w v.free iw nv pe e_len len w begun) where
-      told : BeginsBuilt me v.iw p.nv v.pe p.e_len p.len p.w v.free iw nv pe e_len len w begun
-      told = subst (λ (q : Workspace). BeginsBuilt me q.iw q.nv q.pe q.e_len q.len q.w q.free iw nv pe e_len len w begun) made.same built
+    module _ {v2 : Workspace} {begun : Begun} (count : 0 < place (word p.e_len me)) (built : BeginsBuilt me v v2 begun) where
+      told : BeginsBuilt me moved v2 begun
+      told = subst (λ (q : Workspace). BeginsBuilt me q v2 begun) made.same built
 
-      begins : Begins (length p.nv) me (elements_in p.iw p.pe p.e_len me) front begun.total p.iw p.nv p.pe p.e_len p.len iw nv pe e_len len
-          begun.free
-      begins = begins_moved made.rooms
-          (subst (λ xs. Begins (length p.nv) me xs front begun.total v.iw p.nv v.pe p.e_len p.len iw nv pe e_len len begun.free) elements_is
-          (subst (λ xs. Begins (length p.nv) me (elements_in v.iw v.pe p.e_len me) xs begun.total v.iw p.nv v.pe p.e_len p.len iw nv pe
-          e_len len begun.free) front_is told.begins))
+      rooms : Rooms (length p.nv) p moved
+      rooms = subst (λ (q : Workspace). Rooms (length p.nv) p q) made.same made.rooms
+
+      begins : Begins (length p.nv) me (elements_in p.iw p.pe p.e_len me) front begun.total p v2
+      begins = begins_moved rooms (subst (λ xs. Begins (length p.nv) me xs front begun.total moved v2) elements_is
+          (subst (λ xs. Begins (length p.nv) me (elements_in v.iw v.pe p.e_len me) xs begun.total moved v2) front_is told.begins))
 
       -- and it is begun over the lists as they were
-      pub begun_behind : BeginsElement (length p.nv) me begun.block begun.total true p
-          (record v { iw = iw; nv = nv; pe = pe; e_len = e_len; len = len; w = w; free = begun.free })
+      pub begun_behind : BeginsElement (length p.nv) me begun.block begun.total true p v2
       begun_behind = let s = laid.sized in record {
         front = front;
         front_is = refl;
@@ -109,19 +142,18 @@ module _ {nzaat me : ℕ} {p : Workspace} (laid : IsLaid (length p.nv) nzaat p) 
         total_is = told.total ∙ ap (sum_by (size_of p.nv)) front_is;
         block_is = told.block;
         end = told.end;
-        packed = made.packed;
+        packed = ap (λ (q : Workspace). q.n_cmp_a) told.same ∙ made.packed;
         sized = record {
           pe = begins.p_long ∙ s.pe;
           e_len = begins.e_long ∙ s.e_len;
           nv = begins.wide;
           len = begins.l_long ∙ s.len;
-          degree = ap (λ (q : Workspace). length q.degree) made.same ∙ s.degree;
+          degree = ap (λ (q : Workspace). length q.degree) told.same ∙ s.degree;
           w = told.long ∙ s.w;
-          head = ap (λ (q : Workspace). length q.head) made.same ∙ s.head;
-          next = ap (λ (q : Workspace). length q.next) made.same ∙ s.next;
-          last = ap (λ (q : Workspace). length q.last) made.same ∙ s.last;
-          hash = ap (λ (q : Workspace). length q.hash) made.same ∙ s.hash;
+          head = ap (λ (q : Workspace). length q.head) told.same ∙ s.head;
+          next = ap (λ (q : Workspace). length q.next) told.same ∙ s.next;
+          last = ap (λ (q : Workspace). length q.last) told.same ∙ s.last;
+          hash = ap (λ (q : Workspace). length q.hash) told.same ∙ s.hash;
         };
-        same = ap (λ (q : Workspace). record q { iw = iw; nv = nv; pe = pe; e_len = e_len; len = len; w = w; free = begun.free })
-            made.same;
+        same = begun_same p told.same;
       }

@@ -23,7 +23,7 @@ use Rattle.amd_round_laws.proofs.Fronts.Gathered.{placed_rows, firsts_gives, gat
 use Rattle.amd_round_laws.proofs.Lists.Named.{filter_named, filter_both, sum_named}
 use Rattle.amd_words.specs.Words.{num, word, place, is_place, size_of, flip_of}
 use Rattle.amd_lists.specs.Layout.{rows_met}
-use Rattle.amd_elements.specs.Element.{front_of}
+use Rattle.amd_elements.specs.Pivots.{built_front}
 use Rattle.amd_lists.specs.Layout.{elements_in, variables_in}
 use Rattle.amd_elements.specs.Making.{IsTouched}
 use Rattle.amd_rounds.proofs.FrontLink.{front_gathered}
@@ -191,9 +191,9 @@ module _ (g : Graph) (dense : ℕ → Bool) (nzaat : ℕ) (p : Workspace) (t : Q
 
     module _ (c : ℕ) (placed : has t.placed c ≡ true) where
       abbrev front : List ℕ
-      front = front_of p.iw p.nv p.pe p.len c (place (word p.e_len c))
+      front = built_front p c
 
-      pub front_is : front_of p.iw p.nv p.pe p.len c (place (word p.e_len c)) ≡ gathered t c
+      pub front_is : built_front p c ≡ gathered t c
       front_is = front_gathered g s t st.view.fits (view_of p) st.view.keeps p.iw p.nv p.pe p.len c (place (word p.e_len c)) placed refl
           refl refl refl
 
@@ -244,7 +244,7 @@ module _ (g : Graph) (dense : ℕ → Bool) (nzaat : ℕ) (p : Workspace) (t : Q
           ap (λ l. has l c) (st.view.keeps.variables i k) ∙ back in
           inl (filter_gives (λ j. nat_lt 0 (size_of p.nv j)) (variables_in p.iw p.pe p.e_len p.len i) c listed).0
 
-      pub touched : (i : ℕ) → has front i ≡ true → IsTouched c (elements_in p.iw p.pe p.e_len c) p.iw p.pe p.e_len p.len i
+      pub touched : (i : ℕ) → has front i ≡ true → IsTouched c (elements_in p.iw p.pe p.e_len c) p i
       touched i h =
           let k = front_placed i h in let class = st.laid.classes i (placed_class i k).0 in
           record {

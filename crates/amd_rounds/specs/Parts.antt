@@ -5,7 +5,6 @@ use Rattle.std.specs.Prelude.{sum_by, slice_set}
 use Rattle.amd_model.specs.Figures.{cut, front_sum, entries, ldl_steps, lu_steps}
 use Rattle.amd_model.specs.Quotient.{has}
 use Rattle.amd_words.specs.Words.{num, word, place, start, size_of, in_front, classes, flip_of}
-use Rattle.amd_elements.specs.Element.{front_of}
 use Rattle.amd_elements.specs.Pivots.{built_front}
 use Rattle.amd_elements.specs.Room.{Rooms}
 use Rattle.amd_lists.specs.Layout.{has_list, end_of, elements_in, Layout}
@@ -36,19 +35,17 @@ pub record Picks (n me : ℕ) (p v : Workspace) : Type 0 where
 -- there is room behind all lists for the new element of the pivot me: the lists were packed, and this was counted, if
 -- there was none
 pub record MakesRoom (n me : ℕ) (p v : Workspace) : Type 0 where
-  pub rooms : Rooms n p.iw p.pe p.e_len p.len p.free v.iw v.pe v.free
-  pub fits : v.free + length (built_front p.iw p.nv p.pe p.e_len p.len me) ≤ length p.iw
-  pub packed : v.n_cmp_a ≡ p.n_cmp_a
-      + cond (nat_lt (length p.iw) (p.free + length (built_front p.iw p.nv p.pe p.e_len p.len me))) 1 0
+  pub rooms : Rooms n p v
+  pub fits : v.free + length (built_front p me) ≤ length p.iw
+  pub packed : v.n_cmp_a ≡ p.n_cmp_a + cond (nat_lt (length p.iw) (p.free + length (built_front p me))) 1 0
   pub same : v ≡ record p { iw = v.iw; pe = v.pe; free = v.free; n_cmp_a = v.n_cmp_a }
 
 -- the pivot me is an element, behind all lists if it listed elements, which it absorbs; `block` and `total` are its
 -- number of rows and that of its front
 pub record BeginsElement (n me block total : ℕ) (is_built : Bool) (p v : Workspace) : Type 0 where
   pub front : List ℕ
-  pub front_is : front ≡ front_of p.iw p.nv p.pe p.len me (place (word p.e_len me))
-  pub begins : Begins n me (elements_in p.iw p.pe p.e_len me) front total p.iw p.nv p.pe p.e_len p.len v.iw v.nv v.pe
-      v.e_len v.len v.free
+  pub front_is : front ≡ built_front p me
+  pub begins : Begins n me (elements_in p.iw p.pe p.e_len me) front total p v
   pub counters : (e : ℕ) → num v.w e ≡ cond (has (elements_in p.iw p.pe p.e_len me) e) 0 (num p.w e)
   pub built_is : is_built ≡ nat_lt 0 (place (word p.e_len me))
   pub before : is_built ≡ true → (j : ℕ) → (j ≡ me → ⊥) → has_list v.pe v.len j ≡ true →

@@ -1,8 +1,8 @@
 -- What the parts of a round ask of the workspace before them, beside its lengths and the widths of its words.
 use Rattle.std.specs.Prelude.{ℕ, Bool, true, false, List, ◌≡◌, ◌<◌, ◌≤◌, ◌+◌, ◌^◌, max, length, sum_by}
 use Rattle.amd_model.specs.Quotient.{has, Once}
-use Rattle.amd_words.specs.Words.{num, word, place, is_place, start, size_of, in_front, classes}
-use Rattle.amd_elements.specs.Element.{front_of}
+use Rattle.amd_words.specs.Words.{num, word, is_place, start, size_of, in_front, classes}
+use Rattle.amd_elements.specs.Pivots.{built_front}
 use Rattle.amd_lists.specs.Layout.{has_list, end_of, elements_in, Layout}
 use Rattle.amd_fronts.specs.Tallies.{front_at, IsPart}
 use Rattle.amd_fronts.specs.TurningLists.{AreTurning}
@@ -18,7 +18,7 @@ pub record CanBegin (n me : ℕ) (p : Workspace) : Type 0 where
   pub class : 0 < size_of p.nv me
   pub once : Once (elements_in p.iw p.pe p.e_len me)
   pub apart : has (elements_in p.iw p.pe p.e_len me) me ≡ false
-  pub few : sum_by (size_of p.nv) (front_of p.iw p.nv p.pe p.len me (place (word p.e_len me))) ≤ n
+  pub few : sum_by (size_of p.nv) (built_front p me) ≤ n
 
 -- the list of the element me stands before the free end and names each row once, and not me
 pub record HasFront (n me : ℕ) (p : Workspace) : Type 0 where

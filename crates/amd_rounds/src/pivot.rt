@@ -1,9 +1,8 @@
 // The beginning of a round: the pivot is chosen, and becomes an element, in the place of its own list or behind all
-// lists. Source: Amestoy, Davis and Duff 1996 (element formation). A slice in a field of `Work` is lent for writing
-// also where a part only reads it, as `round` does.
+// lists. Source: Amestoy, Davis and Duff 1996 (element formation).
 
-ghost use Rattle.std.specs.Prelude.{ℕ, ◌<◌, ◌≡◌, pos, length, true};
-ghost use Rattle.amd_words.specs.Words.{is_place, place, word};
+ghost use Rattle.std.specs.Prelude.{ℕ, ◌<◌, ◌≡◌, pos, length};
+ghost use Rattle.amd_words.specs.Words.{place, word};
 ghost use Rattle.amd_lists.specs.Chains.{SomeFrom};
 ghost use Rattle.amd_lists.specs.Sizes.{IsNarrow, IsSized};
 ghost use Rattle.amd_rounds.specs.Laid.{IsLaid};
@@ -14,7 +13,7 @@ ghost use Rattle.amd_lists.specs.Workspaces.{KeepsLoans, workspace_of};
 use crate::packing::compact;
 use amd_elements::beginning::{begin_built, begin_own};
 use amd_elements::fitting::has_room;
-use amd_fronts::lent::named_lent;
+use amd_lists::lent::named_lent;
 use amd_lists::chains::choose;
 use amd_lists::work::Work;
 use amd_words::{Signed, Unsigned};
@@ -56,8 +55,7 @@ fn begin_in_place<S: Signed, P: Signed, U: Unsigned>(
         (workspace_of work.old) (workspace_of work.new) }
     ensures loans { KeepsLoans work.old work.new }
 {
-    let free = work.free;
-    let begun = begin_own(work.iw, work.nv, work.e_len, work.len, work.pe, me, free);
+    let begun = begin_own(work, me);
     Element {
         block: begun.block,
         total: begun.total,
@@ -75,8 +73,7 @@ fn make_room<S: Signed, P: Signed, U: Unsigned>(work: &mut Work<'_, '_, S, P, U>
     ensures rooms { MakesRoom (length work.old.nv.now) me (workspace_of work.old) (workspace_of work.new) }
     ensures loans { KeepsLoans work.old work.new }
 {
-    let free = work.free;
-    if has_room(work.iw, work.nv, work.pe, work.e_len, work.len, me, free) {
+    if has_room(work, me) {
         return;
     }
     compact(work);
@@ -98,11 +95,7 @@ fn begin_behind<S: Signed, P: Signed, U: Unsigned>(
     ensures loans { KeepsLoans work.old work.new }
 {
     make_room(work, me);
-    let free = work.free;
-    let begun = begin_built(
-        work.iw, work.nv, work.pe, work.e_len, work.len, work.w, me, free,
-    );
-    work.free = begun.free;
+    let begun = begin_built(work, me);
     Element {
         block: begun.block,
         total: begun.total,

@@ -16,18 +16,30 @@ banded n ap ai lo hi j r i = cond (nat_lt i lo) (earlier_of n ap ai i) (cond (na
 abbrev pub own_from : ℕ → List ℤ → List ℤ → ℕ → ℕ → ℕ
 own_from n ap ai j b = own_start n ap ai j + length (earlier_of n ap ai j) + length (list_below b (is_other n ap ai j))
 
--- column j comes next in the band from row lo on, before row hi; its list ends before the word stop
-pub record IsReadyForPart (m : Matrix) (lo hi j place stop most_word most_cell : ℕ) (next : List ℕ) (iw : List ℤ) : Type 0 where
+-- the part of a column that lies in the band of rows from lo on, before hi: it stands from the word place on, and the
+-- list of the column ends before the word stop
+pub record BandPart : Type 0 where
+  pub lo : ℕ
+  pub hi : ℕ
+  pub column : ℕ
+  pub place : ℕ
+  pub stop : ℕ
+
+abbrev pub band_part : ℕ → ℕ → ℕ → ℕ → ℕ → BandPart
+band_part lo hi j place stop = record { lo = lo; hi = hi; column = j; place = place; stop = stop }
+
+-- the part t of a column comes next in its band
+pub record IsReadyForPart (m : Matrix) (t : BandPart) (most_word most_cell : ℕ) (next : List ℕ) (iw : List ℤ) : Type 0 where
   pub lower : IsLower m.n m.ap m.ai
-  pub row : j < hi
-  pub band : lo ≤ hi
-  pub rows_in : hi ≤ m.n
-  pub from : place ≡ own_from m.n m.ap m.ai j lo
-  pub end : stop ≡ own_start m.n m.ap m.ai (j + 1)
+  pub row : t.column < t.hi
+  pub band : t.lo ≤ t.hi
+  pub rows_in : t.hi ≤ m.n
+  pub from : t.place ≡ own_from m.n m.ap m.ai t.column t.lo
+  pub end : t.stop ≡ own_start m.n m.ap m.ai (t.column + 1)
   pub room : own_start m.n m.ap m.ai m.n ≤ length iw
   pub rows : m.n ≤ most_word
   pub places : length iw ≤ most_cell
-  pub before : SpreadsColumns m.n m.ap m.ai (banded m.n m.ap m.ai lo hi j lo) next iw
+  pub before : SpreadsColumns m.n m.ap m.ai (banded m.n m.ap m.ai t.lo t.hi t.column t.lo) next iw
 
 -- the rows before lo have all their earlier neighbours, and the others none
 unfoldable pub spread_to : ℕ → List ℤ → List ℤ → ℕ → ℕ → List ℕ

@@ -8,7 +8,8 @@ ghost use Rattle.amd_model.specs.Input.Columns.{IsColumnForm};
 ghost use Rattle.amd_words.specs.Words.{num};
 ghost use Rattle.amd_workspace.specs.Lower.{IsLowerForm, AreNeighbourCounts, Matrix, HoldsOwn, HoldsLists, own_start};
 ghost use Rattle.amd_workspace.specs.Lower.{SpreadsColumns, HasColumns};
-ghost use Rattle.amd_workspace.specs.Bands.{IsReadyForPart, banded, own_from, HasHeads, IsReadyForBand, spread_to};
+ghost use Rattle.amd_workspace.specs.Bands.{IsReadyForPart, band_part, banded, own_from};
+ghost use Rattle.amd_workspace.specs.Bands.{HasHeads, IsReadyForBand, spread_to};
 
 use crate::laying::append;
 use crate::lower::{own_first, push_rows, push_until};
@@ -37,10 +38,11 @@ fn spread_until<S: Signed, U: Unsigned>(
     end: usize,
     hi: usize,
 ) -> usize
-    requires ready { (m : Matrix) × (lo : ℕ) × IsReadyForPart m lo hi j place end S.MOST U.MOST next.old iw.old }
+    requires ready { (m : Matrix) × (lo : ℕ) × IsReadyForPart m (band_part lo hi j place end) S.MOST U.MOST next.old
+        iw.old }
     ensures long { length iw.new ≡ length iw.old }
-    ensures after { (m : Matrix) (lo : ℕ) → IsReadyForPart m lo hi j place end S.MOST U.MOST next.old iw.old →
-        SpreadsColumns m.n m.ap m.ai (banded m.n m.ap m.ai lo hi j hi) next.new iw.new ×
+    ensures after { (m : Matrix) (lo : ℕ) → IsReadyForPart m (band_part lo hi j place end) S.MOST U.MOST next.old
+        iw.old → SpreadsColumns m.n m.ap m.ai (banded m.n m.ap m.ai lo hi j hi) next.new iw.new ×
         (result ≡ own_from m.n m.ap m.ai j hi) }
 {
     let mut place = place;

@@ -5,6 +5,7 @@ use Rattle.amd_words.proofs.RowLists.{rows_none}
 use Rattle.amd_words.proofs.WordCounts.{all_passed, none_passed}
 use Rattle.amd_elements.specs.Element.{members_at}
 use Rattle.amd_elements.specs.Room.{named_around}
+use Rattle.amd_elements.specs.Visiting.{visited}
 use Rattle.amd_elements.proofs.ListsAround.{element_one, element_small, element_laid, list_before, list_names, list_visit, list_visited}
 use Rattle.amd_elements.proofs.ListsAround.{rest_before, rest_names, rest_visit, rest_visited}
 use Rattle.amd_elements.proofs.around.visit_around.Goals as goal
@@ -12,8 +13,8 @@ use Rattle.amd_elements.proofs.around.visit_around.Goals as goal
 pub loop-p-init : goal.loop-p-init
 loop-p-init g c = let s : ℕ = start c.args.pe.now c.args.pivot in record {
   held = subst (λ xs. g.V.ListVisitor.holds c.args.end (named_around c.args.iw.now c.args.pe.now c.args.len.now c.args.pivot
-      c.args.n_elements) (flat_map (members_at c.args.iw.now c.args.pe.now c.args.len.now) xs) c.args.iw.now c.args.nv.now
-      c.args.visitor.now c.args.iw.now c.args.nv.now c.args.visitor.now)
+      c.args.n_elements) (flat_map (members_at c.args.iw.now c.args.pe.now c.args.len.now) xs)
+      (visited c.args.iw.now c.args.nv.now c.args.visitor.now) (visited c.args.iw.now c.args.nv.now c.args.visitor.now))
       (sym (ap (rows c.args.iw.now s) (none_passed c.named-from.result) ∙ rows_none c.args.iw.now s)) c.requires.held;
   words = λ k l. refl;
   long = refl;
@@ -53,13 +54,13 @@ take-requires-clause-before g c = list_before c.requires.lists c.loop-p.iw c.loo
 pub take-requires-clause-held : goal.take-requires-clause-held
 take-requires-clause-held g c = list_visit c.requires.lists c.loop-p.iw c.loop-p.invariant.words c.named-from.ensures
     c.loop-p.auto.p c.loop-p-test.true c.named-e.ensures c.named-first.ensures c.cell_at.ensures.is g.V.ListVisitor.holds
-    c.args.iw.now c.args.nv.now c.args.visitor.now c.loop-p.invariant.held
+    (visited c.args.iw.now c.args.nv.now c.args.visitor.now) c.loop-p.invariant.held
 
 pub loop-p-preserved : goal.loop-p-preserved
 loop-p-preserved g c = record {
   held = list_visited c.requires.lists c.loop-p.iw c.loop-p.invariant.words c.named-from.ensures
       c.loop-p.auto.p c.loop-p-test.true c.named-e.ensures c.named-first.ensures c.cell_at.ensures.is g.V.ListVisitor.holds
-      c.args.iw.now c.args.nv.now c.args.visitor.now c.loop-p.invariant.held c.take.ensures.held;
+      (visited c.args.iw.now c.args.nv.now c.args.visitor.now) c.loop-p.invariant.held c.take.ensures.held;
   words = λ k l. c.take.ensures.words k l ∙ c.loop-p.invariant.words k l;
   long = c.take.ensures.lengths.0 ∙ c.loop-p.invariant.long;
   wide = c.take.ensures.lengths.1 ∙ c.loop-p.invariant.wide;
@@ -80,17 +81,19 @@ take-requires-2-clause-before g c = rest_before c.requires.lists c.loop-p.iw c.l
 
 pub take-requires-2-clause-held : goal.take-requires-2-clause-held
 take-requires-2-clause-held g c = rest_visit c.requires.lists c.loop-p.iw c.loop-p.invariant.words c.named-from.ensures
-    c.cell_at-2.ensures.is g.V.ListVisitor.holds c.args.iw.now c.args.nv.now c.args.visitor.now
+    c.cell_at-2.ensures.is g.V.ListVisitor.holds (visited c.args.iw.now c.args.nv.now c.args.visitor.now)
     (subst (λ k. g.V.ListVisitor.holds c.args.end (named_around c.args.iw.now c.args.pe.now c.args.len.now c.args.pivot
     c.args.n_elements) (flat_map (members_at c.args.iw.now c.args.pe.now c.args.len.now) (rows c.args.iw.now
-    (start c.args.pe.now c.args.pivot) k)) c.args.iw.now c.args.nv.now c.args.visitor.now c.loop-p.iw c.loop-p.nv c.loop-p.visitor)
+    (start c.args.pe.now c.args.pivot) k)) (visited c.args.iw.now c.args.nv.now c.args.visitor.now)
+    (visited c.loop-p.iw c.loop-p.nv c.loop-p.visitor))
     (all_passed _ _ _ c.loop-p.auto.p (c.loop-p.auto.p-end (le-add_right _ _)) c.loop-p-test.false) c.loop-p.invariant.held)
 
 pub returns-clause-held : goal.returns-clause-held
 returns-clause-held g c = rest_visited c.requires.lists c.loop-p.iw c.loop-p.invariant.words c.named-from.ensures
-    c.cell_at-2.ensures.is g.V.ListVisitor.holds c.args.iw.now c.args.nv.now c.args.visitor.now
+    c.cell_at-2.ensures.is g.V.ListVisitor.holds (visited c.args.iw.now c.args.nv.now c.args.visitor.now)
     (subst (λ k. g.V.ListVisitor.holds c.args.end (named_around c.args.iw.now c.args.pe.now c.args.len.now c.args.pivot
     c.args.n_elements) (flat_map (members_at c.args.iw.now c.args.pe.now c.args.len.now) (rows c.args.iw.now
-    (start c.args.pe.now c.args.pivot) k)) c.args.iw.now c.args.nv.now c.args.visitor.now c.loop-p.iw c.loop-p.nv c.loop-p.visitor)
+    (start c.args.pe.now c.args.pivot) k)) (visited c.args.iw.now c.args.nv.now c.args.visitor.now)
+    (visited c.loop-p.iw c.loop-p.nv c.loop-p.visitor))
     (all_passed _ _ _ c.loop-p.auto.p (c.loop-p.auto.p-end (le-add_right _ _)) c.loop-p-test.false) c.loop-p.invariant.held)
     c.take-2.ensures.held

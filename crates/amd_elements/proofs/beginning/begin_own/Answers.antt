@@ -1,7 +1,8 @@
-use Rattle.std.proofs.Common.{refl, ◌∙◌, arith}
+use Rattle.std.proofs.Common.{◌≡◌, ap, refl, ◌∙◌, arith}
 use Rattle.std.specs.Prelude.{◌==◌}
 use Rattle.std.proofs.lemmas.Bool.{eq-eqb, or_left}
-use Rattle.amd_elements.proofs.MakingRoom.{rooms_stay}
+use Rattle.amd_words.specs.Words.{start}
+use Rattle.amd_lists.specs.Workspaces.{Workspace, workspace_of}
 use Rattle.amd_elements.proofs.Touching.{front_apart}
 use Rattle.amd_elements.proofs.Beginnings.{begins, own_inside}
 use Rattle.amd_elements.proofs.beginning.begin_own.Goals as goal
@@ -18,13 +19,17 @@ take_pivot-block-requires-clause-marked g c =
     c.make_own-total.ensures.builds.front_is c.args.me ∙ or_left (c.args.me == c.args.me) _ (eq-eqb c.args.me c.args.me refl)
 
 pub returns : goal.returns
-returns g c = record {
-  begins = (begins (rooms_stay c.requires.pivot.laid) c.args.me refl c.make_own-total.ensures.builds c.make_own-total.ensures.makes refl
-      (front_apart c.args.iw.now c.args.nv.now c.args.pe.now c.args.len.now c.args.me 0) c.take_pivot-block.ensures.takes.long
-      c.take_pivot-block.ensures.takes.sizes c.take_pivot-block.ensures.takes.front
-      (own_inside c.args.me c.requires.pivot.laid c.make_own-total.ensures.makes.laid c.requires.pivot.listed));
-  total = (c.make_own-total.ensures.builds.total_is);
-  block = (c.take_pivot-block.ensures.rows ∙ c.make_own-total.ensures.builds.sizes c.args.me);
-  stays = refl;
-  same = refl;
-}
+returns g c = let p = c.args.work.now in let v = c.make_own-total.new.work in let made = c.make_own-total.ensures in
+    let same : workspace_of v ≡ record (workspace_of p) { iw = v.iw.now; nv = v.nv.now; e_len = v.e_len.now; len = v.len.now }
+    = made.same in record {
+      begins = record {
+        begins = begins refl made.builds made.makes (ap (λ (q : Workspace). start q.pe c.args.me) same)
+            (front_apart p.iw.now p.nv.now p.pe.now p.len.now c.args.me 0) c.take_pivot-block.ensures.takes
+            (own_inside (workspace_of p) (workspace_of v) c.args.me c.requires.pivot.laid made.makes.laid
+            (ap (λ (q : Workspace). q.pe) same) (ap (λ (q : Workspace). q.free) same) c.requires.pivot.listed);
+        total = made.builds.total_is;
+        block = c.take_pivot-block.ensures.rows ∙ made.builds.sizes c.args.me;
+        same = ap (λ (q : Workspace). record q { nv = c.take_pivot-block.new.nv }) same;
+      };
+      loans = made.loans;
+    }

@@ -9,7 +9,8 @@ pub visit_around-requires-clause-held : goal.visit_around-requires-clause-held
 visit_around-requires-clause-held g c = builds_none c.args.iw.now c.args.nv.now c.enter.new.nv c.args.pe.now c.args.len.now c.args.pivot
     c.args.n_elements c.args.free c.enter.ensures.sizes c.enter.ensures.front c.requires.around.clear c.requires.fits c.requires.few
 
-pub returns : goal.returns
-returns g c = builds_visited c.args.iw.now c.args.nv.now c.enter.new.nv c.args.pe.now c.args.len.now c.args.pivot c.args.n_elements
+pub returns-clause-builds : goal.returns-clause-builds
+returns-clause-builds g c =
+    builds_visited c.args.iw.now c.args.nv.now c.enter.new.nv c.args.pe.now c.args.len.now c.args.pivot c.args.n_elements
     c.args.free
     c.enter.ensures.sizes c.enter.ensures.front c.requires.around.clear c.enter.ensures.long c.visit_around.ensures.held

@@ -65,8 +65,8 @@ put_cell-requires-clause-fits g c = zero-le
 pub loop-p-smaller : goal.loop-p-smaller
 loop-p-smaller g c = falls (c.args.from + c.args.count) c.loop-p.p c.loop-p-test.true
 
-pub returns : goal.returns
-returns g c = record {
+pub returns-clause-absorbs : goal.returns-clause-absorbs
+returns-clause-absorbs g c = record {
   lengths = ((c.loop-p.invariant.p_long, c.loop-p.invariant.w_long));
   starts = (λ e. let from : ℕ = c.args.from in
       c.loop-p.invariant.starts e

@@ -1,21 +1,18 @@
-use Rattle.std.proofs.Common.{◌<◌, ◌^◌, ◌-◌, refl, sym, ap, subst, ◌∙◌, arith, sum_by, set}
+use Rattle.std.proofs.Common.{ℕ, ◌<◌, ◌^◌, ◌-◌, sym, ap, subst, ◌∙◌, arith, sum_by, set, length}
 use Rattle.amd_words.specs.Words.{num, start, size_of, classes, rows}
 use Rattle.amd_elements.specs.Element.{grown}
 use Rattle.amd_lists.proofs.Frames.{has_parts}
 use Rattle.amd_words.proofs.RowLists.{names_at}
 use Rattle.amd_elements.proofs.Settling.{list_laid}
 use Rattle.amd_elements.proofs.Gathering.{gathers_end}
-use Rattle.amd_elements.proofs.OwnPlace.{gathers_at, own_few, own_gather, own_builds, own_makes_as}
+use Rattle.amd_elements.proofs.OwnPlace.{gathers_at, own_few, own_gather, own_builds, own_makes}
 use Rattle.amd_elements.proofs.own_place.make_own.Goals as goal
 
-pub named-from-requires-clause-inside : goal.named-from-requires-clause-inside
-named-from-requires-clause-inside g c = let a = c.requires.pivot.row.0 in let l = c.requires.pivot.lengths.0 in omega (arith, a, l)
-
-pub named-from-requires-clause-is_one : goal.named-from-requires-clause-is_one
-named-from-requires-clause-is_one g c = (has_parts c.args.pe.now c.args.len.now c.args.me c.requires.pivot.listed).0
-
-pub cell_at-count-requires : goal.cell_at-count-requires
-cell_at-count-requires g c = let a = c.requires.pivot.row.0 in let l = c.requires.pivot.lengths.2 in omega (arith, a, l)
+pub list_lent-from-requires : goal.list_lent-from-requires
+list_lent-from-requires g c = let q = c.requires.pivot in let a = q.row.0 in let l = q.lengths.0 in let m = q.lengths.2 in record {
+  inside = ((omega (arith, a, l)), (omega (arith, a, m)));
+  place = (has_parts c.args.work.now.pe.now c.args.work.now.len.now c.args.me q.listed).0;
+}
 
 pub enter-requires-clause-inside : goal.enter-requires-clause-inside
 enter-requires-clause-inside g c = c.requires.pivot.row.0
@@ -28,16 +25,19 @@ enter-requires-clause-fresh g c = c.requires.pivot.clear c.args.me
 
 pub gather-end-requires : goal.gather-end-requires
 gather-end-requires g c = own_gather record {
-  inside = (let f = c.named-from.ensures in let n = c.cell_at-count.ensures.is in
+  inside = (let f = c.list_lent-from.ensures.list.0 in let n = c.list_lent-from.ensures.list.1 in
       let w = c.requires.pivot.laid.within c.args.me c.requires.pivot.listed in
       let e = c.requires.pivot.end in omega (arith, f, n, w, e));
-  names = (names_at c.args.iw.now (sym c.enter.ensures.long) (sym c.named-from.ensures)
-      (sym c.cell_at-count.ensures.is) (list_laid c.requires.pivot.laid c.args.me c.requires.pivot.listed).2);
-} (subst (λ m. sum_by (size_of c.enter.new.nv) (grown c.args.iw.now c.enter.new.nv c.named-from.result c.named-from.result
-    (classes c.enter.new.nv (rows c.args.iw.now c.named-from.result m))) < 2 ^ 63) (sym c.cell_at-count.ensures.is)
-    (subst (λ s. sum_by (size_of c.enter.new.nv) (grown c.args.iw.now c.enter.new.nv s s
-    (classes c.enter.new.nv (rows c.args.iw.now s (num c.args.len.now c.args.me)))) < 2 ^ 63) (sym c.named-from.ensures)
-    (own_few c.args.iw.now c.args.nv.now c.enter.new.nv c.args.pe.now c.args.len.now c.args.me c.enter.ensures.sizes c.enter.ensures.front
+  names = (names_at c.args.work.now.iw.now (sym c.enter.ensures.long) (sym c.list_lent-from.ensures.list.0)
+      (sym c.list_lent-from.ensures.list.1) (list_laid c.requires.pivot.laid c.args.me c.requires.pivot.listed).2);
+} (subst (λ m. sum_by (size_of c.enter.new.nv) (grown c.args.work.now.iw.now c.enter.new.nv c.list_lent-from.result.0
+    c.list_lent-from.result.0
+    (classes c.enter.new.nv (rows c.args.work.now.iw.now c.list_lent-from.result.0 m))) < 2 ^ 63) (sym c.list_lent-from.ensures.list.1)
+    (subst (λ s. sum_by (size_of c.enter.new.nv) (grown c.args.work.now.iw.now c.enter.new.nv s s
+    (classes c.enter.new.nv (rows c.args.work.now.iw.now s (num c.args.work.now.len.now c.args.me)))) < 2 ^ 63)
+    (sym c.list_lent-from.ensures.list.0)
+    (own_few c.args.work.now.iw.now c.args.work.now.nv.now c.enter.new.nv c.args.work.now.pe.now c.args.work.now.len.now c.args.me
+    c.enter.ensures.sizes c.enter.ensures.front
     c.requires.pivot.clear (let f = c.requires.few in let top = g.met.P.Signed.narrow in omega (arith, f, top)))))
 
 pub put_flip-requires-clause-inside : goal.put_flip-requires-clause-inside
@@ -45,29 +45,30 @@ put_flip-requires-clause-inside g c = let a = c.requires.pivot.row.0 in let l = 
 
 pub put_flip-requires-clause-small : goal.put_flip-requires-clause-small
 put_flip-requires-clause-small g c =
-    let b = own_builds c.args.iw.now c.args.nv.now c.enter.new.nv c.args.pe.now c.args.len.now c.args.me c.enter.ensures.sizes
-    c.enter.ensures.front c.requires.pivot.clear c.enter.ensures.long
-    (gathers_at c.named-from.ensures c.cell_at-count.ensures.is c.gather-end.ensures) in
+    let b = own_builds c.args.work.now.iw.now c.args.work.now.nv.now c.enter.new.nv c.args.work.now.pe.now c.args.work.now.len.now
+    c.args.me c.enter.ensures.sizes c.enter.ensures.front c.requires.pivot.clear c.enter.ensures.long
+    (gathers_at c.list_lent-from.ensures.list.0 c.list_lent-from.ensures.list.1 c.gather-end.ensures) in
     let t = b.total_is in let f = c.requires.few in omega (arith, t, f)
 
 pub returns-clause-builds : goal.returns-clause-builds
-returns-clause-builds g c = own_builds c.args.iw.now c.args.nv.now c.enter.new.nv c.args.pe.now c.args.len.now c.args.me
-    c.enter.ensures.sizes c.enter.ensures.front c.requires.pivot.clear c.enter.ensures.long
-    (gathers_at c.named-from.ensures c.cell_at-count.ensures.is c.gather-end.ensures)
+returns-clause-builds g c = let p = c.args.work.now in let at = c.list_lent-from.ensures.list in
+    own_builds p.iw.now p.nv.now c.enter.new.nv p.pe.now p.len.now c.args.me c.enter.ensures.sizes c.enter.ensures.front
+    c.requires.pivot.clear c.enter.ensures.long (gathers_at at.0 at.1 c.gather-end.ensures)
 
 pub returns-clause-makes : goal.returns-clause-makes
 returns-clause-makes g c =
-    let h = gathers_at c.named-from.ensures c.cell_at-count.ensures.is c.gather-end.ensures in
-    let b = own_builds c.args.iw.now c.args.nv.now c.enter.new.nv c.args.pe.now c.args.len.now c.args.me c.enter.ensures.sizes
-    c.enter.ensures.front c.requires.pivot.clear c.enter.ensures.long h in
-    let small = c.requires.pivot.row.0 in let e = c.requires.pivot.lengths.1 in let l = c.requires.pivot.lengths.2 in
-    own_makes_as c.requires.pivot.laid refl (omega (arith, small, e)) (omega (arith, small, l)) c.requires.pivot.listed b
-    (gathers_end (start c.args.pe.now c.args.me) (num c.args.len.now c.args.me) h) c.put_flip.ensures
-    (c.put_cell.ensures ∙ ap (λ s. set c.args.len.now c.args.me (c.gather-end.result.0 - s)) c.named-from.ensures)
+    let p = c.args.work.now in let at = c.list_lent-from.ensures.list in let lent = c.list_lent-from.ensures.same in
+    let me : ℕ = c.args.me in let h = gathers_at at.0 at.1 c.gather-end.ensures in
+    let b = own_builds p.iw.now p.nv.now c.enter.new.nv p.pe.now p.len.now me c.enter.ensures.sizes c.enter.ensures.front
+    c.requires.pivot.clear c.enter.ensures.long h in
+    rw lent.0 (own_makes c.requires.pivot b (gathers_end (start p.pe.now me) (num p.len.now me) h) c.put_flip.ensures
+    (c.put_cell.ensures ∙ ap (λ xs. set xs me (c.gather-end.result.0 - c.list_lent-from.result.0)) lent.1
+    ∙ ap (λ s. set p.len.now me (c.gather-end.result.0 - s)) at.0))
 
 pub put_cell-requires-clause-inside : goal.put_cell-requires-clause-inside
-put_cell-requires-clause-inside g c = let a = c.requires.pivot.row.0 in let l = c.requires.pivot.lengths.2 in omega (arith, a, l)
+put_cell-requires-clause-inside g c = let a = c.requires.pivot.row.0 in let l = c.requires.pivot.lengths.2 in
+    let e = ap length c.list_lent-from.ensures.same.1 in omega (arith, a, l, e)
 
 pub put_cell-requires-clause-fits : goal.put_cell-requires-clause-fits
-put_cell-requires-clause-fits g c = let a = gathers_end c.named-from.result c.cell_at-count.result c.gather-end.ensures in let b =
-    c.cell_at-count.ensures.small in omega (arith, a, b)
+put_cell-requires-clause-fits g c = let a = gathers_end c.list_lent-from.result.0 c.list_lent-from.result.1 c.gather-end.ensures in let b =
+    c.list_lent-from.ensures.small in omega (arith, a, b)

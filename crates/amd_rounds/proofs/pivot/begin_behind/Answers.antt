@@ -7,4 +7,4 @@ begin_built-begun-requires g c = can_make c.requires.laid.1 c.requires.pivot c.m
 
 pub returns-clause-begins : goal.returns-clause-begins
 returns-clause-begins g c = begun_behind c.requires.laid.1 c.requires.pivot c.make_room.ensures.rooms c.requires.count
-    c.begin_built-begun.ensures
+    c.begin_built-begun.ensures.begins

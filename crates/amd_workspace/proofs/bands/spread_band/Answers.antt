@@ -9,7 +9,7 @@ use Rattle.amd_edges.specs.Visits.{start_of}
 use Rattle.amd_words.specs.Words.{num}
 use Rattle.amd_workspace.specs.Copying.{is_other}
 use Rattle.amd_workspace.specs.Lower.{Matrix, SpreadsColumns, own_start}
-use Rattle.amd_workspace.specs.Bands.{HasHeads, IsReadyForBand, IsReadyForPart, banded, own_from, spread_to}
+use Rattle.amd_workspace.specs.Bands.{HasHeads, IsReadyForBand, IsReadyForPart, band_part, banded, own_from, spread_to}
 use Rattle.amd_workspace.proofs.BandWords.{band_ends, band_next, band_starts, none_in_band, not_lt}
 use Rattle.amd_workspace.proofs.LowerWords.{later_list, list_room, next_end, spreads_same}
 use Rattle.amd_workspace.proofs.LowerLists.{length_more}
@@ -41,7 +41,7 @@ module _ (m : Matrix) (lo hi : ℕ) (degrees : List ℕ) (a b : ℕ) (next : Lis
     j_in : j < m.n
     j_in = let x = r.rows_in in omega (arith, x, l)
 
-    ready : IsReadyForPart m lo hi j (num heads' j) (end + num degrees j) a b next' iw'
+    ready : IsReadyForPart m (band_part lo hi j (num heads' j) (end + num degrees j)) a b next' iw'
     ready = let room = r.room in let places = r.places in record {
       lower = r.lower;
       row = l;
@@ -136,8 +136,8 @@ spread_until-left-requires g c =
 -- column j, as it comes next
 next : (g : Over) (c : After-cell_at-place g) (m : Matrix) (lo : ℕ) →
     IsReadyForBand m lo c.args.hi c.args.degrees.now g.S.Signed.MOST g.U.Unsigned.MOST c.args.next.now c.args.iw.now c.args.heads.now →
-    IsReadyForPart m lo c.args.hi c.columns.j c.cell_at-place.result (c.columns.end + c.cell_at-end.result) g.S.Signed.MOST
-    g.U.Unsigned.MOST c.columns.next c.columns.iw
+    IsReadyForPart m (band_part lo c.args.hi c.columns.j c.cell_at-place.result (c.columns.end + c.cell_at-end.result))
+    g.S.Signed.MOST g.U.Unsigned.MOST c.columns.next c.columns.iw
 next g c m lo r = let i = c.columns.invariant in
     rw (c.cell_at-place.ensures.is, c.cell_at-end.ensures.is) (ready m lo c.args.hi c.args.degrees.now _ _ c.args.next.now c.args.iw.now
     c.args.heads.now r c.columns.j c.columns.end c.columns.next c.columns.iw c.columns.heads c.columns-test.true (i.end m lo r) i.long

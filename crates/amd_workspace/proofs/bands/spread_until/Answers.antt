@@ -5,7 +5,7 @@ use Rattle.amd_model.specs.Below.{list_below}
 use Rattle.amd_words.specs.Words.{num, word}
 use Rattle.amd_workspace.specs.Copying.{is_other}
 use Rattle.amd_workspace.specs.Lower.{Matrix, SpreadsColumns, earlier_of, own_of, own_start}
-use Rattle.amd_workspace.specs.Bands.{IsReadyForPart, banded, own_from}
+use Rattle.amd_workspace.specs.Bands.{IsReadyForPart, band_part, banded, own_from}
 use Rattle.amd_workspace.proofs.BandWords.{Part, next_row, none_before, none_left, part_all, part_count, part_end}
 use Rattle.amd_workspace.proofs.BandWords.{part_inside, part_step, row_after}
 use Rattle.amd_workspace.proofs.LowerLists.{IsNth}
@@ -20,7 +20,7 @@ words-init g c = record {
 
 -- a place in the part of a column
 module _ (m : Matrix) (lo hi j start end a b : ℕ) (next : List ℕ) (iw : List ℤ)
-    (r : IsReadyForPart m lo hi j start end a b next iw) (place : ℕ) (next' : List ℕ) (iw' : List ℤ)
+    (r : IsReadyForPart m (band_part lo hi j start end) a b next iw) (place : ℕ) (next' : List ℕ) (iw' : List ℤ)
     (long : length iw' ≡ length iw) (v : Part m lo hi j place next' iw') where
   abbrev k : ℕ
   k = length (list_below v.bound (is_other m.n m.ap m.ai j))
