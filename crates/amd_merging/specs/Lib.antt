@@ -1,4 +1,5 @@
 -- Classes merged, and the front at its end.
+pub mod Classes
 pub mod Merging
 pub mod Restoring
 pub mod FrontLists

@@ -11,6 +11,7 @@ ghost use Rattle.amd_words.specs.Words.{flip_of, is_place, num, rows, size_of, w
 ghost use Rattle.amd_lists.specs.Chains.{Chain};
 ghost use Rattle.amd_lists.specs.Lengths.{row_count};
 ghost use Rattle.amd_lists.specs.Spans.{IsSpan};
+ghost use Rattle.amd_merging.specs.Classes.{classes_of, lists_of};
 ghost use Rattle.amd_merging.specs.Effects.{AddsInside, FindsAlike, MergesClasses, MergesOne};
 ghost use Rattle.amd_merging.specs.Merging.{Finds, HasNone, HasSome, IsRenewed, as_long, bucket, bucket_of};
 ghost use Rattle.amd_merging.specs.Merging.{is_near, looks};
@@ -170,7 +171,7 @@ fn walk<S: Signed, P: Signed, U: Unsigned>(
     few: usize,
     flag: usize,
 ) -> usize
-    requires { CanWalk iw.now pe.now e_len.now len.now w.now sides.now head }
+    requires { CanWalk (lists_of iw.now pe.now e_len.now len.now) w.now sides.now head }
     ensures { Finds (row_count sides.now) (looks iw.now pe.now e_len.now len.now w.now count few flag)
         (bucket (nexts sides.now) head) result }
 {
@@ -198,8 +199,8 @@ fn find<S: Signed, P: Signed, U: Unsigned>(
     i: usize,
     flag: usize,
 ) -> usize
-    requires { CanFind U.MOST flag i iw.now pe.now e_len.now len.now w.old sides.now head }
-    ensures { FindsAlike flag i head iw.now pe.now e_len.now len.now w.old sides.now w.new result }
+    requires { CanFind U.MOST flag i (lists_of iw.now pe.now e_len.now len.now) w.old sides.now head }
+    ensures { FindsAlike flag i head (lists_of iw.now pe.now e_len.now len.now) w.old sides.now w.new result }
 {
     let few = named(e_len, i);
     let count = cell_at(len, i);
@@ -263,10 +264,10 @@ fn merge_one<S: Signed, P: Signed, U: Unsigned>(
     i: usize,
     flag: usize,
 ) -> usize
-    requires { CanMergeOne S.MOST P.MOST U.MOST count i flag iw.now pe.old e_len.old nv.old len.now w.old hash.old
-        sides.old }
-    ensures { MergesOne count i flag iw.now pe.old e_len.old nv.old len.now w.old hash.old sides.old pe.new e_len.new
-        nv.new w.new hash.new sides.new result }
+    requires { CanMergeOne S.MOST P.MOST U.MOST count i flag
+        (classes_of iw.now pe.old e_len.old nv.old len.now w.old hash.old sides.old) }
+    ensures { MergesOne count i flag (classes_of iw.now pe.old e_len.old nv.old len.now w.old hash.old sides.old)
+        (classes_of iw.now pe.new e_len.new nv.new len.now w.new hash.new sides.new) result }
 {
     let key = bucket_at(sides, i, count);
     let head = cell_at(hash, key);
@@ -308,10 +309,11 @@ pub fn merge_front<S: Signed, P: Signed, U: Unsigned>(
     count: usize,
     flag: usize,
 ) -> usize
-    requires { CanMergeFront S.MOST P.MOST U.MOST from count flag iw.old pe.old e_len.old nv.old len.old w.old hash.old
-        sides.old }
-    ensures merges { MergesClasses from count flag iw.old pe.old e_len.old nv.old len.old w.old sides.old pe.new
-        e_len.new nv.new w.new hash.new sides.new result }
+    requires { CanMergeFront S.MOST P.MOST U.MOST from count flag
+        (classes_of iw.old pe.old e_len.old nv.old len.old w.old hash.old sides.old) }
+    ensures merges { MergesClasses from count flag
+        (classes_of iw.old pe.old e_len.old nv.old len.old w.old hash.old sides.old)
+        (classes_of iw.new pe.new e_len.new nv.new len.new w.new hash.new sides.new) result }
     ensures same { (iw.new ≡ iw.old) × (len.new ≡ len.old) }
 {
     if count < 2 {
