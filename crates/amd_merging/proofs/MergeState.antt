@@ -54,9 +54,8 @@ module _ (n : ℕ) (was : Classes) (rest : List ℕ) (flag0 count : ℕ) where
 
   abbrev pub IsFound : ℕ → (ℕ → ℕ) → (ℕ → List ℕ) → Type 0
   IsFound k now buckets = Found like (alike_self (kept_of was.iw was.pe was.e_len) (variables_in was.iw was.pe was.e_len was.len))
-      (alike_flip (kept_of was.iw was.pe was.e_len) (variables_in was.iw was.pe was.e_len was.len)) (alike_through (kept_of was.iw was.pe
-      was.e_len) (variables_in was.iw was.pe
-      was.e_len was.len))
+      (alike_flip (kept_of was.iw was.pe was.e_len) (variables_in was.iw was.pe was.e_len was.len))
+      (alike_through (kept_of was.iw was.pe was.e_len) (variables_in was.iw was.pe was.e_len was.len))
       rest (bucket_of count was.last) k now buckets
 
   -- the classes behind the first k were gone through

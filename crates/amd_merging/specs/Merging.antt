@@ -8,7 +8,7 @@ use Rattle.amd_lists.specs.Layout.{variables_in}
 use Rattle.amd_lists.specs.Renewal.{key_of}
 use Rattle.amd_lists.specs.Chains.{Chain}
 use Rattle.amd_lists.specs.Sizes.{bucket_count}
-use Rattle.amd_merging.specs.Classes.{Classes}
+use Rattle.amd_merging.specs.Classes.{Lists, Classes}
 use Rattle.amd_round_laws.specs.Rounds.{alike_in}
 
 -- the rows to which the links from x on lead, as many as the fuel at most
@@ -49,9 +49,9 @@ abbrev pub as_long : List ℤ → List ℕ → ℕ → ℕ → ℕ → Bool
 as_long e_len len count few j = num len j == count && place (word e_len j) == few
 
 -- so it has, and all its words are marked with the flag
-abbrev pub looks : List ℤ → List ℤ → List ℤ → List ℕ → List ℕ → ℕ → ℕ → ℕ → ℕ → Bool
-looks iw pe e_len len w count few flag j = as_long e_len len count few j
-    && each (λ x. num w x == flag) (words_of iw pe len j)
+abbrev pub looks : Lists → List ℕ → ℕ → ℕ → ℕ → ℕ → Bool
+looks p w count few flag j = as_long p.e_len p.len count few j
+    && each (λ x. num w x == flag) (words_of p.iw p.pe p.len j)
 
 -- the class j of a bucket is near the class i, so that their lists are compared: it has its key, and as many words and
 -- elements
