@@ -9,7 +9,9 @@ use Rattle.amd_model.proofs.Quotient.Lists.{has_append}
 use Rattle.amd_words.specs.Words.{num, is_place, place, word, start, rows}
 use Rattle.amd_lists.specs.Renewal.{Renews}
 use Rattle.amd_lists.specs.Layout.{has_list, elements_in, variables_in, list_in, Layout, ReadsSame, IsPlaced}
-use Rattle.amd_lists.specs.Layout.{IsRenewable, RenewsOne, RenewsAll}
+use Rattle.amd_lists.specs.Layout.{IsRenewable, RenewsOne, RenewsAll, list_of}
+use Rattle.amd_lists.specs.Spans.{row_list}
+use Rattle.amd_lists.specs.Workspaces.{Workspace}
 use Rattle.amd_words.proofs.RowLists.{rows_more, rows_has, rows_part}
 use Rattle.amd_words.proofs.RowLists.{fresh_word}
 use Rattle.amd_lists.proofs.Frames.{has_parts, has_from, reads_elements, reads_variables, live_less, one_shorter, one_listed, one_reads}
@@ -29,8 +31,8 @@ unfolding has
 snoc_none xs i j h = let a = or_parts (has xs j) (i == j || false) (sym (has_append xs (i ∷ []) j) ∙ h) in
     (a.0, λ q. clash {P = ⊥} (or_left (i == j) false (eq-eqb i j (sym q))) a.1)
 
-module _ (n me : ℕ) (kept is_apart : ℕ → Bool) (iw pe e_len : List ℤ) (len : List ℕ) (free : ℕ) (y : Layout n iw pe e_len len free) where
-  pub all_none : RenewsAll n me kept is_apart [] free iw pe e_len len iw e_len len
+module _ (n me : ℕ) (kept is_apart : ℕ → Bool) (p : Workspace) (y : Layout n p.iw p.pe p.e_len p.len p.free) where
+  pub all_none : RenewsAll n me kept is_apart [] p p
   unfolding has
   all_none = record {
     long = refl;
@@ -50,39 +52,39 @@ module _ (n me : ℕ) (kept is_apart : ℕ → Bool) (iw pe e_len : List ℤ) (l
     laid = y;
   }
 
-  module _ {xs : List ℕ} {iw1 e_len1 : List ℤ} {len1 : List ℕ} (h : RenewsAll n me kept is_apart xs free iw pe e_len len iw1 e_len1 len1)
-      (i : ℕ) (fresh : has xs i ≡ false) (mine : IsRenewable kept is_apart iw pe e_len len i) where
-    still : ReadsSame iw pe e_len len iw1 pe e_len1 len1 i
+  module _ {xs : List ℕ} {v1 : Workspace} (h : RenewsAll n me kept is_apart xs p v1)
+      (i : ℕ) (fresh : has xs i ≡ false) (mine : IsRenewable kept is_apart p.iw p.pe p.e_len p.len i) where
+    still : ReadsSame p.iw p.pe p.e_len p.len v1.iw p.pe v1.e_len v1.len i
     still = h.same i fresh mine.0
 
-    pub still_elements : elements_in iw1 pe e_len1 i ≡ elements_in iw pe e_len i
-    still_elements = reads_elements iw pe e_len len iw1 pe e_len1 len1 i still (y.parts i mine.0)
+    pub still_elements : elements_in v1.iw p.pe v1.e_len i ≡ elements_in p.iw p.pe p.e_len i
+    still_elements = reads_elements p.iw p.pe p.e_len p.len v1.iw p.pe v1.e_len v1.len i still (y.parts i mine.0)
 
-    pub still_variables : variables_in iw1 pe e_len1 len1 i ≡ variables_in iw pe e_len len i
-    still_variables = reads_variables iw pe e_len len iw1 pe e_len1 len1 i still (y.parts i mine.0)
+    pub still_variables : variables_in v1.iw p.pe v1.e_len v1.len i ≡ variables_in p.iw p.pe p.e_len p.len i
+    still_variables = reads_variables p.iw p.pe p.e_len p.len v1.iw p.pe v1.e_len v1.len i still (y.parts i mine.0)
 
-    listed1 : has_list pe len1 i ≡ true
+    listed1 : has_list p.pe v1.len i ≡ true
     listed1 = h.listed i ∙ mine.0
 
     -- what was not gone through can be renewed as before
-    pub all_placed : i < n → free ≤ length iw → IsPlaced n iw1 pe e_len1 len1 i
+    pub all_placed : i < n → p.free ≤ length p.iw → IsPlaced n v1.iw p.pe v1.e_len v1.len i
     all_placed small fit = let w = h.laid.within i listed1 in record {
       row = small;
-      starts = (has_parts pe len i mine.0).0;
+      starts = (has_parts p.pe p.len i mine.0).0;
       counts = ap is_place still.0 ∙ mine.1;
       parts = h.laid.parts i listed1;
       within = (let l = h.long in omega (arith, w, l, fit));
-      names = λ k l. h.laid.words (start pe i + k) (omega (arith, w, l));
+      names = λ k l. h.laid.words (start p.pe i + k) (omega (arith, w, l));
     }
 
-    pub all_more : {iw2 e_len2 : List ℤ} {len2 : List ℕ} → RenewsOne n me kept is_apart i iw1 pe e_len1 len1 iw2 e_len2 len2 →
-        RenewsAll n me kept is_apart (xs ++ i ∷ []) free iw pe e_len len iw2 e_len2 len2
-    all_more {iw2} {e_len2} {len2} g =
+    pub all_more : {v2 : Workspace} → RenewsOne n me kept is_apart i (record v1 { pe = p.pe }) v2 →
+        RenewsAll n me kept is_apart (xs ++ i ∷ []) p v2
+    all_more {v2} g =
         let else_one : (j : ℕ) → has xs j ≡ true → j ≡ i → ⊥ = λ j k q. clash {P = ⊥} k (ap (has xs) q ∙ fresh) in
-        let reads : (j : ℕ) → (j ≡ i → ⊥) → has_list pe len j ≡ true → ReadsSame iw1 pe e_len1 len1 iw2 pe e_len2 len2 j =
+        let reads : (j : ℕ) → (j ≡ i → ⊥) → has_list p.pe p.len j ≡ true → ReadsSame v1.iw p.pe v1.e_len v1.len v2.iw p.pe v2.e_len v2.len j =
         λ j ne k. one_reads h.laid listed1 g j ne (h.listed j ∙ k) in
-        let listed2 : (j : ℕ) → has_list pe len2 j ≡ has_list pe len j = λ j. one_listed h.laid listed1 g j ∙ h.listed j in
-        let shorter2 : (j : ℕ) → num len2 j ≤ num len j = λ j. let a = one_shorter h.laid listed1 g j in let b = h.shorter j in
+        let listed2 : (j : ℕ) → has_list p.pe v2.len j ≡ has_list p.pe p.len j = λ j. one_listed h.laid listed1 g j ∙ h.listed j in
+        let shorter2 : (j : ℕ) → num v2.len j ≤ num p.len j = λ j. let a = one_shorter h.laid listed1 g j in let b = h.shorter j in
         omega (arith, a, b) in
         record {
           long = g.list.long ∙ h.long;
@@ -90,12 +92,12 @@ module _ (n me : ℕ) (kept is_apart : ℕ → Bool) (iw pe e_len : List ℤ) (l
           l_long = g.l_long ∙ h.l_long;
           known = λ j k. elim (snoc_cases xs i j k) [ inl a ↦ h.known j a | inr q ↦ rw q (mine.0) ];
           elements = λ j k. elim (snoc_cases xs i j k) [
-            | inl a ↦ reads_elements iw1 pe e_len1 len1 iw2 pe e_len2 len2 j (reads j (else_one j a) (h.known j a))
+            | inl a ↦ reads_elements v1.iw p.pe v1.e_len v1.len v2.iw p.pe v2.e_len v2.len j (reads j (else_one j a) (h.known j a))
                 (h.laid.parts j (h.listed j ∙ h.known j a)) ∙ h.elements j a
             | inr q ↦ rw q (g.list.elements ∙ ap (λ l. me ∷ turned (filter kept l)) still_elements)
           ];
           variables = λ j k. elim (snoc_cases xs i j k) [
-            | inl a ↦ reads_variables iw1 pe e_len1 len1 iw2 pe e_len2 len2 j (reads j (else_one j a) (h.known j a))
+            | inl a ↦ reads_variables v1.iw p.pe v1.e_len v1.len v2.iw p.pe v2.e_len v2.len j (reads j (else_one j a) (h.known j a))
                 (h.laid.parts j (h.listed j ∙ h.known j a)) ∙ h.variables j a
             | inr q ↦ rw q (g.list.variables ∙ ap (λ l. turned (filter is_apart l)) still_variables)
           ];
@@ -110,7 +112,7 @@ module _ (n me : ℕ) (kept is_apart : ℕ → Bool) (iw pe e_len : List ℤ) (l
               (d.0 ∙ b.0, d.1 ∙ b.1, λ t m. d.2 t (let e = b.1 in omega (arith, e, m)) ∙ b.2 t m);
           listed = listed2;
           shorter = shorter2;
-          fewer = live_less n pe len len2 listed2 shorter2;
+          fewer = live_less n p.pe p.len v2.len listed2 shorter2;
           behind = λ k l. one_behind h.laid listed1 g k l ∙ h.behind k l;
           laid = one_laid h.laid listed1 g;
         }
@@ -118,94 +120,83 @@ module _ (n me : ℕ) (kept is_apart : ℕ → Bool) (iw pe e_len : List ℤ) (l
 -- ---- the loop over the words of the new element
 
 -- what is written for one class
-pub one_from : (n me : ℕ) (kept is_apart : ℕ → Bool) (i few count : ℕ) (iw pe e_len : List ℤ) (len : List ℕ) (iw' : List ℤ) →
-    i < length e_len → i < length len →
-    Renews n me kept is_apart iw (start pe i) (place (word e_len i)) (num len i) iw' few count →
-    RenewsOne n me kept is_apart i iw pe e_len len iw' (set e_len i (pos few)) (set len i count)
+pub one_from : {n me i : ℕ} {kept is_apart : ℕ → Bool} {p : Workspace} (v : Workspace) (few count : ℕ) → i < length p.e_len →
+    i < length p.len → v.e_len ≡ set p.e_len i (pos few) → v.len ≡ set p.len i count →
+    Renews n me kept is_apart (list_of p p i) (row_list v.iw (start p.pe i) few count) → RenewsOne n me kept is_apart i p v
 unfolding place is_place
-one_from n me kept is_apart i few count iw pe e_len len iw' small_e small_l h =
-    let a : word (set e_len i (pos few)) i ≡ pos few = get_or-set_same e_len i (pos few) (pos 0) small_e in
-    let b : num (set len i count) i ≡ count = get_or-set_same len i count 0 small_l in record {
-      list = subst (λ m. Renews n me kept is_apart iw (start pe i) (place (word e_len i)) (num len i) iw'
-          (place (word (set e_len i (pos few)) i)) m) (sym b)
-          (subst (λ m. Renews n me kept is_apart iw (start pe i) (place (word e_len i)) (num len i) iw' m count) (sym (ap place a)) h);
+one_from {n} {me} {i} {kept} {is_apart} {p} v few count small_e small_l e l h =
+    let a : word v.e_len i ≡ pos few = ap (λ xs. word xs i) e ∙ get_or-set_same p.e_len i (pos few) (pos 0) small_e in
+    let b : num v.len i ≡ count = ap (λ xs. num xs i) l ∙ get_or-set_same p.len i count 0 small_l in record {
+      list = subst (λ m. Renews n me kept is_apart (list_of p p i) (row_list v.iw (start p.pe i) (place (word v.e_len i)) m)) (sym b)
+          (subst (λ m. Renews n me kept is_apart (list_of p p i) (row_list v.iw (start p.pe i) m count)) (sym (ap place a)) h);
       count = ap is_place a;
-      e_long = length-set e_len i (pos few);
-      l_long = length-set len i count;
-      counts = λ j ne. get_or-set_other e_len i j (pos few) (pos 0) ne;
-      lengths = λ j ne. get_or-set_other len i j count 0 ne;
+      e_long = ap length e ∙ length-set p.e_len i (pos few);
+      l_long = ap length l ∙ length-set p.len i count;
+      counts = λ j ne. ap (λ xs. word xs j) e ∙ get_or-set_other p.e_len i j (pos few) (pos 0) ne;
+      lengths = λ j ne. ap (λ xs. num xs j) l ∙ get_or-set_other p.len i j count 0 ne;
     }
 
--- the same of lists that are equal to those
-pub one_from_as : {n me : ℕ} {kept is_apart : ℕ → Bool} {i : ℕ} {iw pe e_len : List ℤ} {len : List ℕ} {iw' e_len' : List ℤ}
-    {len' : List ℕ} (few count : ℕ) → e_len' ≡ set e_len i (pos few) → len' ≡ set len i count →
-    RenewsOne n me kept is_apart i iw pe e_len len iw' (set e_len i (pos few)) (set len i count) →
-    RenewsOne n me kept is_apart i iw pe e_len len iw' e_len' len'
-one_from_as {n} {me} {kept} {is_apart} {i} {iw} {pe} {e_len} {len} {iw'} {e_len'} {len'} few count a b h =
-    subst (λ q. RenewsOne n me kept is_apart i iw pe e_len len iw' q len') (sym a)
-    (subst (λ q. RenewsOne n me kept is_apart i iw pe e_len len iw' (set e_len i (pos few)) q) (sym b) h)
+module _ {n me : ℕ} {kept is_apart : ℕ → Bool} {p : Workspace} (y : Layout n p.iw p.pe p.e_len p.len p.free)
+    (starts : is_place (word p.pe me) ≡ true)
+    (apart : has (list_in p.iw p.pe p.len me) me ≡ false) (once : Once (list_in p.iw p.pe p.len me)) {v1 : Workspace} (k : ℕ)
+    (l : k < num p.len me)
+    (h : RenewsAll n me kept is_apart (rows p.iw (start p.pe me) k) p v1) where
+  own : has_list p.pe p.len me ≡ true
+  own = has_from p.pe p.len me starts (omega (arith, l))
 
-module _ {n me : ℕ} {kept is_apart : ℕ → Bool} {iw pe e_len : List ℤ} {len : List ℕ} {free : ℕ} (y : Layout n iw pe e_len len free)
-    (starts : is_place (word pe me) ≡ true)
-    (apart : has (list_in iw pe len me) me ≡ false) (once : Once (list_in iw pe len me)) {iw1 e_len1 : List ℤ} {len1 : List ℕ} (k : ℕ)
-    (l : k < num len me)
-    (h : RenewsAll n me kept is_apart (rows iw (start pe me) k) free iw pe e_len len iw1 e_len1 len1) where
-  own : has_list pe len me ≡ true
-  own = has_from pe len me starts (omega (arith, l))
+  own_fresh : has (rows p.iw (start p.pe me) k) me ≡ false
+  own_fresh = false_from_ne_true _ (λ q. clash {P = ⊥} (rows_part p.iw (start p.pe me) k (num p.len me) me (omega (arith, l)) q) apart)
 
-  own_fresh : has (rows iw (start pe me) k) me ≡ false
-  own_fresh = false_from_ne_true _ (λ q. clash {P = ⊥} (rows_part iw (start pe me) k (num len me) me (omega (arith, l)) q) apart)
-
-  pub front_word : word iw1 (start pe me + k) ≡ word iw (start pe me + k)
+  pub front_word : word v1.iw (start p.pe me + k) ≡ word p.iw (start p.pe me + k)
   front_word = (h.same me own_fresh own).2 k l
 
-  pub front_inside : start pe me + k < free
+  pub front_inside : start p.pe me + k < p.free
   front_inside = let a = y.within me own in omega (arith, a, l)
 
-  pub front_row : (is_place (word iw (start pe me + k)) ≡ true) × (place (word iw (start pe me + k)) < n)
-  front_row = y.words (start pe me + k) front_inside
+  pub front_row : (is_place (word p.iw (start p.pe me + k)) ≡ true) × (place (word p.iw (start p.pe me + k)) < n)
+  front_row = y.words (start p.pe me + k) front_inside
 
-  pub front_fresh : has (rows iw (start pe me) k) (place (word iw (start pe me + k))) ≡ false
-  front_fresh = fresh_word iw (start pe me) (num len me) k l once
+  pub front_fresh : has (rows p.iw (start p.pe me) k) (place (word p.iw (start p.pe me + k))) ≡ false
+  front_fresh = fresh_word p.iw (start p.pe me) (num p.len me) k l once
 
-  pub front_has : has (list_in iw pe len me) (place (word iw (start pe me + k))) ≡ true
-  front_has = rows_has iw (start pe me) (num len me) k l
+  pub front_has : has (list_in p.iw p.pe p.len me) (place (word p.iw (start p.pe me + k))) ≡ true
+  front_has = rows_has p.iw (start p.pe me) (num p.len me) k l
 
-  module _ (can : (i : ℕ) → has (list_in iw pe len me) i ≡ true →
-      IsRenewable kept is_apart iw pe e_len len i) (i : ℕ) (is : i ≡ place (word iw1 (start pe me + k))) where
-    was : i ≡ place (word iw (start pe me + k))
+  module _ (can : (i : ℕ) → has (list_in p.iw p.pe p.len me) i ≡ true →
+      IsRenewable kept is_apart p.iw p.pe p.e_len p.len i) (i : ℕ) (is : i ≡ place (word v1.iw (start p.pe me + k))) where
+    was : i ≡ place (word p.iw (start p.pe me + k))
     was = is ∙ ap place front_word
 
-    fresh : has (rows iw (start pe me) k) i ≡ false
-    fresh = ap (has (rows iw (start pe me) k)) was ∙ front_fresh
+    fresh : has (rows p.iw (start p.pe me) k) i ≡ false
+    fresh = ap (has (rows p.iw (start p.pe me) k)) was ∙ front_fresh
 
-    mine : IsRenewable kept is_apart iw pe e_len len i
-    mine = can i (ap (has (list_in iw pe len me)) was ∙ front_has)
+    mine : IsRenewable kept is_apart p.iw p.pe p.e_len p.len i
+    mine = can i (ap (has (list_in p.iw p.pe p.len me)) was ∙ front_has)
 
-    pub turn_placed : free ≤ length iw → IsPlaced n iw1 pe e_len1 len1 i
-    turn_placed fit = all_placed n me kept is_apart iw pe e_len len free y h i fresh mine (let a = front_row.1 in omega (arith, a, was)) fit
+    pub turn_placed : p.free ≤ length p.iw → IsPlaced n v1.iw p.pe v1.e_len v1.len i
+    turn_placed fit = all_placed n me kept is_apart p y h i fresh mine (let a = front_row.1 in omega (arith, a, was)) fit
 
-    pub turn_more : {iw2 e_len2 : List ℤ} {len2 : List ℕ} → RenewsOne n me kept is_apart i iw1 pe e_len1 len1 iw2 e_len2 len2 →
-        RenewsAll n me kept is_apart (rows iw (start pe me) (k + 1)) free iw pe e_len len iw2 e_len2 len2
-    turn_more {iw2} {e_len2} {len2} g = subst (λ xs. RenewsAll n me kept is_apart xs free iw pe e_len len iw2 e_len2 len2)
-        (ap (λ x. rows iw (start pe me) k ++ x ∷ []) was ∙ sym (rows_more iw (start pe me) k))
-        (all_more n me kept is_apart iw pe e_len len free y h i fresh mine g)
+    pub turn_more : {v2 : Workspace} → RenewsOne n me kept is_apart i (record v1 { pe = p.pe }) v2 →
+        RenewsAll n me kept is_apart (rows p.iw (start p.pe me) (k + 1)) p v2
+    turn_more {v2} g = subst (λ xs. RenewsAll n me kept is_apart xs p v2)
+        (ap (λ x. rows p.iw (start p.pe me) k ++ x ∷ []) was ∙ sym (rows_more p.iw (start p.pe me) k))
+        (all_more n me kept is_apart p y h i fresh mine g)
 
-    pub turn_fresh : has (rows iw (start pe me) k) i ≡ false
+    pub turn_fresh : has (rows p.iw (start p.pe me) k) i ≡ false
     turn_fresh = fresh
 
-    pub turn_known : has (list_in iw pe len me) i ≡ true
-    turn_known = ap (has (list_in iw pe len me)) was ∙ front_has
+    pub turn_known : has (list_in p.iw p.pe p.len me) i ≡ true
+    turn_known = ap (has (list_in p.iw p.pe p.len me)) was ∙ front_has
 
-    pub turn_row : i ≡ place (word iw (start pe me + k))
+    pub turn_row : i ≡ place (word p.iw (start p.pe me + k))
     turn_row = was
 
     -- what the class lists is what it listed
-    pub turn_elements : elements_in iw1 pe e_len1 i ≡ elements_in iw pe e_len i
-    turn_elements = still_elements n me kept is_apart iw pe e_len len free y h i fresh mine
+    pub turn_elements : elements_in v1.iw p.pe v1.e_len i ≡ elements_in p.iw p.pe p.e_len i
+    turn_elements = still_elements n me kept is_apart p y h i fresh mine
 
-    pub turn_variables : variables_in iw1 pe e_len1 len1 i ≡ variables_in iw pe e_len len i
-    turn_variables = still_variables n me kept is_apart iw pe e_len len free y h i fresh mine
+    pub turn_variables : variables_in v1.iw p.pe v1.e_len v1.len i ≡ variables_in p.iw p.pe p.e_len p.len i
+    turn_variables = still_variables n me kept is_apart p y h i fresh mine
 
-    pub turn_length : num len1 i ≡ num len i
+    pub turn_length : num v1.len i ≡ num p.len i
     turn_length = (h.same i fresh mine.0).1

@@ -7,11 +7,12 @@ use Rattle.amd_words.specs.Sides.{nexts, lasts}
 use Rattle.amd_words.specs.Words.{num, word, flip_of, size_of}
 use Rattle.amd_lists.specs.Lengths.{KeepsLinks}
 use Rattle.amd_lists.specs.Chains.{Linked, without}
-use Rattle.amd_lists.specs.Layout.{list_in, reached, RenewsOne}
+use Rattle.amd_lists.specs.Layout.{list_in, RenewsOne}
+use Rattle.amd_lists.specs.Workspaces.{Workspace}
 use Rattle.amd_lists.specs.Renewal.{is_kept, is_outside, hashed}
 use Rattle.amd_fronts.specs.Counts.{ends, settled}
 use Rattle.amd_fronts.specs.Tallies.{touched_in, CountsFront, EndsCounted, LeavesLists}
-use Rattle.amd_fronts.specs.Fronts.{kept_in, near_in, RenewsOrEnds, RenewsFront}
+use Rattle.amd_fronts.specs.Fronts.{kept_in, near_in, reach_of, renewed_in, RenewsOrEnds, RenewsFront}
 use Rattle.amd_fronts.specs.Turning.{TurnsFront}
 
 -- the counter of the element e has lost `more` rows; if it ended, its start names the row me
@@ -75,12 +76,13 @@ pub record RenewsFlag (most_cell flag : ℕ) (w w' : List ℕ) (flag' : ℕ) : T
 
 -- the list of the class i was renewed, and has count words; it reaches so many rows outside the front, and hash is the
 -- sum of what it keeps, as a word wraps it
-pub record RenewsClass (flag me i : ℕ) (iw pe e_len nv : List ℤ) (len w : List ℕ) (iw' e_len' : List ℤ) (len' : List ℕ)
-    (count reach hash : ℕ) : Type 0 where
-  pub renews : RenewsOne (length w) me (is_kept w) (is_outside nv) i iw pe e_len len iw' e_len' len'
-  pub count_is : count ≡ num len' i
-  pub outside : reach ≡ reached (λ e. num w e - flag) (size_of nv) (is_kept w) (is_outside nv) iw pe e_len len i
-  pub hash_is : hash ≡ hashed 0 (kept_in (is_kept w) iw pe e_len i ++ near_in (is_outside nv) iw pe e_len len i)
+pub record RenewsClass (me i : ℕ) (p v : Workspace) (count reach hash : ℕ) : Type 0 where
+  pub renews : RenewsOne (length p.w) me (is_kept p.w) (is_outside p.nv) i p v
+  pub count_is : count ≡ num v.len i
+  pub outside : reach ≡ reach_of p i
+  pub hash_is : hash ≡ hashed 0
+      (kept_in (is_kept p.w) p.iw p.pe p.e_len i ++ near_in (is_outside p.nv) p.iw p.pe p.e_len p.len i)
+  pub same : v ≡ record p { iw = v.iw; e_len = v.e_len; len = v.len }
 
 -- the class i has ended: its rows, gone of them, go with the row me
 pub record Retires (i me : ℕ) (pe e_len nv pe' e_len' nv' : List ℤ) (gone : ℕ) : Type 0 where
@@ -90,23 +92,16 @@ pub record Retires (i me : ℕ) (pe e_len nv pe' e_len' nv' : List ℤ) (gone : 
   pub gone_is : gone ≡ size_of nv i
 
 -- the class i was renewed, or ended and gone rows go with the pivot
-pub record RenewsOrRetires (flag me i : ℕ) (w : List ℕ) (iw pe e_len nv : List ℤ) (len degree : List ℕ)
-    (sides : List (ℕ × ℕ)) (iw' pe' e_len' nv' : List ℤ) (len' degree' : List ℕ) (sides' : List (ℕ × ℕ)) (gone : ℕ)
-    : Type 0 where
-  pub renews : RenewsOrEnds (length w) me (is_kept w) (is_outside nv) (λ e. num w e - flag) i iw pe e_len nv len degree
-      (lasts sides) iw' pe' e_len' nv' len' degree' (lasts sides') gone
-  pub lengths : (length pe' ≡ length pe) × (length e_len' ≡ length e_len) × (length nv' ≡ length nv) ×
-      (length degree' ≡ length degree) × (length (lasts sides') ≡ length (lasts sides))
-  pub links : nexts sides' ≡ nexts sides
+pub record RenewsOrRetires (me i : ℕ) (p v : Workspace) (gone : ℕ) : Type 0 where
+  pub renews : RenewsOrEnds (length p.w) me i p v gone
+  pub lengths : (length v.pe ≡ length p.pe) × (length v.e_len ≡ length p.e_len) × (length v.nv ≡ length p.nv) ×
+      (length v.degree ≡ length p.degree) × (length v.last ≡ length p.last)
+  pub same : v ≡ renewed_in p v
 
 -- so was each class of the front of the new element me
-pub record RenewsAllClasses (flag me : ℕ) (w : List ℕ) (free : ℕ) (iw pe e_len nv : List ℤ) (len degree : List ℕ)
-    (sides : List (ℕ × ℕ)) (iw' pe' e_len' nv' : List ℤ) (len' degree' : List ℕ) (sides' : List (ℕ × ℕ)) (gone : ℕ)
-    : Type 0 where
-  pub renews : RenewsFront (length w) me (is_kept w) (is_outside nv) (λ e. num w e - flag) (list_in iw pe len me) free
-      iw
-      pe e_len nv len degree (lasts sides) iw' pe' e_len' nv' len' degree' (lasts sides') gone
-  pub links : nexts sides' ≡ nexts sides
+pub record RenewsAllClasses (me : ℕ) (p v : Workspace) (gone : ℕ) : Type 0 where
+  pub renews : RenewsFront (length p.w) me (list_in p.iw p.pe p.len me) p v gone
+  pub same : v ≡ renewed_in p v
 
 -- the front of the new element me was turned over to it, out of the lists by bound
 pub record Turns (aggressive : Bool) (flag me free : ℕ) (iw pe e_len nv : List ℤ) (len degree w head : List ℕ)

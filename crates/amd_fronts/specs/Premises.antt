@@ -7,6 +7,7 @@ use Rattle.amd_words.specs.Words.{num, word, is_place, size_of, in_front, rows, 
 use Rattle.amd_lists.specs.Lengths.{HasBounds, HasLists, HasSides}
 use Rattle.amd_lists.specs.Layout.{elements_in, list_in, Layout, IsPlaced, LosesOne, IsRenewable}
 use Rattle.amd_lists.specs.Renewal.{is_kept, is_outside, AreMet}
+use Rattle.amd_lists.specs.Workspaces.{Workspace}
 use Rattle.amd_fronts.specs.Counts.{IsListed}
 use Rattle.amd_fronts.specs.Tallies.{NamesFront, IsCounted, IsPart}
 use Rattle.amd_fronts.specs.TurningLists.{IsFrontList, AreTurning}
@@ -64,13 +65,13 @@ pub record CanRenewFlag (most_cell flag : ℕ) (w : List ℕ) : Type 0 where
   pub under : (e : ℕ) → num w e < flag
 
 -- the list of the class i can be renewed
-pub record CanRenewClass (most_word most_place flag me i : ℕ) (iw pe e_len nv : List ℤ) (len w : List ℕ) : Type 0 where
-  pub lengths : HasLists (length w) pe e_len len nv
-  pub narrow : length iw ≤ most_place
-  pub row : (me < length w) × (me ≤ most_word)
-  pub placed : IsPlaced (length w) iw pe e_len len i
-  pub loses : LosesOne (is_kept w) (is_outside nv) iw pe e_len len i
-  pub met : AreMet flag w (elements_in iw pe e_len i)
+pub record CanRenewClass (most_word most_place me i : ℕ) (p : Workspace) : Type 0 where
+  pub lengths : HasLists (length p.w) p.pe p.e_len p.len p.nv
+  pub narrow : length p.iw ≤ most_place
+  pub row : (me < length p.w) × (me ≤ most_word)
+  pub placed : IsPlaced (length p.w) p.iw p.pe p.e_len p.len i
+  pub loses : LosesOne (is_kept p.w) (is_outside p.nv) p.iw p.pe p.e_len p.len i
+  pub met : AreMet p.flag p.w (elements_in p.iw p.pe p.e_len i)
 
 -- the class i of a front can end in the row me
 pub record CanRetire (most_place i me : ℕ) (pe e_len nv : List ℤ) : Type 0 where
@@ -79,34 +80,32 @@ pub record CanRetire (most_place i me : ℕ) (pe e_len nv : List ℤ) : Type 0 w
   pub marked : in_front nv i ≡ true
 
 -- it can be renewed, or end
-pub record CanRenewOrRetire (most_word most_place most_cell flag me i : ℕ) (iw pe e_len nv : List ℤ) (len degree w : List ℕ)
-    (last : List ℕ) : Type 0 where
-  pub lengths : HasLists (length w) pe e_len len nv
-  pub more_lengths : (length degree ≡ length w) × (length last ≡ length w)
-  pub narrow : (length iw ≤ most_place) × (length w ≤ most_cell)
-  pub row : (me < length w) × (me + 2 ≤ most_place) × (me ≤ most_word)
-  pub placed : IsPlaced (length w) iw pe e_len len i
-  pub loses : LosesOne (is_kept w) (is_outside nv) iw pe e_len len i
-  pub marked : in_front nv i ≡ true
-  pub met : AreMet flag w (elements_in iw pe e_len i)
+pub record CanRenewOrRetire (most_word most_place most_cell me i : ℕ) (p : Workspace) : Type 0 where
+  pub lengths : HasLists (length p.w) p.pe p.e_len p.len p.nv
+  pub more_lengths : (length p.degree ≡ length p.w) × (length p.last ≡ length p.w)
+  pub narrow : (length p.iw ≤ most_place) × (length p.w ≤ most_cell)
+  pub row : (me < length p.w) × (me + 2 ≤ most_place) × (me ≤ most_word)
+  pub placed : IsPlaced (length p.w) p.iw p.pe p.e_len p.len i
+  pub loses : LosesOne (is_kept p.w) (is_outside p.nv) p.iw p.pe p.e_len p.len i
+  pub marked : in_front p.nv i ≡ true
+  pub met : AreMet p.flag p.w (elements_in p.iw p.pe p.e_len i)
 
 -- so can each class of the front of the new element me
-pub record CanRenewAll (most_word most_place most_cell flag me free : ℕ) (iw pe e_len nv : List ℤ) (len degree w : List ℕ)
-    (last : List ℕ) : Type 0 where
-  pub lengths : HasLists (length w) pe e_len len nv
-  pub more_lengths : (length degree ≡ length w) × (length last ≡ length w)
-  pub narrow : (length iw ≤ most_place) × (length w ≤ most_cell)
-  pub end : free ≤ length iw
-  pub laid : Layout (length w) iw pe e_len len free
-  pub row : (me < length w) × (me + 2 ≤ most_place) × (me ≤ most_word)
-  pub list : is_place (word pe me) ≡ true
-  pub apart : has (list_in iw pe len me) me ≡ false
-  pub once : Once (list_in iw pe len me)
-  pub front : (i : ℕ) → has (list_in iw pe len me) i ≡ true →
-      IsRenewable (is_kept w) (is_outside nv) iw pe e_len len i
-  pub marked : (i : ℕ) → has (list_in iw pe len me) i ≡ true → in_front nv i ≡ true
-  pub met : (i : ℕ) → has (list_in iw pe len me) i ≡ true → AreMet flag w (elements_in iw pe e_len i)
-  pub few : sum_by (size_of nv) (list_in iw pe len me) ≤ most_word
+pub record CanRenewAll (most_word most_place most_cell me : ℕ) (p : Workspace) : Type 0 where
+  pub lengths : HasLists (length p.w) p.pe p.e_len p.len p.nv
+  pub more_lengths : (length p.degree ≡ length p.w) × (length p.last ≡ length p.w)
+  pub narrow : (length p.iw ≤ most_place) × (length p.w ≤ most_cell)
+  pub end : p.free ≤ length p.iw
+  pub laid : Layout (length p.w) p.iw p.pe p.e_len p.len p.free
+  pub row : (me < length p.w) × (me + 2 ≤ most_place) × (me ≤ most_word)
+  pub list : is_place (word p.pe me) ≡ true
+  pub apart : has (list_in p.iw p.pe p.len me) me ≡ false
+  pub once : Once (list_in p.iw p.pe p.len me)
+  pub front : (i : ℕ) → has (list_in p.iw p.pe p.len me) i ≡ true →
+      IsRenewable (is_kept p.w) (is_outside p.nv) p.iw p.pe p.e_len p.len i
+  pub marked : (i : ℕ) → has (list_in p.iw p.pe p.len me) i ≡ true → in_front p.nv i ≡ true
+  pub met : (i : ℕ) → has (list_in p.iw p.pe p.len me) i ≡ true → AreMet p.flag p.w (elements_in p.iw p.pe p.e_len i)
+  pub few : sum_by (size_of p.nv) (list_in p.iw p.pe p.len me) ≤ most_word
 
 -- the front of the new element me can be turned over to it
 pub record CanTurnFront (most_word most_place most_cell flag me free : ℕ) (iw pe e_len nv : List ℤ) (len degree w head : List ℕ)

@@ -2,48 +2,83 @@
 // the new element ends: it goes with the pivot. Source: Amestoy, Davis and Duff 1996 (approximate external degree,
 // element absorption, mass elimination).
 
-ghost use Rattle.std.specs.Prelude.{ℕ, ◌<◌, ◌≡◌, length, min};
-ghost use Rattle.amd_words.specs.Sides.{lasts};
-ghost use Rattle.amd_words.specs.Words.{num};
+ghost use Rattle.std.specs.Prelude.{ℕ, ◌<◌, ◌≡◌, ◌≤◌, length, min, true};
+ghost use Rattle.amd_words.specs.Words.{is_place, num, place, start, word};
+ghost use Rattle.amd_lists.specs.Renewal.{CanRenew, RenewsList};
+ghost use Rattle.amd_lists.specs.Spans.{row_list};
+ghost use Rattle.amd_lists.specs.Workspaces.{KeepsLoans, workspace_of};
 ghost use Rattle.amd_fronts.specs.Effects.{RenewsAllClasses, RenewsClass, RenewsOrRetires, Retires};
 ghost use Rattle.amd_fronts.specs.Premises.{CanRenewAll, CanRenewClass, CanRenewOrRetire, CanRetire};
 
 use amd_lists::renewal::renew_list;
-use amd_words::sides::{Sides, put_last};
+use amd_lists::work::Work;
+use amd_words::sides::put_last;
 use amd_words::words::{named, put_flip, put_row, size_inside};
 use amd_words::{Cell, Signed, Unsigned, Word, cell_at, put_cell, put_word};
+
+/// The row or the count at `p`, with the slice lent for writing.
+fn row_lent<S: Signed>(words: &mut [Word<S>], p: usize) -> usize
+    requires inside { p < length words.old }
+    requires place { is_place (word words.old p) ≡ true }
+    ensures is { result ≡ place (word words.old p) }
+    ensures same { words.new ≡ words.old }
+{
+    named(words, p)
+}
+
+/// Where the list of a row starts, and how many words it has, with both slices lent for writing.
+fn list_lent<P: Signed, U: Unsigned>(
+    pe: &mut [Word<P>],
+    len: &mut [Cell<U>],
+    i: usize,
+) -> (usize, usize)
+    requires inside { (i < length pe.old) × (i < length len.old) }
+    requires place { is_place (word pe.old i) ≡ true }
+    ensures list { (result.0 ≡ start pe.old i) × (result.1 ≡ num len.old i) }
+    ensures small { result.1 ≤ U.MOST }
+    ensures same { (pe.new ≡ pe.old) × (len.new ≡ len.old) }
+{
+    (named(pe, i), cell_at(len, i))
+}
+
+/// As `renew_list`, with all slices lent for writing.
+fn renew_lent<S: Signed, U: Unsigned>(
+    iw: &mut [Word<S>],
+    w: &mut [Cell<U>],
+    nv: &mut [Word<S>],
+    from: usize,
+    n_elements: usize,
+    count: usize,
+    flag: usize,
+    me: usize,
+) -> (usize, usize, usize, usize)
+    requires { CanRenew S.MOST U.MOST flag me w.old nv.old (row_list iw.old from n_elements count) }
+    ensures list { RenewsList flag me w.old nv.old (row_list iw.old from n_elements count)
+        (row_list iw.new from result.0 result.1) result.2 result.3 }
+    ensures same { (w.new ≡ w.old) × (nv.new ≡ nv.old) }
+{
+    renew_list(iw, w, nv, from, n_elements, count, flag, me)
+}
 
 /// Renews the list of the class `i` in its place. Returns the number of its words, the number of rows that it reaches
 /// outside the front, at most the greatest `usize`, and the sum of what it keeps, which wraps.
 fn renew_class<S: Signed, P: Signed, U: Unsigned>(
-    iw: &mut [Word<S>],
-    e_len: &mut [Word<P>],
-    len: &mut [Cell<U>],
-    pe: &[Word<P>],
-    w: &[Cell<U>],
-    nv: &[Word<S>],
+    work: &mut Work<'_, '_, S, P, U>,
     i: usize,
-    flag: usize,
     me: usize,
 ) -> (usize, usize, usize)
-    requires { CanRenewClass S.MOST P.MOST flag me i iw.old pe.now e_len.old nv.now len.old w.now }
-    ensures { RenewsClass flag me i iw.old pe.now e_len.old nv.now len.old w.now iw.new e_len.new len.new result.0
-        result.1 result.2 }
+    requires { CanRenewClass S.MOST P.MOST me i (workspace_of work.old) }
+    ensures renews { RenewsClass me i (workspace_of work.old) (workspace_of work.new) result.0 result.1 result.2 }
+    ensures loans { KeepsLoans work.old work.new }
 {
-    let from = named(pe, i);
-    let n_elements = named(e_len, i);
-    let (few, count, outside, hash) = renew_list(
-        iw,
-        w,
-        nv,
-        from,
-        n_elements,
-        cell_at(len, i),
-        flag,
-        me,
+    let (from, all) = list_lent(work.pe, work.len, i);
+    let n_elements = row_lent(work.e_len, i);
+    let flag = work.flag;
+    let (few, count, outside, hash) = renew_lent(
+        work.iw, work.w, work.nv, from, n_elements, all, flag, me,
     );
-    put_row(e_len, i, few);
-    put_cell(len, i, count);
+    put_row(work.e_len, i, few);
+    put_cell(work.len, i, count);
     (count, outside, hash)
 }
 
@@ -78,65 +113,48 @@ fn retire<S: Signed, P: Signed>(
 }
 
 /// Renews the list, the bound and the key of a class of the front, or ends it if it keeps nothing but the new element.
-/// Returns the number of rows that go with the pivot.
+/// There are `n` rows. Returns the number of rows that go with the pivot.
 fn renew_or_retire<S: Signed, P: Signed, U: Unsigned>(
-    iw: &mut [Word<S>],
-    pe: &mut [Word<P>],
-    e_len: &mut [Word<P>],
-    nv: &mut [Word<S>],
-    w: &[Cell<U>],
-    len: &mut [Cell<U>],
-    degree: &mut [Cell<U>],
-    sides: &mut [Sides<U>],
+    work: &mut Work<'_, '_, S, P, U>,
     i: usize,
-    flag: usize,
     me: usize,
+    n: usize,
 ) -> usize
-    requires { CanRenewOrRetire S.MOST P.MOST U.MOST flag me i iw.old pe.old e_len.old nv.old len.old degree.old
-        w.now (lasts sides.old) }
-    ensures { RenewsOrRetires flag me i w.now iw.old pe.old e_len.old nv.old len.old degree.old sides.old iw.new pe.new
-        e_len.new nv.new len.new degree.new sides.new result }
+    requires class { CanRenewOrRetire S.MOST P.MOST U.MOST me i (workspace_of work.old) }
+    requires rows { n ≡ length work.old.w.now }
+    ensures renews { RenewsOrRetires me i (workspace_of work.old) (workspace_of work.new) result }
+    ensures loans { KeepsLoans work.old work.new }
 {
-    let (count, outside, hash) = renew_class(iw, e_len, len, pe, w, nv, i, flag, me);
+    let (count, outside, hash) = renew_class(work, i, me);
     if count == 1 {
-        return retire(pe, e_len, nv, i, me);
+        return retire(work.pe, work.e_len, work.nv, i, me);
     }
-    lower_bound(degree, i, outside);
-    put_last(sides, i, hash % w.len());
+    lower_bound(work.degree, i, outside);
+    put_last(work.sides, i, hash % n);
     0
 }
 
 /// Renews the list of each class of the new element's list in its place, makes its bound no greater than the number of
 /// rows that it reaches outside the front, and leaves its key in `sides`, in place of the row before it. A class that
-/// keeps nothing but the new element ends. Returns the number of rows of those that ended. All lists end before `free`.
+/// keeps nothing but the new element ends. Returns the number of rows of those that ended.
 pub fn renew_all<S: Signed, P: Signed, U: Unsigned>(
-    iw: &mut [Word<S>],
-    pe: &mut [Word<P>],
-    e_len: &mut [Word<P>],
-    nv: &mut [Word<S>],
-    len: &mut [Cell<U>],
-    degree: &mut [Cell<U>],
-    sides: &mut [Sides<U>],
-    w: &[Cell<U>],
-    flag: usize,
+    work: &mut Work<'_, '_, S, P, U>,
     me: usize,
-    free: usize,
 ) -> usize
-    requires { CanRenewAll S.MOST P.MOST U.MOST flag me free iw.old pe.old e_len.old nv.old len.old degree.old
-        w.now (lasts sides.old) }
-    ensures { RenewsAllClasses flag me w.now free iw.old pe.old e_len.old nv.old len.old degree.old sides.old iw.new
-        pe.new e_len.new nv.new len.new degree.new sides.new result }
+    requires { CanRenewAll S.MOST P.MOST U.MOST me (workspace_of work.old) }
+    ensures renews { RenewsAllClasses me (workspace_of work.old) (workspace_of work.new) result }
+    ensures loans { KeepsLoans work.old work.new }
 {
+    let n = work.w.len();
     // There are rows, since `me` is one; said once here, it is not tested for each remainder by their number.
-    if w.is_empty() {
+    if n == 0 {
         unreachable!();
     }
-    let from = named(pe, me);
-    let end = from + cell_at(len, me);
+    let (from, count) = list_lent(work.pe, work.len, me);
     let mut gone: usize = 0;
-    for p in from..end {
-        let i = named(iw, p);
-        gone += renew_or_retire(iw, pe, e_len, nv, w, len, degree, sides, i, flag, me);
+    for p in from..from + count {
+        let i = row_lent(work.iw, p);
+        gone += renew_or_retire(work, i, me, n);
     }
     gone
 }

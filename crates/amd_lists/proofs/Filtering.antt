@@ -11,11 +11,12 @@ use Rattle.amd_model.specs.Figures.{cut}
 use Rattle.amd_round_laws.proofs.Lists.Cuts.{cut_more, cut_small}
 use Rattle.amd_words.specs.Words.{is_place, place, word, rows}
 use Rattle.amd_lists.specs.Renewal.{hashed, Filters}
+use Rattle.amd_lists.specs.Spans.{span, sifted}
 use Rattle.amd_words.proofs.RowLists.{rows_none, rows_more, rows_same}
 use Rattle.amd_words.proofs.WordMarks.{rows_start}
 
 module _ (n : ℕ) (pass : ℕ → Bool) (share : ℕ → ℕ) (first : ℕ) (iw : List ℤ) (from to : ℕ) where
-  pub filters_none : first < 2 ^ 64 → Filters n pass share first iw from 0 to iw to first
+  pub filters_none : first < 2 ^ 64 → Filters n pass share first (span iw from 0) to (sifted iw to first)
   filters_none fits = record {
     long = refl;
     low = omega arith;
@@ -28,12 +29,13 @@ module _ (n : ℕ) (pass : ℕ → Bool) (share : ℕ → ℕ) (first : ℕ) (iw
         ≡ 0 = ap (λ xs. sum_by share (filter pass xs)) (rows_none iw from) in omega (arith, none));
   }
 
-  module _ {count : ℕ} {iw' : List ℤ} {end sum : ℕ} (h : Filters n pass share first iw from count to iw' end sum) where
+  module _ {count : ℕ} {iw' : List ℤ} {end sum : ℕ} (h : Filters n pass share first (span iw from count) to (sifted iw' end sum)) where
     next_is : filter pass (rows iw from (count + 1)) ≡ filter pass (rows iw from count)
         ++ cond (pass (place (word iw (from + count)))) (place (word iw (from + count)) ∷ []) []
     next_is = ap (filter pass) (rows_more iw from count) ∙ filter-append pass (rows iw from count) (place (word iw (from + count)) ∷ [])
 
-    pub filters_no : pass (place (word iw (from + count))) ≡ false → Filters n pass share first iw from (count + 1) to iw' end sum
+    pub filters_no : pass (place (word iw (from + count))) ≡ false →
+        Filters n pass share first (span iw from (count + 1)) to (sifted iw' end sum)
     filters_no fails = let high = h.high in
         let same : filter pass (rows iw from (count + 1)) ≡ filter pass (rows iw from count) = next_is
         ∙ ap (λ b. filter pass (rows iw from count) ++ cond b (place (word iw (from + count)) ∷ []) []) fails
@@ -52,7 +54,7 @@ module _ (n : ℕ) (pass : ℕ → Bool) (share : ℕ → ℕ) (first : ℕ) (iw
     pub filters_yes : (p total : ℕ) → p ≡ from + count → to ≤ from → p < length iw → is_place (word iw p) ≡ true → place (word iw p) < n →
         pass (place (word iw (from + count))) ≡ true →
         total ≡ cut (sum + share (place (word iw (from + count)))) →
-        Filters n pass share first iw from (count + 1) to (set iw' end (word iw' p)) (end + 1) total
+        Filters n pass share first (span iw from (count + 1)) to (sifted (set iw' end (word iw' p)) (end + 1) total)
     filters_yes p total at down fit is_one small passes total_is =
         let low = h.low in let high = h.high in let long = h.long in let v : ℤ = word iw' p in let y : ℕ = place (word iw (from + count)) in
         let here : v ≡ word iw p = h.above p (omega (arith, high, down, at)) in
@@ -87,20 +89,22 @@ module _ (n : ℕ) (pass : ℕ → Bool) (share : ℕ → ℕ) (first : ℕ) (iw
         }
 
   -- the same where the word at `end` may be any: the list is filtered once the word that was there at first is put back
-  module _ {count : ℕ} (iw' : List ℤ) {end sum : ℕ} (h : Filters n pass share first iw from count to (set iw' end (word iw end)) end sum)
+  module _ {count : ℕ} (iw' : List ℤ) {end sum : ℕ}
+      (h : Filters n pass share first (span iw from count) to (sifted (set iw' end (word iw end)) end sum))
       (p : ℕ) (at : p ≡ from + count) (down : to ≤ from) (behind : (k : ℕ) → p ≤ k → word iw' k ≡ word iw k) where
     pub open_behind : (k : ℕ) → p + 1 ≤ k → word (set iw' end (word iw' p)) k ≡ word iw k
     open_behind k l = let high = h.high in get_or-set_other iw' end k (word iw' p) (pos 0) (λ q. omega (arith, q, l, high, down, at))
         ∙ behind k (omega (arith, l))
 
     pub open_no : pass (place (word iw (from + count))) ≡ false →
-        Filters n pass share first iw from (count + 1) to (set (set iw' end (word iw' p)) end (word iw end)) end sum
-    open_no fails = subst (λ l. Filters n pass share first iw from (count + 1) to l end sum)
+        Filters n pass share first (span iw from (count + 1)) to (sifted (set (set iw' end (word iw' p)) end (word iw end)) end sum)
+    open_no fails = subst (λ l. Filters n pass share first (span iw from (count + 1)) to (sifted l end sum))
         (sym (set-set iw' end (word iw' p) (word iw end))) (filters_no h fails)
 
     pub open_yes : (total : ℕ) → p < length iw → is_place (word iw p) ≡ true → place (word iw p) < n →
         pass (place (word iw (from + count))) ≡ true → total ≡ cut (sum + share (place (word iw (from + count)))) →
-        Filters n pass share first iw from (count + 1) to (set (set iw' end (word iw' p)) (end + 1) (word iw (end + 1))) (end + 1) total
+        Filters n pass share first (span iw from (count + 1)) to
+        (sifted (set (set iw' end (word iw' p)) (end + 1) (word iw (end + 1))) (end + 1) total)
     open_yes total fit is_one small passes total_is =
         let high = h.high in let long = h.long in let same = length-set iw' end (word iw end) in let v : ℤ = word iw' p in
         let back : List ℤ = set iw' end (word iw end) in let written : List ℤ = set iw' end v in
@@ -113,7 +117,7 @@ module _ (n : ℕ) (pass : ℕ → Bool) (share : ℕ → ℕ) (first : ℕ) (iw
         ∙ sym (get_or-set_other iw' end (end + 1) (word iw end) (pos 0) (λ q. omega (arith, q))) ∙ h.above (end + 1) (omega arith) in
         let stays : set written (end + 1) (word iw (end + 1)) ≡ written = ap (set written (end + 1)) (sym next)
         ∙ set-get_or written (end + 1) (pos 0) in
-        subst (λ l. Filters n pass share first iw from (count + 1) to l (end + 1) total)
+        subst (λ l. Filters n pass share first (span iw from (count + 1)) to (sifted l (end + 1) total))
         (ap (set back end) read ∙ set-set iw' end (word iw end) v ∙ sym stays)
         (filters_yes h p total at down fit is_one small passes total_is)
 

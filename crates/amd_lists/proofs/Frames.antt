@@ -5,6 +5,7 @@ use Rattle.std.specs.Prelude.{nat_lt}
 use Rattle.std.proofs.lemmas.Bool.{cases_Bool, cases_eq, cases_lt, and_parts, and_from, ltb-true, lt-ltb}
 use Rattle.amd_words.specs.Words.{num, is_place, place, word, start, rows, Names}
 use Rattle.amd_lists.specs.Layout.{has_list, end_of, elements_in, variables_in, list_in, Layout, live_words, ReadsSame, RenewsOne}
+use Rattle.amd_lists.specs.Workspaces.{Workspace}
 use Rattle.amd_words.proofs.RowLists.{rows_same}
 
 pub has_parts : (pe : List ℤ) (len : List ℕ) (j : ℕ) → has_list pe len j ≡ true → (is_place (word pe j) ≡ true) × (0 < num len j)
@@ -171,50 +172,50 @@ module _ {n : ℕ} {iw pe e_len : List ℤ} {len : List ℕ} {free : ℕ} (i : �
 
 -- ---- one class renewed
 
-module _ {n me : ℕ} {kept is_apart : ℕ → Bool} {i : ℕ} {iw pe e_len : List ℤ} {len : List ℕ} {free : ℕ} {iw' e_len' : List ℤ}
-    {len' : List ℕ} (y : Layout n iw pe e_len len free) (mine : has_list pe len i ≡ true)
-    (h : RenewsOne n me kept is_apart i iw pe e_len len iw' e_len' len') where
-  pub one_shorter : (j : ℕ) → num len' j ≤ num len j
+module _ {n me : ℕ} {kept is_apart : ℕ → Bool} {i free : ℕ} {p v : Workspace} (y : Layout n p.iw p.pe p.e_len p.len free)
+    (mine : has_list p.pe p.len i ≡ true) (h : RenewsOne n me kept is_apart i p v) where
+  pub one_shorter : (j : ℕ) → num v.len j ≤ num p.len j
   one_shorter j = elim (cases_eq j i) [
-    | inl q ↦ (let a = h.list.shorter.1 in let b = ap (num len') q in let d = ap (num len) q in omega (arith, a, b, d))
+    | inl q ↦ (let a = h.list.shorter.1 in let b = ap (num v.len) q in let d = ap (num p.len) q in omega (arith, a, b, d))
     | inr ne ↦ (let a = h.lengths j ne in omega (arith, a))
   ]
 
-  one_some : 0 < num len' i
+  one_some : 0 < num v.len i
   one_some = let a = h.list.few_is in let b = h.list.shorter.0 in omega (arith, a, b)
 
-  pub one_listed : (j : ℕ) → has_list pe len' j ≡ has_list pe len j
+  pub one_listed : (j : ℕ) → has_list p.pe v.len j ≡ has_list p.pe p.len j
   one_listed j = elim (cases_eq j i) [
-    | inl q ↦ rw q (has_from pe len' i (has_parts pe len i mine).0 one_some ∙ sym mine)
-    | inr ne ↦ has_length pe len len' j (h.lengths j ne)
+    | inl q ↦ rw q (has_from p.pe v.len i (has_parts p.pe p.len i mine).0 one_some ∙ sym mine)
+    | inr ne ↦ has_length p.pe p.len v.len j (h.lengths j ne)
   ]
 
-  pub one_reads : (j : ℕ) → (j ≡ i → ⊥) → has_list pe len j ≡ true → ReadsSame iw pe e_len len iw' pe e_len' len' j
+  pub one_reads : (j : ℕ) → (j ≡ i → ⊥) → has_list p.pe p.len j ≡ true → ReadsSame p.iw p.pe p.e_len p.len v.iw p.pe v.e_len v.len j
   one_reads j ne k = (
     h.counts j ne,
     h.lengths j ne,
     λ t l. let s = h.list.shorter.1 in
-        h.list.others (start pe j + t) (elim (y.apart i j mine k (λ q. ne (sym q)))
+        h.list.others (start p.pe j + t) (elim (y.apart i j mine k (λ q. ne (sym q)))
         [ inl m ↦ inr (omega (arith, m, s)) | inr m ↦ inl (omega (arith, m, l)) ]),
   )
 
-  pub one_behind : (k : ℕ) → free ≤ k → word iw' k ≡ word iw k
+  pub one_behind : (k : ℕ) → free ≤ k → word v.iw k ≡ word p.iw k
   one_behind k l = let a = y.within i mine in let s = h.list.shorter.1 in h.list.others k (inr (omega (arith, a, s, l)))
 
-  one_words : (k : ℕ) → k < free → (is_place (word iw' k) ≡ true) × (place (word iw' k) < n)
-  one_words k l = elim (cases_lt k (start pe i)) [
+  one_words : (k : ℕ) → k < free → (is_place (word v.iw k) ≡ true) × (place (word v.iw k) < n)
+  one_words k l = elim (cases_lt k (start p.pe i)) [
     | inl m ↦ old (inl m)
-    | inr m ↦ elim (cases_lt k (start pe i + num len' i)) [
-      | inl b ↦ (let at : start pe i + (k - start pe i) ≡ k = omega (arith, m) in
-          subst (λ p. (is_place (word iw' p) ≡ true) × (place (word iw' p) < n)) at (h.list.names (k - start pe i) (omega (arith, m, b))))
+    | inr m ↦ elim (cases_lt k (start p.pe i + num v.len i)) [
+      | inl b ↦ (let at : start p.pe i + (k - start p.pe i) ≡ k = omega (arith, m) in
+          subst (λ q. (is_place (word v.iw q) ≡ true) × (place (word v.iw q) < n)) at
+          (h.list.names (k - start p.pe i) (omega (arith, m, b))))
       | inr b ↦ old (inr b)
     ]
   ]
     where
-      old : ((k < start pe i) ⊎ (start pe i + num len' i ≤ k)) → (is_place (word iw' k) ≡ true) × (place (word iw' k) < n)
+      old : ((k < start p.pe i) ⊎ (start p.pe i + num v.len i ≤ k)) → (is_place (word v.iw k) ≡ true) × (place (word v.iw k) < n)
       old out = subst (λ z. (is_place z ≡ true) × (place z < n)) (sym (h.list.others k out)) (y.words k l)
 
-  pub one_laid : Layout n iw' pe e_len' len' free
+  pub one_laid : Layout n v.iw p.pe v.e_len v.len free
   one_laid = relaid 0 y (omega arith) (λ j k. inr (
     sym (one_listed j)
         ∙ k,

@@ -10,6 +10,7 @@ use Rattle.amd_model.proofs.Quotient.Lists.{has_filter}
 use Rattle.amd_round_laws.proofs.Lists.Cuts.{cut_small}
 use Rattle.amd_words.specs.Words.{rows}
 use Rattle.amd_lists.specs.Renewal.{Filters}
+use Rattle.amd_lists.specs.Spans.{span, sifted}
 use Rattle.amd_words.proofs.RowLists.{rows_length}
 
 -- a number below 2 ^ 64 is not cut
@@ -49,7 +50,7 @@ taken_off less f (x ∷ xs) h = let here = h x (has_head x x xs refl) in
 -- nothing is taken off a number in the sum of a filtered list, which no word cuts: what is to be taken off each number
 -- may be taken off the sum
 module _ (less : ℕ) {off n from count to end total : ℕ} {pass : ℕ → Bool} {f : ℕ → ℕ} {iw iw' : List ℤ} (none : off ≡ 0)
-    (h : Filters n pass (λ e. f e - off) 0 iw from count to iw' end total)
+    (h : Filters n pass (λ e. f e - off) 0 (span iw from count) to (sifted iw' end total))
     (small : total ≤ 4294967295 * count) (few : count < 2 ^ 32)
     (met : (e : ℕ) → has (rows iw from count) e ≡ true → pass e ≡ true → less ≤ f e) where
   abbrev kept : List ℕ
@@ -71,8 +72,8 @@ module _ (less : ℕ) {off n from count to end total : ℕ} {pass : ℕ → Bool
   pub off_under : less * (end - to) ≤ total
   off_under = omega (arith, parts)
 
-  pub off_filters : Filters n pass (λ e. f e - less) 0 iw from count to iw' end (total - less * (end - to))
-  off_filters = let left : total - less * (end - to) ≡ 0 + sum_by (λ e. f e - less) kept = omega (arith, parts) in record {
+  pub off_filters : Filters n pass (λ e. f e - less) 0 (span iw from count) to (sifted iw' end (total - less * (end - to)))
+  off_filters = let rest : total - less * (end - to) ≡ 0 + sum_by (λ e. f e - less) kept = omega (arith, parts) in record {
     long = h.long;
     low = h.low;
     high = h.high;
@@ -80,5 +81,5 @@ module _ (less : ℕ) {off n from count to end total : ℕ} {pass : ℕ → Bool
     names = h.names;
     below = h.below;
     above = h.above;
-    sum_is = left ∙ exact (0 + sum_by (λ e. f e - less) kept) (omega (arith, parts, small, few));
+    sum_is = rest ∙ exact (0 + sum_by (λ e. f e - less) kept) (omega (arith, parts, small, few));
   }

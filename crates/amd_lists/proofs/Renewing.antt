@@ -8,6 +8,7 @@ use Rattle.amd_model.specs.Quotient.{turned}
 use Rattle.amd_round_laws.proofs.Lists.Cuts.{cut_more}
 use Rattle.amd_words.specs.Words.{is_place, place, word, rows, Names}
 use Rattle.amd_lists.specs.Renewal.{Filters, Renews}
+use Rattle.amd_lists.specs.Spans.{span, sifted, row_list}
 use Rattle.amd_words.proofs.RowLists.{rows_none, rows_more, rows_same, rows_both, rows_length}
 
 -- the first of some words, and the others
@@ -151,9 +152,10 @@ names_after n iw iw1 from n_elements count behind names k l =
 -- ---- the whole
 
 module _ (n : ℕ) (kept is_apart : ℕ → Bool) (beyond share : ℕ → ℕ) (iw iw1 iw2 : List ℤ) (from n_elements count mid part end total me : ℕ)
-    (h : Filters n kept beyond 0 iw from n_elements from (set iw1 mid (word iw mid)) mid part)
+    (h : Filters n kept beyond 0 (span iw from n_elements) from (sifted (set iw1 mid (word iw mid)) mid part))
     (behind : (k : ℕ) → from + n_elements ≤ k → word iw1 k ≡ word iw k)
-    (g : Filters n is_apart share part iw1 (from + n_elements) (count - n_elements) mid iw2 end total) (parts : n_elements ≤ count)
+    (g : Filters n is_apart share part (span iw1 (from + n_elements) (count - n_elements)) mid (sifted iw2 end total))
+    (parts : n_elements ≤ count)
     (small : me < n) (inside : from + count ≤ length iw)
     (room : length (filter kept (rows iw from n_elements)) + length (filter is_apart (rows iw (from + n_elements) (count - n_elements)))
     < count) where
@@ -197,9 +199,10 @@ module _ (n : ℕ) (kept is_apart : ℕ → Bool) (beyond share : ℕ → ℕ) (
       lib_lt : (a b : ℕ) → (a < b) ⊎ (b ≤ a)
       lib_lt a b = cases_lt a b
 
-  pub renews : Renews n me kept is_apart iw from n_elements count (put iw2 from mid end me h.low g.low renew_fit) (mid + 1 - from)
-      (end + 1 - from)
+  pub renews : Renews n me kept is_apart (row_list iw from n_elements count)
+      (row_list (put iw2 from mid end me h.low g.low renew_fit) from (mid + 1 - from) (end + 1 - from))
   renews = let low = h.low in let on = g.low in let fit = renew_fit in let last = renew_end in record {
+    stays = refl;
     long = put_long iw2 from mid end me low on fit ∙ g.long ∙ as_long;
     few_is = (let a = ap length elements_are in let b = rows_length iw2 from (mid - from) in omega (arith, a, b, low));
     shorter = ((omega (arith, on)), (omega (arith, last)));

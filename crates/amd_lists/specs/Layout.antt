@@ -7,6 +7,8 @@ use Rattle.amd_model.specs.Figures.{cut}
 use Rattle.amd_model.specs.Quotient.{has, turned}
 use Rattle.amd_words.specs.Words.{num, is_place, place, word, start, size_of, rows, Names}
 use Rattle.amd_lists.specs.Renewal.{Renews}
+use Rattle.amd_lists.specs.Spans.{RowList, row_list, elements_at, variables_at}
+use Rattle.amd_lists.specs.Workspaces.{Workspace}
 
 -- the row j has a list of at least one word
 unfoldable pub has_list : List ℤ → List ℕ → ℕ → Bool
@@ -73,36 +75,34 @@ abbrev pub IsRenewable : (ℕ → Bool) → (ℕ → Bool) → List ℤ → List
 IsRenewable kept is_apart iw pe e_len len i = (has_list pe len i ≡ true) × (is_place (word e_len i) ≡ true)
     × LosesOne kept is_apart iw pe e_len len i
 
--- the list of one class was renewed
-pub record RenewsOne (n me : ℕ) (kept is_apart : ℕ → Bool) (i : ℕ) (iw pe e_len : List ℤ) (len : List ℕ)
-    (iw' e_len' : List ℤ)
-    (len' : List ℕ) : Type 0 where
-  pub list : Renews n me kept is_apart iw (start pe i) (place (word e_len i)) (num len i) iw' (place (word e_len' i))
-      (num len' i)
-  pub count : is_place (word e_len' i) ≡ true
-  pub e_long : length e_len' ≡ length e_len
-  pub l_long : length len' ≡ length len
-  pub counts : (j : ℕ) → (j ≡ i → ⊥) → word e_len' j ≡ word e_len j
-  pub lengths : (j : ℕ) → (j ≡ i → ⊥) → num len' j ≡ num len j
+-- the list of the row i, which starts as it does in p
+abbrev pub list_of : Workspace → Workspace → ℕ → RowList
+list_of p v i = row_list v.iw (start p.pe i) (place (word v.e_len i)) (num v.len i)
 
--- the lists of the classes of a front were renewed, and all others read as before
-pub record RenewsAll (n me : ℕ) (kept is_apart : ℕ → Bool) (front : List ℕ) (free : ℕ) (iw pe e_len : List ℤ)
-    (len : List ℕ)
-    (iw' e_len' : List ℤ) (len' : List ℕ) : Type 0 where
-  pub long : length iw' ≡ length iw
-  pub e_long : length e_len' ≡ length e_len
-  pub l_long : length len' ≡ length len
-  pub known : (i : ℕ) → has front i ≡ true → has_list pe len i ≡ true
-  pub elements : (i : ℕ) → has front i ≡ true → elements_in iw' pe e_len' i ≡ me ∷ turned
-      (filter kept (elements_in iw pe e_len i))
-  pub variables : (i : ℕ) → has front i ≡ true → variables_in iw' pe e_len' len' i
-      ≡ turned (filter is_apart (variables_in iw pe e_len len i))
-  pub count : (i : ℕ) → has front i ≡ true → is_place (word e_len' i) ≡ true
-  pub counts : (j : ℕ) → has front j ≡ false → word e_len' j ≡ word e_len j
-  pub lengths : (j : ℕ) → has front j ≡ false → num len' j ≡ num len j
-  pub same : (j : ℕ) → has front j ≡ false → has_list pe len j ≡ true → ReadsSame iw pe e_len len iw' pe e_len' len' j
-  pub listed : (j : ℕ) → has_list pe len' j ≡ has_list pe len j
-  pub shorter : (j : ℕ) → num len' j ≤ num len j
-  pub fewer : live_words n pe len' ≤ live_words n pe len
-  pub behind : (k : ℕ) → free ≤ k → word iw' k ≡ word iw k
-  pub laid : Layout n iw' pe e_len' len' free
+-- the list of the class i was renewed in its place, and no other one
+pub record RenewsOne (n me : ℕ) (kept is_apart : ℕ → Bool) (i : ℕ) (p v : Workspace) : Type 0 where
+  pub list : Renews n me kept is_apart (list_of p p i) (list_of p v i)
+  pub count : is_place (word v.e_len i) ≡ true
+  pub e_long : length v.e_len ≡ length p.e_len
+  pub l_long : length v.len ≡ length p.len
+  pub counts : (j : ℕ) → (j ≡ i → ⊥) → word v.e_len j ≡ word p.e_len j
+  pub lengths : (j : ℕ) → (j ≡ i → ⊥) → num v.len j ≡ num p.len j
+
+-- the lists of the classes of a front were renewed, each where it started, and all others read as before
+pub record RenewsAll (n me : ℕ) (kept is_apart : ℕ → Bool) (front : List ℕ) (p v : Workspace) : Type 0 where
+  pub long : length v.iw ≡ length p.iw
+  pub e_long : length v.e_len ≡ length p.e_len
+  pub l_long : length v.len ≡ length p.len
+  pub known : (i : ℕ) → has front i ≡ true → has_list p.pe p.len i ≡ true
+  pub elements : (i : ℕ) → has front i ≡ true → elements_at (list_of p v i) ≡ me ∷ turned (filter kept (elements_at (list_of p p i)))
+  pub variables : (i : ℕ) → has front i ≡ true → variables_at (list_of p v i) ≡ turned (filter is_apart (variables_at (list_of p p i)))
+  pub count : (i : ℕ) → has front i ≡ true → is_place (word v.e_len i) ≡ true
+  pub counts : (j : ℕ) → has front j ≡ false → word v.e_len j ≡ word p.e_len j
+  pub lengths : (j : ℕ) → has front j ≡ false → num v.len j ≡ num p.len j
+  pub same : (j : ℕ) → has front j ≡ false → has_list p.pe p.len j ≡ true →
+      ReadsSame p.iw p.pe p.e_len p.len v.iw p.pe v.e_len v.len j
+  pub listed : (j : ℕ) → has_list p.pe v.len j ≡ has_list p.pe p.len j
+  pub shorter : (j : ℕ) → num v.len j ≤ num p.len j
+  pub fewer : live_words n p.pe v.len ≤ live_words n p.pe p.len
+  pub behind : (k : ℕ) → p.free ≤ k → word v.iw k ≡ word p.iw k
+  pub laid : Layout n v.iw p.pe v.e_len v.len p.free

@@ -5,6 +5,7 @@ use Rattle.std.specs.Prelude.{length, filter, sum_by, slice_set}
 use Rattle.amd_model.specs.Figures.{cut}
 use Rattle.amd_model.specs.Quotient.{has, turned}
 use Rattle.amd_words.specs.Words.{num, word, size_of, in_front, rows, Names}
+use Rattle.amd_lists.specs.Spans.{Span, Sifted, sifted, RowList, rows_of, elements_at, variables_at}
 
 -- an element is kept: it stands still
 abbrev pub is_kept : List ℕ → ℕ → Bool
@@ -26,83 +27,76 @@ hashed first xs = (first + sum_by (λ j. j) xs) % 2 ^ 64
 abbrev pub key_of : ℕ → List ℕ → ℕ
 key_of n xs = (sum_by (λ j. j) xs % 2 ^ 64) % n
 
--- of count words, which name rows below n, those that pass stand from `to` to `end` now; sum is their sum, cut, on top
--- of first
-pub record Filters (n : ℕ) (pass : ℕ → Bool) (share : ℕ → ℕ) (first : ℕ) (iw : List ℤ) (from count to : ℕ)
-    (iw' : List ℤ) (end sum : ℕ)
-    : Type 0 where
-  pub long : length iw' ≡ length iw
-  pub low : to ≤ end
-  pub high : end ≤ to + count
-  pub list : rows iw' to (end - to) ≡ filter pass (rows iw from count)
-  pub names : Names n iw' to (end - to)
-  pub below : (k : ℕ) → k < to → word iw' k ≡ word iw k
-  pub above : (k : ℕ) → end ≤ k → word iw' k ≡ word iw k
-  pub sum_is : sum ≡ cut (first + sum_by share (filter pass (rows iw from count)))
+-- of the words of a span, which name rows below n, those that pass stand from `to` on now, to the end that is left; the
+-- sum is theirs, cut, on top of first
+pub record Filters (n : ℕ) (pass : ℕ → Bool) (share : ℕ → ℕ) (first : ℕ) (s : Span) (to : ℕ) (l : Sifted) : Type 0 where
+  pub long : length l.words ≡ length s.words
+  pub low : to ≤ l.end
+  pub high : l.end ≤ to + s.count
+  pub list : rows l.words to (l.end - to) ≡ filter pass (rows_of s)
+  pub names : Names n l.words to (l.end - to)
+  pub below : (k : ℕ) → k < to → word l.words k ≡ word s.words k
+  pub above : (k : ℕ) → l.end ≤ k → word l.words k ≡ word s.words k
+  pub sum_is : l.sum ≡ cut (first + sum_by share (filter pass (rows_of s)))
 
--- the new element stands in front of what a class keeps, the first kept element and the first kept variable each behind
--- the others
-pub record Renews (n me : ℕ) (kept : ℕ → Bool) (is_apart : ℕ →
-    Bool) (iw : List ℤ) (from n_elements count : ℕ) (iw' : List ℤ) (few len : ℕ) : Type 0 where
-  pub long : length iw' ≡ length iw
-  pub few_is : few ≡ 1 + length (filter kept (rows iw from n_elements))
-  pub shorter : (few ≤ len) × (len ≤ count)
-  pub elements : rows iw' from few ≡ me ∷ turned (filter kept (rows iw from n_elements))
-  pub variables : rows iw' (from + few) (len - few) ≡ turned
-      (filter is_apart (rows iw (from + n_elements) (count - n_elements)))
-  pub names : Names n iw' from len
-  pub others : (k : ℕ) → (k < from) ⊎ (from + len ≤ k) → word iw' k ≡ word iw k
+-- what is left, with the word that was there at first where those that stay end
+abbrev pub closed : Span → Sifted → Sifted
+closed s l = sifted (slice_set l.words l.end (word s.words l.end)) l.end l.sum
+
+-- the new element stands in front of what a list keeps, which starts where it did: the first kept element and the first
+-- kept variable each stand behind the others
+pub record Renews (n me : ℕ) (kept is_apart : ℕ → Bool) (l l' : RowList) : Type 0 where
+  pub stays : l'.from ≡ l.from
+  pub long : length l'.words ≡ length l.words
+  pub few_is : l'.n_elements ≡ 1 + length (filter kept (elements_at l))
+  pub shorter : (l'.n_elements ≤ l'.count) × (l'.count ≤ l.count)
+  pub elements : elements_at l' ≡ me ∷ turned (filter kept (elements_at l))
+  pub variables : variables_at l' ≡ turned (filter is_apart (variables_at l))
+  pub names : Names n l'.words l'.from l'.count
+  pub others : (k : ℕ) → (k < l'.from) ⊎ (l'.from + l'.count ≤ k) → word l'.words k ≡ word l.words k
 
 -- the sum of count numbers that go up to most fits a word: 32 bits hold each of them, and their count
 abbrev pub IsExact : ℕ → ℕ → Type 0
 IsExact most count = (most < 2 ^ 32) × (count < 2 ^ 32)
 
--- of count words, which name elements, those of standing ones stand from `from` to `end` now; sum is what their
--- counters
--- have above `less`, cut, and hash is their sum, as a word wraps it. The word at which they end is left open
-pub record KeepsWords (narrow : Bool) (less : ℕ) (w : List ℕ) (iw : List ℤ) (from count : ℕ) (iw' : List ℤ)
-    (end sum hash : ℕ) : Type 0 where
-  pub filters : Filters (length w) (is_kept w) (λ e. num w e - less) 0 iw from count from
-      (slice_set iw' end (word iw end)) end sum
-  pub behind : (k : ℕ) → from + count ≤ k → word iw' k ≡ word iw k
-  pub hash_is : hash ≡ hashed 0 (filter (is_kept w) (rows iw from count))
-  pub small : narrow ≡ true → sum ≤ 4294967295 * count
+-- of the words of a span, which name elements, those of standing ones stand at its front now; the sum is what their
+-- counters have above `less`, cut, and hash is their own sum, as a word wraps it. The word at which they end is left open
+pub record KeepsWords (narrow : Bool) (less : ℕ) (w : List ℕ) (s : Span) (l : Sifted) (hash : ℕ) : Type 0 where
+  pub filters : Filters (length w) (is_kept w) (λ e. num w e - less) 0 s s.from (closed s l)
+  pub behind : (k : ℕ) → s.from + s.count ≤ k → word l.words k ≡ word s.words k
+  pub hash_is : hash ≡ hashed 0 (filter (is_kept w) (rows_of s))
+  pub small : narrow ≡ true → l.sum ≤ 4294967295 * s.count
 
--- of count words, which name variables, those of classes outside the front stand from `to` to `end` now; sum is their
--- number of rows on top of first, cut, and hash is their sum on top of another one, as a word wraps it. The word at
--- which they end is left open
-pub record KeepsVariables (nv : List ℤ) (first before : ℕ) (iw : List ℤ) (from count to : ℕ) (iw' : List ℤ)
-    (end sum hash : ℕ) : Type 0 where
-  pub filters : Filters (length nv) (is_outside nv) (size_of nv) first iw from count to
-      (slice_set iw' end (word iw end)) end sum
-  pub hash_is : hash ≡ hashed before (filter (is_outside nv) (rows iw from count))
+-- of the words of a span, which name variables, those of classes outside the front stand from `to` on now; the sum is
+-- their number of rows on top of first, cut, and hash is their own sum on top of another one, as a word wraps it. The
+-- word at which they end is left open
+pub record KeepsVariables (nv : List ℤ) (first before : ℕ) (s : Span) (to : ℕ) (l : Sifted) (hash : ℕ) : Type 0 where
+  pub filters : Filters (length nv) (is_outside nv) (size_of nv) first s to (closed s l)
+  pub hash_is : hash ≡ hashed before (filter (is_outside nv) (rows_of s))
 
--- what a list keeps: the standing ones among its first words, and the classes outside the front among the others
-abbrev pub kept_words : List ℕ → List ℤ → ℕ → ℕ → List ℕ
-kept_words w iw from n_elements = filter (is_kept w) (rows iw from n_elements)
+-- what a list keeps: the standing ones among its elements, and the classes outside the front among its variables
+abbrev pub kept_words : List ℕ → RowList → List ℕ
+kept_words w l = filter (is_kept w) (elements_at l)
 
-abbrev pub near_words : List ℤ → List ℤ → ℕ → ℕ → ℕ → List ℕ
-near_words nv iw from n_elements count = filter (is_outside nv) (rows iw (from + n_elements) (count - n_elements))
+abbrev pub near_words : List ℤ → RowList → List ℕ
+near_words nv l = filter (is_outside nv) (variables_at l)
 
--- a list of count words, the first of which name elements, keeps less than it has, so that there is room for the new
--- element me; words go up to most_word, and other cells up to most_cell
-pub record CanRenew (most_word most_cell flag me : ℕ) (w : List ℕ) (nv iw : List ℤ) (from n_elements count : ℕ) : Type 0 where
+-- a list keeps less than it has, so that there is room for the new element me; words go up to most_word, and other
+-- cells up to most_cell
+pub record CanRenew (most_word most_cell flag me : ℕ) (w : List ℕ) (nv : List ℤ) (l : RowList) : Type 0 where
   pub lengths : length nv ≡ length w
-  pub inside : from + count ≤ length iw
-  pub long : length iw < 2 ^ 63
-  pub few : count ≤ most_cell
-  pub parts : n_elements ≤ count
-  pub names : Names (length w) iw from count
+  pub inside : l.from + l.count ≤ length l.words
+  pub long : length l.words < 2 ^ 63
+  pub few : l.count ≤ most_cell
+  pub parts : l.n_elements ≤ l.count
+  pub names : Names (length w) l.words l.from l.count
   pub row : (me < length w) × (me ≤ most_word)
-  pub room : length (kept_words w iw from n_elements) + length (near_words nv iw from n_elements count) < count
-  pub met : AreMet flag w (rows iw from n_elements)
+  pub room : length (kept_words w l) + length (near_words nv l) < l.count
+  pub met : AreMet flag w (elements_at l)
 
--- the list of a class was renewed; it reaches so many rows outside the front, cut, and hash is the sum of what it
--- keeps,
--- as a word wraps it
-pub record RenewsList (flag me : ℕ) (w : List ℕ) (nv iw : List ℤ) (from n_elements count : ℕ) (iw' : List ℤ)
-    (few len reach hash : ℕ) : Type 0 where
-  pub renews : Renews (length w) me (is_kept w) (is_outside nv) iw from n_elements count iw' few len
-  pub outside : reach ≡ cut (sum_by (λ e. num w e - flag) (kept_words w iw from n_elements)
-      + sum_by (size_of nv) (near_words nv iw from n_elements count))
-  pub hash_is : hash ≡ hashed 0 (kept_words w iw from n_elements ++ near_words nv iw from n_elements count)
+-- a list was renewed; it reaches so many rows outside the front, cut, and hash is the sum of what it keeps, as a word
+-- wraps it
+pub record RenewsList (flag me : ℕ) (w : List ℕ) (nv : List ℤ) (l l' : RowList) (reach hash : ℕ) : Type 0 where
+  pub renews : Renews (length w) me (is_kept w) (is_outside nv) l l'
+  pub outside : reach ≡ cut (sum_by (λ e. num w e - flag) (kept_words w l) + sum_by (size_of nv) (near_words nv l))
+  pub hash_is : hash ≡ hashed 0 (kept_words w l ++ near_words nv l)

@@ -4,7 +4,7 @@
 ghost use Rattle.std.specs.Prelude.{◌≡◌, ◌<◌, ◌≤◌, ◌+◌, ◌*◌, ◌^◌, pos, cond, length, nat_lt, slice_set, true};
 ghost use Rattle.amd_model.specs.Figures.{cut};
 ghost use Rattle.amd_words.specs.Words.{word, rows, size_of};
-ghost use Rattle.amd_lists.specs.Spans.{IsSpan};
+ghost use Rattle.amd_lists.specs.Spans.{IsSpan, row_list, sifted, span};
 ghost use Rattle.amd_lists.specs.Renewal.{AreMet, IsExact, KeepsWords, KeepsVariables, CanRenew, RenewsList};
 ghost use Rattle.amd_lists.specs.Renewal.{is_outside};
 
@@ -55,7 +55,7 @@ fn keep_words<S: Signed, U: Unsigned>(
 ) -> (usize, usize, usize)
     requires span { IsSpan (length w.now) iw.old from count }
     requires narrow { narrow ≡ true → IsExact U.MOST count }
-    ensures { KeepsWords narrow less w.now iw.old from count iw.new result.0 result.1 result.2 }
+    ensures { KeepsWords narrow less w.now (span iw.old from count) (sifted iw.new result.0 result.1) result.2 }
 {
     let mut end = from;
     let mut outside: usize = 0;
@@ -87,7 +87,7 @@ fn keep_elements<S: Signed, U: Unsigned>(
     requires span { IsSpan (length w.now) iw.old from count }
     requires narrow { narrow ≡ true → IsExact U.MOST count }
     requires met { AreMet flag w.now (rows iw.old from count) }
-    ensures { KeepsWords narrow flag w.now iw.old from count iw.new result.0 result.1 result.2 }
+    ensures { KeepsWords narrow flag w.now (span iw.old from count) (sifted iw.new result.0 result.1) result.2 }
 {
     let less = if narrow { 0 } else { flag };
     let (end, total, hash) = keep_words(iw, w, from, count, less, narrow);
@@ -158,7 +158,8 @@ fn keep_part<W: Writing, S: Signed>(
     requires span { IsSpan (length nv.now) iw.old part.from part.count }
     requires down { part.to ≤ part.from }
     requires narrow { narrow ≡ true → IsExact S.MOST part.count × (first + 4294967295 * part.count < 2 ^ 64) }
-    ensures { KeepsVariables nv.now first sum iw.old part.from part.count part.to iw.new result.0 result.1 result.2 }
+    ensures { KeepsVariables nv.now first sum (span iw.old part.from part.count) part.to (sifted iw.new result.0 result.1)
+        result.2 }
 {
     let mut end = part.to;
     let mut outside = first;
@@ -205,7 +206,7 @@ fn keep_variables<S: Signed>(
     requires span { IsSpan (length nv.now) iw.old from count }
     requires down { to ≤ from }
     requires narrow { narrow ≡ true → IsExact S.MOST count × (first + 4294967295 * count < 2 ^ 64) }
-    ensures { KeepsVariables nv.now first sum iw.old from count to iw.new result.0 result.1 result.2 }
+    ensures { KeepsVariables nv.now first sum (span iw.old from count) to (sifted iw.new result.0 result.1) result.2 }
 {
     let part = Part { from, count, to };
     if are_scattered(iw, from, count) {
@@ -243,8 +244,9 @@ pub fn renew_list<S: Signed, U: Unsigned>(
     flag: usize,
     me: usize,
 ) -> (usize, usize, usize, usize)
-    requires { CanRenew S.MOST U.MOST flag me w.now nv.now iw.old from n_elements count }
-    ensures { RenewsList flag me w.now nv.now iw.old from n_elements count iw.new result.0 result.1 result.2 result.3 }
+    requires { CanRenew S.MOST U.MOST flag me w.now nv.now (row_list iw.old from n_elements count) }
+    ensures { RenewsList flag me w.now nv.now (row_list iw.old from n_elements count)
+        (row_list iw.new from result.0 result.1) result.2 result.3 }
 {
     let narrow = S::MOST <= u32::MAX as usize && U::MOST <= u32::MAX as usize;
     let (middle, rows, sum) = keep_elements(iw, w, from, n_elements, flag, narrow);

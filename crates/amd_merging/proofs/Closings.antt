@@ -3,6 +3,7 @@ use Rattle.std.proofs.Common.{ℕ, ℤ, Bool, true, List, pos, ◌≡◌, ◌<�
 use Rattle.std.proofs.Common.{get_or-set_same, get_or-set_other}
 use Rattle.amd_words.specs.Words.{num, is_place, place, word, start, rows, flip_of, Names}
 use Rattle.amd_lists.specs.Renewal.{Filters}
+use Rattle.amd_lists.specs.Spans.{span, sifted}
 use Rattle.amd_lists.specs.Layout.{has_list, end_of, Layout}
 use Rattle.amd_merging.specs.Classes.{lists_of}
 use Rattle.amd_merging.specs.Closing.{Closes}
@@ -11,7 +12,8 @@ use Rattle.amd_lists.proofs.Frames.{edited, edited_fewer, edited_reads, lowered_
 
 pub closes : {n : ℕ} {pass : ℕ → Bool} {share : ℕ → ℕ} {first sum : ℕ} {iw iw' : List ℤ} {end free : ℕ} (me last : ℕ)
     (pe e_len : List ℤ) (len : List ℕ) → me < length e_len → me < length len → is_place (word pe me) ≡ true →
-    Filters n pass share first iw (start pe me) (num len me) (start pe me) iw' end sum → Layout n iw pe e_len len free →
+    Filters n pass share first (span iw (start pe me) (num len me)) (start pe me) (sifted iw' end sum) →
+    Layout n iw pe e_len len free →
     Closes n me pass free (lists_of iw pe e_len len)
     (lists_of iw' pe (set e_len me (flip_of last)) (set len me (end - start pe me)))
 closes {n} {pass} {share} {first} {sum} {iw} {iw'} {end} {free} me last pe e_len len small_e small_l at f y =

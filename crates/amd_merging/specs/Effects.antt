@@ -10,6 +10,7 @@ use Rattle.amd_lists.specs.Chains.{DegreeLists}
 use Rattle.amd_lists.specs.Layout.{has_list, end_of, variables_in, Layout}
 use Rattle.amd_lists.specs.Lengths.{row_count}
 use Rattle.amd_lists.specs.Renewal.{Filters}
+use Rattle.amd_lists.specs.Spans.{span, sifted}
 use Rattle.amd_merging.specs.Classes.{Lists, Classes, Placing, Numbers, lists_of}
 use Rattle.amd_merging.specs.Closing.{Closes}
 use Rattle.amd_merging.specs.declared.restoring.Front.{Front}
@@ -77,7 +78,8 @@ pub record PlacesClass (front : Front) (i : ℕ) (p v : Placing) (bound : ℕ) :
 -- so does each class that is left of a front, whose list keeps these alone, to `end`
 pub record RestoresFront (front : Front) (least : ℕ) (iw : List ℤ) (p : Placing) (iw' : List ℤ) (v : Placing)
     (end least' : ℕ) : Type 0 where
-  pub filters : Filters (length p.next) (in_front p.nv) (λ j. 0) 0 iw front.from front.count front.from iw' end 0
+  pub filters : Filters (length p.next) (in_front p.nv) (λ j. 0) 0 (span iw front.from front.count) front.from
+      (sifted iw' end 0)
   pub placed : Restores (rows iw front.from front.count) front.border front.left least p.nv p.degree v.nv v.degree
       least'
   pub empty : (b : ℕ) → b < bucket_count (length p.next) → length p.next ≤ num v.hash b
@@ -92,7 +94,8 @@ pub record ClosesElement (me from end block border : ℕ) (p v : Numbers) : Type
   pub borders : v.degree ≡ slice_set p.degree me border
   pub closes : (n : ℕ) (pass : ℕ → Bool) (share : ℕ → ℕ) (first sum : ℕ) (iw iw' pe : List ℤ) (free : ℕ) →
       start pe me ≡ from → is_place (word pe me) ≡ true →
-      Filters n pass share first iw from (num p.len me) from iw' end sum → Layout n iw pe p.e_len p.len free →
+      Filters n pass share first (span iw from (num p.len me)) from (sifted iw' end sum) →
+      Layout n iw pe p.e_len p.len free →
       Closes n me pass free (lists_of iw pe p.e_len p.len) (lists_of iw' pe v.e_len v.len)
   pub lowers : (n : ℕ) (iw pe : List ℤ) (free : ℕ) → start pe me ≡ from → end_of pe v.len me ≤ free →
       ((j : ℕ) → (j ≡ me → ⊥) → has_list pe v.len j ≡ true → end_of pe v.len j ≤ from) →

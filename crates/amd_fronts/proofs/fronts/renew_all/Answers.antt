@@ -1,27 +1,16 @@
-use Rattle.std.proofs.Common.{rules}
 -- The goals of fronts::renew_all.
-use Rattle.std.proofs.Common.{ℕ, ℤ, List, ◌≡◌, ◌<◌, ◌≤◌, ◌+◌, ◌-◌, inl, inr, refl, sym, ap, subst, ◌∙◌, arith, length}
+use Rattle.std.proofs.Common.{ℕ, ℤ, List, true, ◌≡◌, ◌<◌, ◌≤◌, ◌+◌, ◌-◌, inl, inr, refl, sym, ap, subst, ◌∙◌, arith, length, le-add_right}
 use Rattle.std.proofs.lemmas.Bool.{cases_eq}
 use Rattle.amd_words.specs.Words.{num, word, place, is_place, start, rows}
-use Rattle.amd_lists.specs.Renewal.{is_kept, is_outside}
-use Rattle.amd_fronts.specs.Fronts.{RenewsFront}
 use Rattle.amd_words.proofs.RowLists.{rows_none}
-use Rattle.amd_lists.proofs.Frames.{has_from}
-use Rattle.amd_fronts.proofs.RenewedFronts.{front_word, front_inside, front_row}
-use Rattle.amd_fronts.proofs.Retiring.{front_none, front_placed, front_loses, front_marked, front_met, front_room, front_more}
-use Rattle.std.proofs.Common.{lt_of_lt_of_le, le_of_eq, le-add_right}
-use Rattle.amd_words.specs.Sides.{lasts}
 use Rattle.amd_words.proofs.WordCounts.{next_place, none_passed}
+use Rattle.amd_lists.specs.Workspaces.{workspace_of}
+use Rattle.amd_lists.proofs.Frames.{has_from}
+use Rattle.amd_fronts.specs.Effects.{RenewsOrRetires}
+use Rattle.amd_fronts.specs.Fronts.{renewed_in, RenewsFront}
+use Rattle.amd_fronts.specs.Premises.{CanRenewOrRetire}
+use Rattle.amd_fronts.proofs.Retiring.{front_none, word_inside, word_one, class_ready, class_renewed, class_room}
 use Rattle.amd_fronts.proofs.fronts.renew_all.Goals as goal
-
-pub overflow_add-end : goal.overflow_add-end
-overflow_add-end g c = let is = c.named-from.ensures in let count = c.cell_at.ensures.is in
-    elim (cases_eq (num c.args.len.now c.args.me) 0) [
-      | inl q ↦ omega (arith, q, count)
-      | inr ne ↦ (let a = c.requires.laid.within c.args.me (has_from c.args.pe.now c.args.len.now c.args.me c.requires.list (omega
-          (arith, ne))) in
-          let b = c.requires.end in let d = c.requires.narrow.0 in let z = g.met.P.Signed.narrow in omega (arith, a, b, d, z, is, count))
-    ]
 
 -- the place p of the list, counted from its start
 place_at : {from s p : ℕ} → from ≡ s → from ≤ p → s + (p - from) ≡ p
@@ -33,96 +22,91 @@ within_list after there is = omega (arith, after, there, is)
 row_at : (iw : List ℤ) {from s p i : ℕ} → from ≡ s → from ≤ p → i ≡ place (word iw p) → i ≡ place (word iw (s + (p - from)))
 row_at iw is after i_is = i_is ∙ ap (λ q. place (word iw q)) (sym (place_at is after))
 
+pub list_lent-from-requires : goal.list_lent-from-requires
+list_lent-from-requires g c = let a = c.requires.row.0 in let l = c.requires.lengths in record {
+  inside = ((let n = l.0 in omega (arith, a, n)), (let n = l.2 in omega (arith, a, n)));
+  place = c.requires.list;
+}
+
+pub overflow_add-p-end : goal.overflow_add-p-end
+overflow_add-p-end g c = let is = c.list_lent-from.ensures.list.0 in let count = c.list_lent-from.ensures.list.1 in
+    let p = workspace_of c.args.work.now in
+    elim (cases_eq (num p.len c.args.me) 0) [
+      | inl q ↦ omega (arith, q, count)
+      | inr ne ↦ (let a = c.requires.laid.within c.args.me (has_from p.pe p.len c.args.me c.requires.list (omega (arith, ne))) in
+          let b = c.requires.end in let d = c.requires.narrow.0 in let z = g.met.P.Signed.narrow in omega (arith, a, b, d, z, is, count))
+    ]
+
 pub loop-p-init : goal.loop-p-init
 loop-p-init g c =
-    let iw : List ℤ = c.args.iw.now in let pe : List ℤ = c.args.pe.now in let len : List ℕ = c.args.len.now in let me : ℕ = c.args.me in
-    record {
-      renews = subst (λ xs. RenewsFront (length c.args.w.now) me (is_kept c.args.w.now) (is_outside c.args.nv.now)
-          (λ e. num c.args.w.now e - c.args.flag)
-          xs c.args.free iw pe c.args.e_len.now c.args.nv.now len c.args.degree.now (lasts c.args.sides.now)
-          iw pe c.args.e_len.now c.args.nv.now len c.args.degree.now (lasts c.args.sides.now) 0)
-          (sym (ap (rows iw (start pe me)) (none_passed c.named-from.result) ∙ rows_none iw (start pe me)))
-          (front_none (length c.args.w.now) me (is_kept c.args.w.now) (is_outside c.args.nv.now)
-          (λ e. num c.args.w.now e - c.args.flag) c.args.free
-          iw pe c.args.e_len.now c.args.nv.now len c.args.degree.now (lasts c.args.sides.now) c.requires.laid);
-      nexts_kept = refl;
+    let p = workspace_of c.args.work.now in let me : ℕ = c.args.me in let same = c.list_lent-from.ensures.same in record {
+      renews = rw (same.0, same.1) (subst (λ xs. RenewsFront (length p.w) me xs p p 0)
+          (sym (ap (rows p.iw (start p.pe me)) (none_passed c.list_lent-from.result.0) ∙ rows_none p.iw (start p.pe me)))
+          (front_none (length p.w) me p c.requires.laid));
+      same = rw (same.0, same.1) refl;
+      loans = (refl, refl, refl, refl, refl, refl, refl, refl, refl, refl);
     }
 
-pub named-i-requires-clause-inside : goal.named-i-requires-clause-inside
-named-i-requires-clause-inside g c =
-    let at = place_at c.named-from.ensures c.loop-p.auto.p in
-    let a = front_inside c.requires.laid c.requires.list c.requires.apart c.requires.once (c.loop-p.p - c.named-from.result) (within_list
-    c.loop-p.auto.p c.loop-p-test.true c.cell_at.ensures.is) c.loop-p.invariant.renews.renewed in
-    let b = c.requires.end in let d = c.loop-p.invariant.renews.renewed.long in omega (arith, a, b, d, at)
+pub row_lent-i-requires-clause-inside : goal.row_lent-i-requires-clause-inside
+row_lent-i-requires-clause-inside g c = let at = c.list_lent-from.ensures.list in
+    subst (λ q. q < length c.loop-p.work.iw.now) (place_at at.0 c.loop-p.auto.p)
+    (word_inside c.requires (c.loop-p.p - c.list_lent-from.result.0) (within_list c.loop-p.auto.p c.loop-p-test.true at.1)
+    c.loop-p.invariant.renews)
 
-pub named-i-requires-clause-is_one : goal.named-i-requires-clause-is_one
-named-i-requires-clause-is_one g c = ap (λ q. is_place (word c.loop-p.iw q)) (sym (place_at c.named-from.ensures c.loop-p.auto.p))
-    ∙ ap is_place (front_word c.requires.laid c.requires.list c.requires.apart c.requires.once (c.loop-p.p - c.named-from.result)
-    (within_list c.loop-p.auto.p c.loop-p-test.true c.cell_at.ensures.is) c.loop-p.invariant.renews.renewed)
-    ∙ (front_row c.requires.laid c.requires.list c.requires.apart c.requires.once (c.loop-p.p - c.named-from.result) (within_list
-    c.loop-p.auto.p c.loop-p-test.true c.cell_at.ensures.is) c.loop-p.invariant.renews.renewed).0
+pub row_lent-i-requires-clause-place : goal.row_lent-i-requires-clause-place
+row_lent-i-requires-clause-place g c = let at = c.list_lent-from.ensures.list in
+    subst (λ q. is_place (word c.loop-p.work.iw.now q) ≡ true) (place_at at.0 c.loop-p.auto.p)
+    (word_one c.requires (c.loop-p.p - c.list_lent-from.result.0) (within_list c.loop-p.auto.p c.loop-p-test.true at.1)
+    c.loop-p.invariant.renews)
 
-pub renew_or_retire-gone-requires : goal.renew_or_retire-gone-requires
-renew_or_retire-gone-requires g c = record {
-  lengths = search rules;
-  more_lengths = search rules;
-  narrow = search rules;
-  row = c.requires.row;
-  placed = front_placed c.requires.laid c.requires.list c.requires.apart c.requires.once c.requires.front c.requires.marked (c.loop-p.p -
-      c.named-from.result) (within_list c.loop-p.auto.p c.loop-p-test.true c.cell_at.ensures.is) c.loop-p.invariant.renews c.named-i.result
-      (row_at c.loop-p.iw c.named-from.ensures c.loop-p.auto.p c.named-i.ensures) c.requires.end;
-  loses = front_loses c.requires.laid c.requires.list c.requires.apart c.requires.once c.requires.front c.requires.marked (c.loop-p.p -
-      c.named-from.result) (within_list c.loop-p.auto.p c.loop-p-test.true c.cell_at.ensures.is) c.loop-p.invariant.renews c.named-i.result
-      (row_at c.loop-p.iw c.named-from.ensures c.loop-p.auto.p c.named-i.ensures);
-  marked = front_marked c.requires.laid c.requires.list c.requires.apart c.requires.once c.requires.front c.requires.marked (c.loop-p.p -
-      c.named-from.result) (within_list c.loop-p.auto.p c.loop-p-test.true c.cell_at.ensures.is) c.loop-p.invariant.renews c.named-i.result
-      (row_at c.loop-p.iw c.named-from.ensures c.loop-p.auto.p c.named-i.ensures);
-  met = front_met c.requires.laid c.requires.list c.requires.apart c.requires.once c.requires.front c.requires.marked (c.loop-p.p -
-      c.named-from.result) (within_list c.loop-p.auto.p c.loop-p-test.true c.cell_at.ensures.is) c.loop-p.invariant.renews c.named-i.result
-      (row_at c.loop-p.iw c.named-from.ensures c.loop-p.auto.p c.named-i.ensures) c.args.flag c.args.w.now c.requires.met;
-}
+pub renew_or_retire-gone-requires-clause-class : goal.renew_or_retire-gone-requires-clause-class
+renew_or_retire-gone-requires-clause-class g c =
+    let at = c.list_lent-from.ensures.list in let v = workspace_of c.loop-p.work in
+    rw c.row_lent-i.ensures.same
+    (subst (λ x. CanRenewOrRetire g.S.Signed.MOST g.P.Signed.MOST g.U.Unsigned.MOST c.args.me c.row_lent-i.result x)
+    (sym c.loop-p.invariant.same)
+    (class_ready c.requires (c.loop-p.p - c.list_lent-from.result.0) (within_list c.loop-p.auto.p c.loop-p-test.true at.1)
+    c.loop-p.invariant.renews c.row_lent-i.result (row_at v.iw at.0 c.loop-p.auto.p c.row_lent-i.ensures.is)))
 
-pub loop-p-preserved : goal.loop-p-preserved
-loop-p-preserved g c = record {
-  renews = subst (λ k. RenewsFront (length c.args.w.now) c.args.me (is_kept c.args.w.now) (is_outside c.args.nv.now)
-      (λ e. num c.args.w.now e - c.args.flag) (rows c.args.iw.now (start c.args.pe.now c.args.me) k) c.args.free c.args.iw.now c.args.pe.now
-      c.args.e_len.now c.args.nv.now c.args.len.now c.args.degree.now (lasts c.args.sides.now) c.renew_or_retire-gone.new.iw
-      c.renew_or_retire-gone.new.pe c.renew_or_retire-gone.new.e_len c.renew_or_retire-gone.new.nv c.renew_or_retire-gone.new.len
-      c.renew_or_retire-gone.new.degree (lasts c.renew_or_retire-gone.new.sides) (c.loop-p.gone + c.renew_or_retire-gone.result))
-      (sym (next_place c.loop-p.auto.p))
-      (front_more c.requires.laid c.requires.list c.requires.apart c.requires.once c.requires.front c.requires.marked (c.loop-p.p -
-      c.named-from.result) (within_list c.loop-p.auto.p c.loop-p-test.true c.cell_at.ensures.is) c.loop-p.invariant.renews c.named-i.result
-      (row_at c.loop-p.iw c.named-from.ensures c.loop-p.auto.p c.named-i.ensures)
-      c.renew_or_retire-gone.ensures.renews c.requires.lengths.1 c.renew_or_retire-gone.ensures.lengths);
-  nexts_kept = c.renew_or_retire-gone.ensures.links ∙ c.loop-p.invariant.nexts_kept;
-}
+pub renew_or_retire-gone-requires-clause-rows : goal.renew_or_retire-gone-requires-clause-rows
+renew_or_retire-gone-requires-clause-rows g c = sym (ap (λ x. length x.w) c.loop-p.invariant.same)
 
 pub overflow_add-gone : goal.overflow_add-gone
 overflow_add-gone g c =
-    let a = front_room c.requires.laid c.requires.list c.requires.apart c.requires.once c.requires.front c.requires.marked (c.loop-p.p -
-    c.named-from.result) (within_list c.loop-p.auto.p c.loop-p-test.true c.cell_at.ensures.is) c.loop-p.invariant.renews c.named-i.result
-    (row_at c.loop-p.iw c.named-from.ensures c.loop-p.auto.p c.named-i.ensures)
-    c.renew_or_retire-gone.ensures.renews c.requires.lengths.1 c.renew_or_retire-gone.ensures.lengths in let b = c.requires.few in
-    let d = g.met.S.Signed.narrow in omega (arith, a, b, d)
+    let p = workspace_of c.args.work.now in let at = c.list_lent-from.ensures.list in let v = workspace_of c.loop-p.work in
+    let told : RenewsOrRetires c.args.me c.row_lent-i.result (renewed_in p v) (workspace_of c.renew_or_retire-gone.new.work)
+    c.renew_or_retire-gone.result = subst (λ x. RenewsOrRetires c.args.me c.row_lent-i.result x
+    (workspace_of c.renew_or_retire-gone.new.work) c.renew_or_retire-gone.result) c.loop-p.invariant.same
+    (rw c.row_lent-i.ensures.same at c.renew_or_retire-gone.ensures.renews) in
+    let a = class_room c.requires (c.loop-p.p - c.list_lent-from.result.0) (within_list c.loop-p.auto.p c.loop-p-test.true at.1)
+    c.loop-p.invariant.renews c.row_lent-i.result (row_at v.iw at.0 c.loop-p.auto.p c.row_lent-i.ensures.is) told in
+    let d = g.met.S.Signed.narrow in omega (arith, a, d)
 
-pub returns : goal.returns
-returns g c =
-    let t = c.loop-p-test.false in let after : c.named-from.result ≤ c.loop-p.p = c.loop-p.auto.p in let count = c.cell_at.ensures.is in
-    let past : c.loop-p.p ≤ c.named-from.result + c.cell_at.result = c.loop-p.auto.p-end (le-add_right _ _) in
-    record {
-      renews = subst (λ k. RenewsFront (length c.args.w.now) c.args.me (is_kept c.args.w.now) (is_outside c.args.nv.now)
-          (λ e. num c.args.w.now e - c.args.flag) (rows c.args.iw.now (start c.args.pe.now c.args.me) k) c.args.free c.args.iw.now
-          c.args.pe.now c.args.e_len.now c.args.nv.now c.args.len.now c.args.degree.now (lasts c.args.sides.now)
-          c.loop-p.iw c.loop-p.pe c.loop-p.e_len c.loop-p.nv c.loop-p.len c.loop-p.degree (lasts c.loop-p.sides) c.loop-p.gone)
-          (omega (arith, t, after, past, count)) c.loop-p.invariant.renews;
-      links = c.loop-p.invariant.nexts_kept;
+pub loop-p-preserved : goal.loop-p-preserved
+loop-p-preserved g c =
+    let p = workspace_of c.args.work.now in let at = c.list_lent-from.ensures.list in let v = workspace_of c.loop-p.work in
+    let told : RenewsOrRetires c.args.me c.row_lent-i.result (renewed_in p v) (workspace_of c.renew_or_retire-gone.new.work)
+    c.renew_or_retire-gone.result = subst (λ x. RenewsOrRetires c.args.me c.row_lent-i.result x
+    (workspace_of c.renew_or_retire-gone.new.work) c.renew_or_retire-gone.result) c.loop-p.invariant.same
+    (rw c.row_lent-i.ensures.same at c.renew_or_retire-gone.ensures.renews) in
+    let l = c.loop-p.invariant.loans in let m = c.renew_or_retire-gone.ensures.loans in record {
+      renews = subst (λ k. RenewsFront (length p.w) c.args.me (rows p.iw (start p.pe c.args.me) k) p
+          (workspace_of c.renew_or_retire-gone.new.work) (c.loop-p.gone + c.renew_or_retire-gone.result))
+          (sym (next_place c.loop-p.auto.p))
+          (class_renewed c.requires (c.loop-p.p - c.list_lent-from.result.0) (within_list c.loop-p.auto.p c.loop-p-test.true at.1)
+          c.loop-p.invariant.renews c.row_lent-i.result (row_at v.iw at.0 c.loop-p.auto.p c.row_lent-i.ensures.is) told);
+      same = told.same;
+      loans = (m.0 ∙ l.0, m.1 ∙ l.1, m.2 ∙ l.2, m.3 ∙ l.3, m.4 ∙ l.4, m.5 ∙ l.5, m.6 ∙ l.6, m.7 ∙ l.7, m.8 ∙ l.8, m.9 ∙ l.9);
     }
 
-pub named-from-requires-clause-inside : goal.named-from-requires-clause-inside
-named-from-requires-clause-inside g c = lt_of_lt_of_le c.requires.row.0 (le_of_eq (sym c.requires.lengths.0))
-
-pub named-from-requires-clause-is_one : goal.named-from-requires-clause-is_one
-named-from-requires-clause-is_one g c = c.requires.list
-
-pub cell_at-requires : goal.cell_at-requires
-cell_at-requires g c = lt_of_lt_of_le c.requires.row.0 (le_of_eq (sym c.requires.lengths.2))
+pub returns-clause-renews : goal.returns-clause-renews
+returns-clause-renews g c =
+    let p = workspace_of c.args.work.now in let t = c.loop-p-test.false in let after : c.list_lent-from.result.0 ≤ c.loop-p.p =
+    c.loop-p.auto.p in
+    let count = c.list_lent-from.ensures.list.1 in
+    let past : c.loop-p.p ≤ c.list_lent-from.result.0 + c.list_lent-from.result.1 = c.loop-p.auto.p-end (le-add_right _ _) in
+    record {
+      renews = subst (λ k. RenewsFront (length p.w) c.args.me (rows p.iw (start p.pe c.args.me) k) p (workspace_of c.loop-p.work)
+          c.loop-p.gone) (omega (arith, t, after, past, count)) c.loop-p.invariant.renews;
+      same = c.loop-p.invariant.same;
+    }

@@ -1,100 +1,75 @@
-use Rattle.std.proofs.Common.{ℕ, ℤ, List, filter, subst, sum_by, refl, sym, ap, ◌∙◌, ◌≡◌, ◌+◌, ◌-◌, ◌++◌, arith, length, get_or-set_same}
-use Rattle.amd_model.specs.Figures.{cut}
-use Rattle.amd_model.specs.Quotient.{has}
-use Rattle.amd_words.specs.Words.{num, start, size_of, rows}
-use Rattle.amd_lists.specs.Renewal.{is_kept, is_outside, hashed, Renews}
-use Rattle.amd_lists.specs.Layout.{elements_in}
-use Rattle.amd_words.proofs.RowLists.{rows_at, names_at}
-use Rattle.amd_fronts.proofs.RenewedFronts.{one_from, one_from_as}
+-- The goals of fronts::renew_class.
+use Rattle.std.proofs.Common.{ℕ, refl, sym, ap, ◌∙◌, ◌≡◌, arith, set, pos, get_or-set_same}
+use Rattle.amd_words.specs.Words.{num, start}
+use Rattle.amd_lists.specs.Layout.{list_of}
+use Rattle.amd_lists.specs.Renewal.{CanRenew, RenewsList}
+use Rattle.amd_lists.specs.Spans.{row_list}
+use Rattle.amd_lists.specs.Workspaces.{workspace_of}
+use Rattle.amd_fronts.proofs.RenewedFronts.{one_from}
 use Rattle.amd_fronts.proofs.fronts.renew_class.Goals as goal
 
--- the words behind the elements of a list
-behind : (iw : List ℤ) {from n_elements count from' n_elements' count' : ℕ} → from ≡ from' → n_elements ≡ n_elements' → count ≡ count' →
-    rows iw (from + n_elements) (count - n_elements) ≡ rows iw (from' + n_elements') (count' - n_elements')
-behind iw f m k = rows_at iw (omega (arith, f, m)) (omega (arith, m, k))
-
-pub named-from-requires-clause-inside : goal.named-from-requires-clause-inside
-named-from-requires-clause-inside g c = let a = c.requires.placed.row in let n = c.requires.lengths.0 in omega (arith, a, n)
-
-pub named-from-requires-clause-is_one : goal.named-from-requires-clause-is_one
-named-from-requires-clause-is_one g c = c.requires.placed.starts
-
-pub named-n_elements-requires-clause-inside : goal.named-n_elements-requires-clause-inside
-named-n_elements-requires-clause-inside g c = let a = c.requires.placed.row in let n = c.requires.lengths.1 in omega (arith, a, n)
-
-pub named-n_elements-requires-clause-is_one : goal.named-n_elements-requires-clause-is_one
-named-n_elements-requires-clause-is_one g c = c.requires.placed.counts
-
-pub cell_at-requires : goal.cell_at-requires
-cell_at-requires g c = let a = c.requires.placed.row in let n = c.requires.lengths.2 in omega (arith, a, n)
-
-pub renew_list-few-requires : goal.renew_list-few-requires
-renew_list-few-requires g c = record {
-  lengths = (c.requires.lengths.3);
-  inside = (let f = c.named-from.ensures in let k = c.cell_at.ensures.is in
-      let w = c.requires.placed.within in omega (arith, f, k, w));
-  long = (let n = c.requires.narrow in let z = g.met.P.Signed.narrow in omega (arith, n, z));
-  few = (c.cell_at.ensures.small);
-  parts = (let m = c.named-n_elements.ensures in let k = c.cell_at.ensures.is in
-      let p = c.requires.placed.parts in omega (arith, m, k, p));
-  names = (names_at c.args.iw.now refl (sym c.named-from.ensures) (sym c.cell_at.ensures.is)
-      c.requires.placed.names);
-  row = (c.requires.row);
-  room = (let f = c.named-from.ensures in let m = c.named-n_elements.ensures in let k = c.cell_at.ensures.is in
-      let a = ap (λ xs. length (filter (is_kept c.args.w.now) xs)) (rows_at c.args.iw.now f m) in
-      let b = ap (λ xs. length (filter (is_outside c.args.nv.now) xs)) (behind c.args.iw.now f m k) in
-      let r = c.requires.loses in omega (arith, a, b, k, r));
-  met = (λ e h. let f = c.named-from.ensures in let m = c.named-n_elements.ensures in
-      c.requires.met e (sym (ap (λ xs. has xs e) (rows_at c.args.iw.now f m)) ∙ h));
+pub list_lent-from-requires : goal.list_lent-from-requires
+list_lent-from-requires g c = let a = c.requires.placed.row in let l = c.requires.lengths in record {
+  inside = ((let n = l.0 in omega (arith, a, n)), (let n = l.2 in omega (arith, a, n)));
+  place = c.requires.placed.starts;
 }
 
+pub row_lent-n_elements-requires : goal.row_lent-n_elements-requires
+row_lent-n_elements-requires g c = let a = c.requires.placed.row in record {
+  inside = (let n = c.requires.lengths.1 in omega (arith, a, n));
+  place = c.requires.placed.counts;
+}
+
+pub renew_lent-few-requires : goal.renew_lent-few-requires
+renew_lent-few-requires g c =
+    let p = workspace_of c.args.work.now in let at = c.list_lent-from.ensures.list in let r = c.requires in
+    let ready : CanRenew g.S.Signed.MOST g.U.Unsigned.MOST p.flag c.args.me p.w p.nv (list_of p p c.args.i) = record {
+      lengths = r.lengths.3;
+      inside = r.placed.within;
+      long = (let n = r.narrow in let z = g.met.P.Signed.narrow in omega (arith, n, z));
+      few = (let s = c.list_lent-from.ensures.small in let n = at.1 in omega (arith, s, n));
+      parts = r.placed.parts;
+      names = r.placed.names;
+      row = r.row;
+      room = r.loses;
+      met = r.met;
+    } in
+    rw (at.0, at.1, c.row_lent-n_elements.ensures.is) ready
+
 pub put_row-requires-clause-inside : goal.put_row-requires-clause-inside
-put_row-requires-clause-inside g c = let a = c.requires.placed.row in let n = c.requires.lengths.1 in omega (arith, a, n)
+put_row-requires-clause-inside g c = let a = c.requires.placed.row in let n = c.requires.lengths.1 in
+    rw c.row_lent-n_elements.ensures.same (omega (arith, a, n))
 
 pub put_row-requires-clause-small : goal.put_row-requires-clause-small
-put_row-requires-clause-small g c = let s = c.renew_list-few.ensures.renews.shorter in let k = c.cell_at.ensures.is in
+put_row-requires-clause-small g c = let s = c.renew_lent-few.ensures.list.renews.shorter in let k = c.list_lent-from.ensures.list.1 in
     let w = c.requires.placed.within in let n = c.requires.narrow in omega (arith, s, k, w, n)
 
 pub put_cell-requires-clause-inside : goal.put_cell-requires-clause-inside
-put_cell-requires-clause-inside g c = let a = c.requires.placed.row in let n = c.requires.lengths.2 in omega (arith, a, n)
+put_cell-requires-clause-inside g c = let a = c.requires.placed.row in let n = c.requires.lengths.2 in
+    rw c.list_lent-from.ensures.same.1 (omega (arith, a, n))
 
 pub put_cell-requires-clause-fits : goal.put_cell-requires-clause-fits
-put_cell-requires-clause-fits g c = let s = c.renew_list-few.ensures.renews.shorter.1 in let k = c.cell_at.ensures.small in
+put_cell-requires-clause-fits g c = let s = c.renew_lent-few.ensures.list.renews.shorter.1 in let k = c.list_lent-from.ensures.small in
     omega (arith, s, k)
 
 pub returns : goal.returns
-returns g c = record {
-  renews = (let n : ℕ = length c.args.w.now in
-      let r = subst (λ q. Renews n c.args.me (is_kept c.args.w.now) (is_outside c.args.nv.now)
-      c.args.iw.now c.named-from.result c.named-n_elements.result q c.renew_list-few.new.iw c.renew_list-few.result.0
-      c.renew_list-few.result.1) c.cell_at.ensures.is c.renew_list-few.ensures.renews in
-      let s = subst (λ f. Renews n c.args.me (is_kept c.args.w.now) (is_outside c.args.nv.now)
-      c.args.iw.now f c.named-n_elements.result (num c.args.len.now c.args.i)
-      c.renew_list-few.new.iw c.renew_list-few.result.0 c.renew_list-few.result.1) c.named-from.ensures r in
-      let t = subst (λ m. Renews n c.args.me (is_kept c.args.w.now) (is_outside c.args.nv.now) c.args.iw.now
-      (start c.args.pe.now c.args.i) m (num c.args.len.now c.args.i)
-      c.renew_list-few.new.iw c.renew_list-few.result.0 c.renew_list-few.result.1) c.named-n_elements.ensures s in
-      let small = c.requires.placed.row in let e = c.requires.lengths.1 in let l = c.requires.lengths.2 in
-      one_from_as c.renew_list-few.result.0 c.renew_list-few.result.1 c.put_row.ensures c.put_cell.ensures
-      (one_from n c.args.me (is_kept c.args.w.now) (is_outside c.args.nv.now)
-      c.args.i c.renew_list-few.result.0 c.renew_list-few.result.1 c.args.iw.now c.args.pe.now c.args.e_len.now c.args.len.now
-      c.renew_list-few.new.iw (omega (arith, small, e)) (omega (arith, small, l)) t));
-  count_is = (let a = c.requires.placed.row in let n = c.requires.lengths.2 in
-      sym (ap (λ l. num l c.args.i) c.put_cell.ensures
-      ∙ get_or-set_same c.args.len.now c.args.i c.renew_list-few.result.1 0 (omega (arith, a, n))));
-  outside = (let f = c.named-from.ensures in let m = c.named-n_elements.ensures in let k = c.cell_at.ensures.is in
-      c.renew_list-few.ensures.outside
-      ∙ ap (λ xs. cut (sum_by (λ e. num c.args.w.now e - c.args.flag) (filter (is_kept c.args.w.now) xs)
-      + sum_by (size_of c.args.nv.now) (filter (is_outside c.args.nv.now) (rows c.args.iw.now
-      (c.named-from.result + c.named-n_elements.result) (c.cell_at.result - c.named-n_elements.result)))))
-      (rows_at c.args.iw.now f m)
-      ∙ ap (λ xs. cut (sum_by (λ e. num c.args.w.now e - c.args.flag) (filter (is_kept c.args.w.now)
-      (elements_in c.args.iw.now c.args.pe.now c.args.e_len.now c.args.i))
-      + sum_by (size_of c.args.nv.now) (filter (is_outside c.args.nv.now) xs))) (behind c.args.iw.now f m k));
-  hash_is = (let f = c.named-from.ensures in let m = c.named-n_elements.ensures in let k = c.cell_at.ensures.is in
-      c.renew_list-few.ensures.hash_is
-      ∙ ap (λ xs. hashed 0 (filter (is_kept c.args.w.now) xs ++ filter (is_outside c.args.nv.now) (rows c.args.iw.now
-      (c.named-from.result + c.named-n_elements.result) (c.cell_at.result - c.named-n_elements.result)))) (rows_at c.args.iw.now f m)
-      ∙ ap (λ xs. hashed 0 (filter (is_kept c.args.w.now) (elements_in c.args.iw.now c.args.pe.now c.args.e_len.now c.args.i)
-      ++ filter (is_outside c.args.nv.now) xs)) (behind c.args.iw.now f m k));
-}
+returns g c =
+    let p = workspace_of c.args.work.now in let i = c.args.i in let at = c.list_lent-from.ensures.list in
+    let same = c.list_lent-from.ensures.same in let kept = c.renew_lent-few.ensures.same in let few = c.renew_lent-few.result.0 in
+    let count = c.renew_lent-few.result.1 in let row = c.requires.placed.row in let l = c.requires.lengths in
+    let told : RenewsList p.flag c.args.me p.w p.nv (list_of p p i) (row_list c.renew_lent-few.new.iw (start p.pe i) few count)
+    c.renew_lent-few.result.2 c.renew_lent-few.result.3 = rw (at.0, at.1, c.row_lent-n_elements.ensures.is) at c.renew_lent-few.ensures.list
+    in
+    let e_len = c.put_row.ensures ∙ ap (λ xs. set xs i (pos few)) c.row_lent-n_elements.ensures.same in
+    let len = c.put_cell.ensures ∙ ap (λ xs. set xs i count) same.1 in
+    let small_e = l.1 in let small_l = l.2 in
+    record {
+      renews = record {
+        renews = one_from _ few count (omega (arith, row, small_e)) (omega (arith, row, small_l)) e_len len told.renews;
+        count_is = sym (ap (λ xs. num xs i) len ∙ get_or-set_same p.len i count 0 (omega (arith, row, small_l)));
+        outside = told.outside;
+        hash_is = told.hash_is;
+        same = rw (same.0, kept.0, kept.1) refl;
+      };
+      loans = (refl, refl, refl, refl, refl, refl, refl, refl, refl, refl);
+    }

@@ -8,6 +8,7 @@ use Rattle.amd_model.specs.Figures.{cut}
 use Rattle.amd_words.specs.Words.{word, place, is_place, size_of, rows}
 use Rattle.amd_round_laws.proofs.Lists.Cuts.{cut_more}
 use Rattle.amd_lists.specs.Renewal.{is_outside, hashed, Filters}
+use Rattle.amd_lists.specs.Spans.{span, sifted}
 use Rattle.amd_lists.proofs.Filtering.{filters_none, filters_no, open_no, open_yes, open_behind, hashed_none, hashed_no, hashed_yes}
 use Rattle.amd_lists.proofs.PlainSums.{first_fits, first_grows}
 use Rattle.amd_lists.proofs.Spans.{span_one, span_row}
@@ -18,11 +19,11 @@ use Rattle.amd_lists.proofs.renewal.keep_part.Goals.{then-writes, else-writes}
 pub loop-p-init : goal.loop-p-init
 loop-p-init g c = let e : c.args.part.from - c.args.part.from ≡ 0 = none_passed c.args.part.from in let fits = c.ranges.first.fits in
     let iw : List ℤ = c.args.iw.now in record {
-      filters = subst (λ l. Filters (length c.args.nv.now) (is_outside c.args.nv.now) (size_of c.args.nv.now) c.args.first iw
-          c.args.part.from
-          (c.args.part.from - c.args.part.from) c.args.part.to l c.args.part.to c.args.first) (sym (set-get_or iw c.args.part.to (pos 0)))
+      filters = subst (λ l. Filters (length c.args.nv.now) (is_outside c.args.nv.now) (size_of c.args.nv.now) c.args.first
+          (span iw c.args.part.from (c.args.part.from - c.args.part.from)) c.args.part.to (sifted l c.args.part.to c.args.first))
+          (sym (set-get_or iw c.args.part.to (pos 0)))
           (subst (λ m. Filters (length c.args.nv.now) (is_outside c.args.nv.now) (size_of c.args.nv.now)
-          c.args.first iw c.args.part.from m c.args.part.to iw c.args.part.to c.args.first) (sym e)
+          c.args.first (span iw c.args.part.from m) c.args.part.to (sifted iw c.args.part.to c.args.first)) (sym e)
           (filters_none (length c.args.nv.now) (is_outside c.args.nv.now) (size_of c.args.nv.now)
           c.args.first iw c.args.part.from c.args.part.to (omega (arith, fits))));
       behind = λ k l. refl;
@@ -124,9 +125,9 @@ returns g c = record {
   filters = (let t = c.loop-p-test.false in let after : c.args.part.from ≤ c.loop-p.p = c.loop-p.auto.p in
       let past : c.loop-p.p ≤ c.args.part.from + c.args.part.count = c.loop-p.auto.p-end (le-add_right _ _) in
       let all : c.loop-p.p - c.args.part.from ≡ c.args.part.count = all_passed _ _ _ after past t in
-      subst (λ m. Filters (length c.args.nv.now) (is_outside c.args.nv.now) (size_of c.args.nv.now) c.args.first c.args.iw.now
-      c.args.part.from m
-      c.args.part.to (set c.loop-p.iw c.loop-p.end (word c.args.iw.now c.loop-p.end)) c.loop-p.end c.loop-p.outside)
+      subst (λ m. Filters (length c.args.nv.now) (is_outside c.args.nv.now) (size_of c.args.nv.now) c.args.first
+      (span c.args.iw.now c.args.part.from m) c.args.part.to
+      (sifted (set c.loop-p.iw c.loop-p.end (word c.args.iw.now c.loop-p.end)) c.loop-p.end c.loop-p.outside))
       all c.loop-p.invariant.filters);
   hash_is = (let t = c.loop-p-test.false in let after : c.args.part.from ≤ c.loop-p.p = c.loop-p.auto.p in
       let past : c.loop-p.p ≤ c.args.part.from + c.args.part.count = c.loop-p.auto.p-end (le-add_right _ _) in

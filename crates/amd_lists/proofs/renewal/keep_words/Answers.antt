@@ -7,6 +7,7 @@ use Rattle.amd_model.specs.Figures.{cut}
 use Rattle.amd_words.specs.Words.{num, word, place, is_place, rows}
 use Rattle.amd_round_laws.proofs.Lists.Cuts.{cut_more}
 use Rattle.amd_lists.specs.Renewal.{is_kept, hashed, Filters}
+use Rattle.amd_lists.specs.Spans.{span, sifted}
 use Rattle.amd_lists.proofs.Filtering.{filters_none, open_no, open_yes, open_behind, hashed_none, hashed_no, hashed_yes}
 use Rattle.std.proofs.Common.{lt_of_lt_of_le, le_trans, le_of_eq, falls}
 use Rattle.amd_lists.proofs.PlainSums.{less_fits, sum_fits, sum_grows}
@@ -16,10 +17,10 @@ use Rattle.amd_lists.proofs.renewal.keep_words.Goals as goal
 
 pub loop-p-init : goal.loop-p-init
 loop-p-init g c = let e : c.args.from - c.args.from ≡ 0 = none_passed c.args.from in let iw : List ℤ = c.args.iw.now in record {
-  filters = subst (λ l. Filters (length c.args.w.now) (is_kept c.args.w.now) (λ e. num c.args.w.now e - c.args.less) 0 iw c.args.from
-      (c.args.from - c.args.from) c.args.from l c.args.from 0) (sym (set-get_or iw c.args.from (pos 0)))
+  filters = subst (λ l. Filters (length c.args.w.now) (is_kept c.args.w.now) (λ e. num c.args.w.now e - c.args.less) 0
+      (span iw c.args.from (c.args.from - c.args.from)) c.args.from (sifted l c.args.from 0)) (sym (set-get_or iw c.args.from (pos 0)))
       (subst (λ m. Filters (length c.args.w.now) (is_kept c.args.w.now) (λ e.
-      num c.args.w.now e - c.args.less) 0 iw c.args.from m c.args.from iw c.args.from 0) (sym e)
+      num c.args.w.now e - c.args.less) 0 (span iw c.args.from m) c.args.from (sifted iw c.args.from 0)) (sym e)
       (filters_none (length c.args.w.now) (is_kept c.args.w.now) (λ e.
       num c.args.w.now e - c.args.less) 0 iw c.args.from c.args.from (omega arith)));
   behind = λ k l. refl;
@@ -100,8 +101,9 @@ returns g c = record {
   filters = (let t = c.loop-p-test.false in let after : c.args.from ≤ c.loop-p.p = c.loop-p.auto.p in
       let past : c.loop-p.p ≤ c.args.from + c.args.count = c.loop-p.auto.p-end (le-add_right _ _) in
       let all : c.loop-p.p - c.args.from ≡ c.args.count = all_passed _ _ _ after past t in
-      subst (λ m. Filters (length c.args.w.now) (is_kept c.args.w.now) (λ e. num c.args.w.now e - c.args.less) 0 c.args.iw.now c.args.from m
-      c.args.from (set c.loop-p.iw c.loop-p.end (word c.args.iw.now c.loop-p.end)) c.loop-p.end c.loop-p.outside)
+      subst (λ m. Filters (length c.args.w.now) (is_kept c.args.w.now) (λ e. num c.args.w.now e - c.args.less) 0
+      (span c.args.iw.now c.args.from m)
+      c.args.from (sifted (set c.loop-p.iw c.loop-p.end (word c.args.iw.now c.loop-p.end)) c.loop-p.end c.loop-p.outside))
       all c.loop-p.invariant.filters);
   behind = (λ k l. c.loop-p.invariant.behind k (le_trans (c.loop-p.auto.p-end (le-add_right _ _)) l));
   hash_is = (let t = c.loop-p-test.false in let after : c.args.from ≤ c.loop-p.p = c.loop-p.auto.p in

@@ -1,6 +1,7 @@
 use Rattle.std.proofs.Common.{ℕ, ℤ, List, set, ◌≡◌, ◌+◌, ◌-◌, sym, ap, ◌∙◌, arith, subst, length, length-set, filter}
 use Rattle.amd_words.specs.Words.{num, size_of, rows, word, Names}
 use Rattle.amd_lists.specs.Renewal.{is_kept, is_outside, hashed, Filters}
+use Rattle.amd_lists.specs.Spans.{span, sifted}
 use Rattle.amd_lists.proofs.Renewing.{names_after, put_any, renew_fit, renews, renew_outside}
 use Rattle.amd_words.proofs.RowLists.{rows_same}
 use Rattle.amd_lists.proofs.Filtering.{hashed_both}
@@ -23,8 +24,9 @@ put_first-requires-clause-inside g c =
     let clean : List ℤ = set c.keep_variables-end.new.iw c.keep_variables-end.result.0
     (word c.keep_elements-middle.new.iw c.keep_variables-end.result.0) in
     let g = subst (λ m. Filters m (is_outside c.args.nv.now) (size_of c.args.nv.now)
-    c.keep_elements-middle.result.1 c.keep_elements-middle.new.iw (c.args.from + c.args.n_elements) (c.args.count - c.args.n_elements)
-    c.keep_elements-middle.result.0 clean c.keep_variables-end.result.0 c.keep_variables-end.result.1)
+    c.keep_elements-middle.result.1
+    (span c.keep_elements-middle.new.iw (c.args.from + c.args.n_elements) (c.args.count - c.args.n_elements))
+    c.keep_elements-middle.result.0 (sifted clean c.keep_variables-end.result.0 c.keep_variables-end.result.1))
     c.requires.lengths c.keep_variables-end.ensures.filters in
     lt_of_lt_of_le (renew_fit (length c.args.w.now) (is_kept c.args.w.now) (is_outside c.args.nv.now) (λ e.
     num c.args.w.now e - c.args.flag) (size_of c.args.nv.now)
@@ -39,8 +41,9 @@ returns g c = record {
   renews = (let clean : List ℤ = set c.keep_variables-end.new.iw c.keep_variables-end.result.0
       (word c.keep_elements-middle.new.iw c.keep_variables-end.result.0) in
       let g = subst (λ m. Filters m (is_outside c.args.nv.now) (size_of c.args.nv.now)
-      c.keep_elements-middle.result.1 c.keep_elements-middle.new.iw (c.args.from + c.args.n_elements) (c.args.count - c.args.n_elements)
-      c.keep_elements-middle.result.0 clean c.keep_variables-end.result.0 c.keep_variables-end.result.1)
+      c.keep_elements-middle.result.1
+      (span c.keep_elements-middle.new.iw (c.args.from + c.args.n_elements) (c.args.count - c.args.n_elements))
+      c.keep_elements-middle.result.0 (sifted clean c.keep_variables-end.result.0 c.keep_variables-end.result.1))
       c.requires.lengths c.keep_variables-end.ensures.filters in
       rw (
         c.put_first.ensures,
@@ -56,8 +59,9 @@ returns g c = record {
   outside = (let clean : List ℤ = set c.keep_variables-end.new.iw c.keep_variables-end.result.0
       (word c.keep_elements-middle.new.iw c.keep_variables-end.result.0) in
       let g = subst (λ m. Filters m (is_outside c.args.nv.now) (size_of c.args.nv.now)
-      c.keep_elements-middle.result.1 c.keep_elements-middle.new.iw (c.args.from + c.args.n_elements) (c.args.count - c.args.n_elements)
-      c.keep_elements-middle.result.0 clean c.keep_variables-end.result.0 c.keep_variables-end.result.1)
+      c.keep_elements-middle.result.1
+      (span c.keep_elements-middle.new.iw (c.args.from + c.args.n_elements) (c.args.count - c.args.n_elements))
+      c.keep_elements-middle.result.0 (sifted clean c.keep_variables-end.result.0 c.keep_variables-end.result.1))
       c.requires.lengths c.keep_variables-end.ensures.filters in
       renew_outside (length c.args.w.now) (is_kept c.args.w.now) (is_outside c.args.nv.now) (λ e.
       num c.args.w.now e - c.args.flag) (size_of c.args.nv.now)

@@ -13,6 +13,7 @@ use Rattle.amd_round_laws.proofs.Lists.Cuts.{cut_small}
 use Rattle.amd_words.specs.Words.{num, word, place, is_place, size_of, in_front, rows, Names}
 use Rattle.amd_lists.specs.Chains.{DegreeLists}
 use Rattle.amd_lists.specs.Renewal.{Filters}
+use Rattle.amd_lists.specs.Spans.{span, sifted}
 use Rattle.amd_lists.specs.Sizes.{bucket_count}
 use Rattle.amd_merging.specs.Merging.{bucket_of}
 use Rattle.amd_merging.specs.Restoring.{marked_in, bound_in, put_all, Restores}
@@ -35,7 +36,7 @@ use Rattle.amd_merging.proofs.restoring.restore.Goals.{then-is_marked, else-is_m
 
 -- the word that the loop is at stands as it was
 module _ {n m : ℕ} {pass : ℕ → Bool} {share : ℕ → ℕ} {iw iw' : List ℤ} {from count p end : ℕ} (names : Names n iw from count)
-    (after : from ≤ p) (l : p - from < count) (h : Filters m pass share 0 iw from (p - from) from iw' end 0) where
+    (after : from ≤ p) (l : p - from < count) (h : Filters m pass share 0 (span iw from (p - from)) from (sifted iw' end 0)) where
   word_same : word iw' p ≡ word iw (from + (p - from))
   word_same = let at : p ≡ from + (p - from) = sym (add-sub_of_le after) in let high = h.high in
       h.above p (omega (arith, high, at)) ∙ ap (word iw) at
@@ -48,11 +49,12 @@ module _ {n m : ℕ} {pass : ℕ → Bool} {share : ℕ → ℕ} {iw iw' : List 
 
 -- the parts of the invariant, of values that are equal to others
 filters_as : {n : ℕ} {pass : ℕ → Bool} {share : ℕ → ℕ} {iw : List ℤ} {from k k' : ℕ} {iw1 iw2 : List ℤ} {end1 end2 : ℕ} →
-    k' ≡ k → iw2 ≡ iw1 → end2 ≡ end1 → Filters n pass share 0 iw from k from iw1 end1 0 → Filters n pass share 0 iw from k' from iw2 end2 0
+    k' ≡ k → iw2 ≡ iw1 → end2 ≡ end1 → Filters n pass share 0 (span iw from k) from (sifted iw1 end1 0) →
+    Filters n pass share 0 (span iw from k') from (sifted iw2 end2 0)
 filters_as {n} {pass} {share} {iw} {from} {k} {k'} {iw1} {iw2} {end1} {end2} a b d h =
-    subst (λ q. Filters n pass share 0 iw from q from iw2 end2 0) (sym a)
-    (subst (λ q. Filters n pass share 0 iw from k from q end2 0) (sym b)
-    (subst (λ q. Filters n pass share 0 iw from k from iw1 q 0) (sym d) h))
+    subst (λ q. Filters n pass share 0 (span iw from q) from (sifted iw2 end2 0)) (sym a)
+    (subst (λ q. Filters n pass share 0 (span iw from k) from (sifted q end2 0)) (sym b)
+    (subst (λ q. Filters n pass share 0 (span iw from k) from (sifted iw1 q 0)) (sym d) h))
 
 restores_as : (iw : List ℤ) (from : ℕ) {border left least : ℕ} {nv : List ℤ} {degree : List ℕ} {k k' : ℕ} {nv1 nv2 : List ℤ}
     {degree1 degree2 : List ℕ} {low1 low2 : ℕ} → k' ≡ k → nv2 ≡ nv1 → degree2 ≡ degree1 → low2 ≡ low1 →
@@ -86,7 +88,7 @@ loop-p-init g c =
     let n : ℕ = length (nexts c.args.sides.now) in
     let e : from - from ≡ 0 = none_passed from in let none = marked_none nv iw from in record {
       lengths = c.requires.lengths;
-      filters = subst (λ m. Filters n (in_front nv) (λ j. 0) 0 iw from m from iw from 0) (sym e)
+      filters = subst (λ m. Filters n (in_front nv) (λ j. 0) 0 (span iw from m) from (sifted iw from 0)) (sym e)
           (filters_none n (in_front nv) (λ j. 0) 0 iw from from (omega arith));
       restores = record {
         sizes = λ j. refl;
@@ -321,10 +323,8 @@ returns g c = record {
   filters = (let t = c.loop-p-test.false in let after : c.args.front.now.from ≤ c.loop-p.p = c.loop-p.auto.p in
       let past : c.loop-p.p ≤ c.args.front.now.from + c.args.front.now.count = c.loop-p.auto.p-end (le-add_right _ _) in
       let all : c.loop-p.p - c.args.front.now.from ≡ c.args.front.now.count = all_passed _ _ _ after past t in
-      subst (λ m. Filters (length (nexts c.args.sides.now)) (in_front c.args.nv.now) (λ j. 0) 0 c.args.iw.now c.args.front.now.from m
-      c.args.front.now.from
-      c.loop-p.iw
-      c.loop-p.end 0) all c.loop-p.invariant.filters);
+      subst (λ m. Filters (length (nexts c.args.sides.now)) (in_front c.args.nv.now) (λ j. 0) 0 (span c.args.iw.now c.args.front.now.from m)
+      c.args.front.now.from (sifted c.loop-p.iw c.loop-p.end 0)) all c.loop-p.invariant.filters);
   placed = (let t = c.loop-p-test.false in let after : c.args.front.now.from ≤ c.loop-p.p = c.loop-p.auto.p in
       let past : c.loop-p.p ≤ c.args.front.now.from + c.args.front.now.count = c.loop-p.auto.p-end (le-add_right _ _) in
       let all : c.loop-p.p - c.args.front.now.from ≡ c.args.front.now.count = all_passed _ _ _ after past t in

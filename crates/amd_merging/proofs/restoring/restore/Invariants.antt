@@ -5,6 +5,7 @@ use Rattle.amd_model.specs.Quotient.{has}
 use Rattle.amd_words.specs.Words.{num, in_front, rows}
 use Rattle.amd_lists.specs.Chains.{DegreeLists}
 use Rattle.amd_lists.specs.Renewal.{Filters}
+use Rattle.amd_lists.specs.Spans.{span, sifted}
 use Rattle.amd_lists.specs.Sizes.{bucket_count}
 use Rattle.amd_merging.specs.Restoring.{marked_in, bound_in, put_all, Restores}
 use Rattle.amd_merging.proofs.FrontBack.{Emptying}
@@ -16,8 +17,8 @@ invariant-loop-p g l = record {
       × (length l.head ≡ length (nexts l.fn.sides))
       × (length (nexts l.sides) ≡ length (nexts l.fn.sides)) × (length (lasts l.sides) ≡ length (nexts l.fn.sides))
       × (length l.hash ≡ bucket_count (length (nexts l.fn.sides)));
-  filters : Filters (length (nexts l.fn.sides)) (in_front l.fn.nv) (λ j. 0) 0 l.fn.iw l.front.from (l.p - l.front.from) l.front.from l.iw
-      l.end 0;
+  filters : Filters (length (nexts l.fn.sides)) (in_front l.fn.nv) (λ j. 0) 0 (span l.fn.iw l.front.from (l.p - l.front.from))
+      l.front.from (sifted l.iw l.end 0);
   restores : Restores (rows l.fn.iw l.front.from (l.p - l.front.from)) l.front.border l.front.left l.least l.fn.nv l.fn.degree l.nv l.degree
       l.low;
   lasts_kept : (x : ℕ) → has (rows l.fn.iw l.front.from l.front.count) x ≡ true →

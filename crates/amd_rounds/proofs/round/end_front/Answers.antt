@@ -10,6 +10,7 @@ use Rattle.amd_merging.specs.Closing.{Closes}
 use Rattle.amd_merging.specs.Premises.{CanRestore}
 use Rattle.amd_merging.specs.Effects.{RestoresFront}
 use Rattle.amd_lists.specs.Renewal.{Filters}
+use Rattle.amd_lists.specs.Spans.{span, sifted}
 use Rattle.amd_lists.specs.Sizes.{bucket_count}
 use Rattle.amd_merging.specs.Restoring.{marked_in, bound_in, put_all, IsPlaceable}
 use Rattle.amd_rounds.specs.Parts.{front_at}
@@ -34,10 +35,10 @@ returns g c =
     let e_len' : List ℤ = c.close.new.e_len in let len' : List ℕ = c.close.new.len in
     let mid_len : List ℕ = c.list_lent-from.new.len in let mid_pe : List ℤ = c.list_lent-from.new.pe in
     let same_len : mid_len ≡ len = same.1 in let same_pe : mid_pe ≡ pe = same.0 in
-    let filters : Filters n (in_front nv) (λ j. 0) 0 iw from (num mid_len me) from v.iw end 0 =
-    subst (λ l. Filters n (in_front nv) (λ j. 0) 0 iw from (num l me) from v.iw end 0) (sym same_len)
-    (subst (λ k. Filters k (in_front nv) (λ j. 0) 0 iw from (num len me) from v.iw end 0) s.next
-    (subst (λ f. Filters (length (nexts p.sides.now)) (in_front nv) (λ j. 0) 0 iw f (num len me) f v.iw end 0) (sym from_is)
+    let filters : Filters n (in_front nv) (λ j. 0) 0 (span iw from (num mid_len me)) from (sifted v.iw end 0) =
+    subst (λ l. Filters n (in_front nv) (λ j. 0) 0 (span iw from (num l me)) from (sifted v.iw end 0)) (sym same_len)
+    (subst (λ k. Filters k (in_front nv) (λ j. 0) 0 (span iw from (num len me)) from (sifted v.iw end 0)) s.next
+    (subst (λ f. Filters (length (nexts p.sides.now)) (in_front nv) (λ j. 0) 0 (span iw f (num len me)) f (sifted v.iw end 0)) (sym from_is)
     told.filters)) in
     let closes : Closes n me (in_front nv) free (lists_of iw pe e_len len) (lists_of v.iw pe e_len' len') =
     subst (λ l. Closes n me (in_front nv) free (lists_of iw pe e_len l) (lists_of v.iw pe e_len' len')) same_len
