@@ -5,6 +5,7 @@ use Rattle.amd_words.specs.Words.{num, is_place, place, word, start, rows, flip_
 use Rattle.amd_lists.specs.Renewal.{Filters}
 use Rattle.amd_lists.specs.Spans.{span, sifted}
 use Rattle.amd_lists.specs.Layout.{has_list, end_of, Layout}
+use Rattle.amd_merging.specs.Classes.{lists_of}
 use Rattle.amd_merging.specs.Closing.{Closes}
 use Rattle.amd_words.proofs.Signs.{mark_none}
 use Rattle.amd_lists.proofs.Frames.{edited, edited_fewer, edited_reads, lowered_last}
@@ -13,7 +14,8 @@ pub closes : {n : ℕ} {pass : ℕ → Bool} {share : ℕ → ℕ} {first sum : 
     (pe e_len : List ℤ) (len : List ℕ) → me < length e_len → me < length len → is_place (word pe me) ≡ true →
     Filters n pass share first (span iw (start pe me) (num len me)) (start pe me) (sifted iw' end sum) →
     Layout n iw pe e_len len free →
-    Closes n me pass iw pe e_len len iw' (set e_len me (flip_of last)) (set len me (end - start pe me)) free
+    Closes n me pass free (lists_of iw pe e_len len)
+    (lists_of iw' pe (set e_len me (flip_of last)) (set len me (end - start pe me)))
 closes {n} {pass} {share} {first} {sum} {iw} {iw'} {end} {free} me last pe e_len len small_e small_l at f y =
     let len' : List ℕ = set len me (end - start pe me) in let e_len' : List ℤ = set e_len me (flip_of last) in
     let low = f.low in let high = f.high in

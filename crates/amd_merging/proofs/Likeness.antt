@@ -12,6 +12,7 @@ use Rattle.amd_words.specs.Words.{num, start, place, word, rows}
 use Rattle.amd_round_laws.proofs.Lists.Same.{same_sum, same_length, fills}
 use Rattle.amd_round_laws.specs.Rounds.{alike_in}
 use Rattle.amd_round_laws.proofs.Merging.Representatives.{alike_gives, alike_from}
+use Rattle.amd_merging.specs.Classes.{lists_of}
 use Rattle.amd_merging.specs.Merging.{kept_of, words_of, IsRenewed, AreApart, looks}
 use Rattle.amd_lists.specs.Layout.{variables_in}
 use Rattle.amd_lists.specs.Renewal.{key_of}
@@ -112,7 +113,7 @@ module _ (n : ℕ) (iw pe e_len : List ℤ) (len : List ℕ) where
     -- with the words of i marked, the test says whether j is alike
     pub looks_alike : (w w0 : List ℕ) (flag : ℕ) → AreApart iw pe e_len len i j → ((x : ℕ) → num w0 x < flag) →
         ((x : ℕ) → num w x ≡ cond (has (words_of iw pe len i) x) flag (num w0 x)) →
-        looks iw pe e_len len w (num len i) (place (word e_len i)) flag j ≡ alike_in es vs i j
+        looks (lists_of iw pe e_len len) w (num len i) (place (word e_len i)) flag j ≡ alike_in es vs i j
     looks_alike w w0 flag apart under marked =
         let wi : List ℕ = words_of iw pe len i in let wj : List ℕ = words_of iw pe len j in
         let lens : Bool = num len j == num len i in let fews : Bool = place (word e_len j) == place (word e_len i) in

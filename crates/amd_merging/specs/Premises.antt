@@ -9,10 +9,12 @@ use Rattle.amd_words.specs.Words.{num, word, is_place, size_of, in_front, classe
 use Rattle.amd_lists.specs.Chains.{Chain}
 use Rattle.amd_lists.specs.Layout.{variables_in}
 use Rattle.amd_lists.specs.Lengths.{row_count}
+use Rattle.amd_merging.specs.Classes.{Lists, Classes, Placing, Numbers}
 use Rattle.amd_merging.specs.FrontLists.{IsList, LongToMerge, LongToPlace, AreHeads, CanPlace, HasListsByBound}
 use Rattle.amd_lists.specs.Sizes.{bucket_count}
 use Rattle.amd_merging.specs.Merging.{bucket, kept_of, IsRenewed, AreApart, AreRenewed, IsReady}
 use Rattle.amd_merging.specs.Restoring.{marked_in, IsPlaceable}
+use Rattle.amd_merging.specs.declared.restoring.Front.{Front}
 
 -- rows are small enough to merge: for sizes, for links, and for cells
 abbrev pub AreSmallToMerge : ℕ → ℕ → ℕ → ℕ → Type 0
@@ -30,20 +32,19 @@ pub record CanCompare (i : ℕ) (e_len : List ℤ) (len : List ℕ) (sides : Lis
   pub here : (i < row_count sides) × (is_place (word e_len i) ≡ true)
 
 -- the links from head on lead through classes whose lists were renewed
-pub record CanWalk (iw pe e_len : List ℤ) (len w : List ℕ) (sides : List (ℕ × ℕ)) (head : ℕ) : Type 0 where
-  pub lengths : (length pe ≡ length w) × (length e_len ≡ length w) × (length len ≡ length w) ×
+pub record CanWalk (p : Lists) (w : List ℕ) (sides : List (ℕ × ℕ)) (head : ℕ) : Type 0 where
+  pub lengths : (length p.pe ≡ length w) × (length p.e_len ≡ length w) × (length p.len ≡ length w) ×
       (row_count sides ≡ length w)
   pub chain : Chain (row_count sides) (nexts sides) head (bucket (nexts sides) head)
-  pub members : (j : ℕ) → has (bucket (nexts sides) head) j ≡ true → IsRenewed (length w) iw pe e_len len j
+  pub members : (j : ℕ) → has (bucket (nexts sides) head) j ≡ true → IsRenewed (length w) p.iw p.pe p.e_len p.len j
 
 -- so they do, and the class i can be compared with each of these: those that are alike have its key
-pub record CanFind (most_cell flag i : ℕ) (iw pe e_len : List ℤ) (len w : List ℕ) (sides : List (ℕ × ℕ)) (head : ℕ)
-    : Type 0 where
-  pub walk : CanWalk iw pe e_len len w sides head
-  pub here : IsRenewed (length w) iw pe e_len len i
-  pub apart : (j : ℕ) → has (bucket (nexts sides) head) j ≡ true → AreApart iw pe e_len len i j
+pub record CanFind (most_cell flag i : ℕ) (p : Lists) (w : List ℕ) (sides : List (ℕ × ℕ)) (head : ℕ) : Type 0 where
+  pub walk : CanWalk p w sides head
+  pub here : IsRenewed (length w) p.iw p.pe p.e_len p.len i
+  pub apart : (j : ℕ) → has (bucket (nexts sides) head) j ≡ true → AreApart p.iw p.pe p.e_len p.len i j
   pub keys : (j : ℕ) → has (bucket (nexts sides) head) j ≡ true →
-      alike_in (kept_of iw pe e_len) (variables_in iw pe e_len len) i j ≡ true →
+      alike_in (kept_of p.iw p.pe p.e_len) (variables_in p.iw p.pe p.e_len p.len) i j ≡ true →
       num (lasts sides) j ≡ num (lasts sides) i
   pub under : (x : ℕ) → num w x < flag
   pub fits : flag ≤ most_cell
@@ -67,52 +68,47 @@ pub record CanPush (most_cell i key : ℕ) (hash : List ℕ) (sides : List (ℕ 
   pub short : row_count sides ≤ most_cell
 
 -- the class i can be looked for in its bucket, and merged or put there
-pub record CanMergeOne (most_word most_place most_cell count i flag : ℕ) (iw pe e_len nv : List ℤ) (len w hash : List ℕ)
-    (sides : List (ℕ × ℕ)) : Type 0 where
-  pub lengths : LongToMerge (row_count sides) pe e_len nv len w hash (nexts sides) (lasts sides)
-  pub short : AreSmallToMerge most_word most_place most_cell (row_count sides)
-  pub ready : IsReady (row_count sides) iw len (lasts sides) count i pe e_len nv w hash (nexts sides)
-  pub under : (x : ℕ) → num w x < flag
+pub record CanMergeOne (most_word most_place most_cell count i flag : ℕ) (p : Classes) : Type 0 where
+  pub lengths : LongToMerge (length p.next) p
+  pub short : AreSmallToMerge most_word most_place most_cell (length p.next)
+  pub ready : IsReady (length p.next) count i p
+  pub under : (x : ℕ) → num p.w x < flag
   pub room : flag + 1 ≤ most_cell
 
 -- so can each class of a front, whose list stands in count words; buckets are empty
-pub record CanMergeFront (most_word most_place most_cell from count flag : ℕ) (iw pe e_len nv : List ℤ) (len w hash : List ℕ)
-    (sides : List (ℕ × ℕ)) : Type 0 where
-  pub lengths : LongToMerge (row_count sides) pe e_len nv len w hash (nexts sides) (lasts sides)
-  pub short : AreSmallToMerge most_word most_place most_cell (row_count sides)
-  pub front : IsList (row_count sides) iw from count
-  pub few : count ≤ row_count sides
-  pub classes_are : AreRenewed (row_count sides) iw pe e_len len nv w (lasts sides) (classes nv (rows iw from count))
-  pub under : (x : ℕ) → num w x < flag
+pub record CanMergeFront (most_word most_place most_cell from count flag : ℕ) (p : Classes) : Type 0 where
+  pub lengths : LongToMerge (length p.next) p
+  pub short : AreSmallToMerge most_word most_place most_cell (length p.next)
+  pub front : IsList (length p.next) p.iw from count
+  pub few : count ≤ length p.next
+  pub classes_are : AreRenewed (length p.next) p (classes p.nv (rows p.iw from count))
+  pub under : (x : ℕ) → num p.w x < flag
   pub room : flag + count ≤ most_cell
-  pub empty : (b : ℕ) → b < bucket_count (row_count sides) → row_count sides ≤ num hash b
+  pub empty : (b : ℕ) → b < bucket_count (length p.next) → length p.next ≤ num p.hash b
 
 -- the class i can be placed by its new bound
-pub record CanPlaceClass (most_word most_cell border left i : ℕ) (nv : List ℤ) (degree head hash : List ℕ)
-    (sides : List (ℕ × ℕ)) : Type 0 where
-  pub lengths : (length nv ≡ row_count sides) × (length degree ≡ row_count sides) × (length head ≡ row_count sides) ×
-      (length hash ≡ bucket_count (row_count sides))
-  pub short : AreSmallToPlace most_word most_cell (row_count sides)
-  pub row : i < row_count sides
-  pub marked : in_front nv i ≡ true
-  pub class : IsPlaceable (row_count sides) border nv degree (lasts sides) i
-  pub order : (border ≤ left) × (left ≤ row_count sides)
+pub record CanPlaceClass (most_word most_cell : ℕ) (front : Front) (i : ℕ) (p : Placing) : Type 0 where
+  pub lengths : (length p.nv ≡ length p.next) × (length p.degree ≡ length p.next) × (length p.head ≡ length p.next) ×
+      (length p.hash ≡ bucket_count (length p.next))
+  pub short : AreSmallToPlace most_word most_cell (length p.next)
+  pub row : i < length p.next
+  pub marked : in_front p.nv i ≡ true
+  pub class : IsPlaceable (length p.next) front.border p.nv p.degree p.last i
+  pub order : (front.border ≤ front.left) × (front.left ≤ length p.next)
 
--- so can each class that is left of a front, whose list stands in count words
-pub record CanRestore (most_word most_cell border left from count : ℕ) (iw nv : List ℤ) (degree head hash : List ℕ)
-    (sides : List (ℕ × ℕ)) : Type 0 where
-  pub lengths : LongToPlace (row_count sides) nv degree head (nexts sides) (lasts sides) hash
-  pub short : AreSmallToPlace most_word most_cell (row_count sides)
-  pub front : IsList (row_count sides) iw from count
-  pub classes_are : CanPlace (row_count sides) border nv degree (lasts sides) (rows iw from count)
-  pub order : (border ≤ left) × (left ≤ row_count sides)
-  pub heads : AreHeads (row_count sides) count (marked_in nv (rows iw from count)) hash (lasts sides)
-  pub linked : HasListsByBound (row_count sides) (rows iw from count) head (nexts sides) (lasts sides) degree
+-- so can each class that is left of a front
+pub record CanRestore (most_word most_cell : ℕ) (front : Front) (iw : List ℤ) (p : Placing) : Type 0 where
+  pub lengths : LongToPlace (length p.next) p
+  pub short : AreSmallToPlace most_word most_cell (length p.next)
+  pub front_is : IsList (length p.next) iw front.from front.count
+  pub classes_are : CanPlace (length p.next) front.border p.nv p.degree p.last (rows iw front.from front.count)
+  pub order : (front.border ≤ front.left) × (front.left ≤ length p.next)
+  pub heads : AreHeads (length p.next) front.count (marked_in p.nv (rows iw front.from front.count)) p.hash p.last
+  pub linked : HasListsByBound (length p.next) (rows iw front.from front.count) p.head p.next p.last p.degree
 
 -- the list of the element me can be closed from one place to another, with the rows of its block and its border
-pub record CanClose (most_place most_cell me from end block border : ℕ) (e_len : List ℤ) (len degree : List ℕ) : Type 0
-  where
-    pub row : (me < length e_len) × (me < length len) × (me < length degree)
-    pub order : from ≤ end
-    pub few : block + border + 2 ≤ most_place
-    pub fits : (end - from ≤ most_cell) × (border ≤ most_cell)
+pub record CanClose (most_place most_cell me from end block border : ℕ) (p : Numbers) : Type 0 where
+  pub row : (me < length p.e_len) × (me < length p.len) × (me < length p.degree)
+  pub order : from ≤ end
+  pub few : block + border + 2 ≤ most_place
+  pub fits : (end - from ≤ most_cell) × (border ≤ most_cell)

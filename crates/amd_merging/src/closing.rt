@@ -1,6 +1,7 @@
 // The closing of an element: its list has lost the rows that are no longer classes, and its length, its rows and the
 // rows of its border are written. Source: Amestoy, Davis and Duff 1996 (the arrays of the quotient graph).
 
+ghost use Rattle.amd_merging.specs.Classes.{numbers_of};
 ghost use Rattle.amd_merging.specs.Effects.{ClosesElement};
 ghost use Rattle.amd_merging.specs.Premises.{CanClose};
 
@@ -20,8 +21,9 @@ pub fn close<P: Signed, U: Unsigned>(
     block: usize,
     border: usize,
 )
-    requires { CanClose P.MOST U.MOST me from end block border e_len.old len.old degree.old }
-    ensures { ClosesElement me from end block border e_len.old len.old degree.old e_len.new len.new degree.new }
+    requires { CanClose P.MOST U.MOST me from end block border (numbers_of e_len.old len.old degree.old) }
+    ensures { ClosesElement me from end block border (numbers_of e_len.old len.old degree.old)
+        (numbers_of e_len.new len.new degree.new) }
 {
     put_flip(e_len, me, block + border);
     put_cell(len, me, end - from);

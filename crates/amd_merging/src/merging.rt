@@ -11,6 +11,8 @@ ghost use Rattle.amd_words.specs.Words.{flip_of, is_place, num, rows, size_of, w
 ghost use Rattle.amd_lists.specs.Chains.{Chain};
 ghost use Rattle.amd_lists.specs.Lengths.{row_count};
 ghost use Rattle.amd_lists.specs.Spans.{IsSpan};
+ghost use Rattle.amd_merging.specs.Classes.{classes_of};
+ghost use Rattle.amd_merging.specs.Reading.{lists_read};
 ghost use Rattle.amd_merging.specs.Effects.{AddsInside, FindsAlike, MergesClasses, MergesOne};
 ghost use Rattle.amd_merging.specs.Merging.{Finds, HasNone, HasSome, IsRenewed, as_long, bucket, bucket_of};
 ghost use Rattle.amd_merging.specs.Merging.{is_near, looks};
@@ -133,36 +135,44 @@ fn is_compared<P: Signed, U: Unsigned>(
     any_as_long(e_len, len, sides, head, key, count, few)
 }
 
+/// The lists of classes, to be read.
+#[derive(Drop)]
+struct Read<'a, S: Signed, P: Signed, U: Unsigned> {
+    /// All lists.
+    iw: &'a [Word<S>],
+    /// Where the list of each class starts.
+    pe: &'a [Word<P>],
+    /// The number of elements that each class lists.
+    e_len: &'a [Word<P>],
+    /// The number of words of each list.
+    len: &'a [Cell<U>],
+}
+
 /// Whether a class has so many words and elements, and each of its words is marked.
 fn is_like<S: Signed, P: Signed, U: Unsigned>(
-    iw: &[Word<S>],
-    pe: &[Word<P>],
-    e_len: &[Word<P>],
-    len: &[Cell<U>],
+    lists: &Read<'_, S, P, U>,
     w: &[Cell<U>],
     j: usize,
     count: usize,
     few: usize,
     flag: usize,
 ) -> bool
-    requires lengths { (length pe.now ≡ length w.now) × (length e_len.now ≡ length w.now) ×
-        (length len.now ≡ length w.now) }
-    requires renewed { IsRenewed (length w.now) iw.now pe.now e_len.now len.now j }
-    ensures { result ≡ looks iw.now pe.now e_len.now len.now w.now count few flag j }
+    requires lengths { (length lists.now.pe.now ≡ length w.now) × (length lists.now.e_len.now ≡ length w.now) ×
+        (length lists.now.len.now ≡ length w.now) }
+    requires renewed { IsRenewed (length w.now) lists.now.iw.now lists.now.pe.now lists.now.e_len.now lists.now.len.now
+        j }
+    ensures { result ≡ looks (lists_read lists.now) w.now count few flag j }
 {
-    if !is_as_long(e_len, len, j, count, few) {
+    if !is_as_long(lists.e_len, lists.len, j, count, few) {
         return false;
     }
-    let from = named(pe, j);
-    all_marked(iw, w, from + 1, count - 1, flag)
+    let from = named(lists.pe, j);
+    all_marked(lists.iw, w, from + 1, count - 1, flag)
 }
 
 /// The first class of a bucket with so many words and elements whose words are all marked, or the number of rows.
 fn walk<S: Signed, P: Signed, U: Unsigned>(
-    iw: &[Word<S>],
-    pe: &[Word<P>],
-    e_len: &[Word<P>],
-    len: &[Cell<U>],
+    lists: &Read<'_, S, P, U>,
     w: &[Cell<U>],
     sides: &[Sides<U>],
     head: usize,
@@ -170,14 +180,14 @@ fn walk<S: Signed, P: Signed, U: Unsigned>(
     few: usize,
     flag: usize,
 ) -> usize
-    requires { CanWalk iw.now pe.now e_len.now len.now w.now sides.now head }
-    ensures { Finds (row_count sides.now) (looks iw.now pe.now e_len.now len.now w.now count few flag)
+    requires { CanWalk (lists_read lists.now) w.now sides.now head }
+    ensures { Finds (row_count sides.now) (looks (lists_read lists.now) w.now count few flag)
         (bucket (nexts sides.now) head) result }
 {
     let n = row_count(sides);
     let mut j = head;
     'members: while j < n {
-        if is_like(iw, pe, e_len, len, w, j, count, few, flag) {
+        if is_like(lists, w, j, count, few, flag) {
             return j;
         }
         j = next_at(sides, j);
@@ -188,24 +198,21 @@ fn walk<S: Signed, P: Signed, U: Unsigned>(
 /// The class of a bucket that keeps the same elements and variables as the class `i`, or the number of rows if there is
 /// none. The words of `i` are marked with the flag.
 fn find<S: Signed, P: Signed, U: Unsigned>(
-    iw: &[Word<S>],
-    pe: &[Word<P>],
-    e_len: &[Word<P>],
-    len: &[Cell<U>],
+    lists: &Read<'_, S, P, U>,
     w: &mut [Cell<U>],
     sides: &[Sides<U>],
     head: usize,
     i: usize,
     flag: usize,
 ) -> usize
-    requires { CanFind U.MOST flag i iw.now pe.now e_len.now len.now w.old sides.now head }
-    ensures { FindsAlike flag i head iw.now pe.now e_len.now len.now w.old sides.now w.new result }
+    requires { CanFind U.MOST flag i (lists_read lists.now) w.old sides.now head }
+    ensures { FindsAlike flag i head (lists_read lists.now) w.old sides.now w.new result }
 {
-    let few = named(e_len, i);
-    let count = cell_at(len, i);
-    let from = named(pe, i);
-    spread(iw, w, from + 1, count - 1, flag);
-    walk(iw, pe, e_len, len, w, sides, head, count, few, flag)
+    let few = named(lists.e_len, i);
+    let count = cell_at(lists.len, i);
+    let from = named(lists.pe, i);
+    spread(lists.iw, w, from + 1, count - 1, flag);
+    walk(lists, w, sides, head, count, few, flag)
 }
 
 /// Adds the rows of a class of the front to those of another one, and leaves it none.
@@ -263,10 +270,10 @@ fn merge_one<S: Signed, P: Signed, U: Unsigned>(
     i: usize,
     flag: usize,
 ) -> usize
-    requires { CanMergeOne S.MOST P.MOST U.MOST count i flag iw.now pe.old e_len.old nv.old len.now w.old hash.old
-        sides.old }
-    ensures { MergesOne count i flag iw.now pe.old e_len.old nv.old len.now w.old hash.old sides.old pe.new e_len.new
-        nv.new w.new hash.new sides.new result }
+    requires { CanMergeOne S.MOST P.MOST U.MOST count i flag
+        (classes_of iw.now pe.old e_len.old nv.old len.now w.old hash.old sides.old) }
+    ensures { MergesOne count i flag (classes_of iw.now pe.old e_len.old nv.old len.now w.old hash.old sides.old)
+        (classes_of iw.now pe.new e_len.new nv.new len.now w.new hash.new sides.new) result }
 {
     let key = bucket_at(sides, i, count);
     let head = cell_at(hash, key);
@@ -274,7 +281,8 @@ fn merge_one<S: Signed, P: Signed, U: Unsigned>(
         push(hash, sides, i, key);
         return flag;
     }
-    let found = find(iw, pe, e_len, len, w, sides, head, i, flag);
+    let lists = Read { iw, pe, e_len, len };
+    let found = find(&lists, w, sides, head, i, flag);
     if found < row_count(sides) {
         merge(pe, e_len, nv, i, found);
     } else {
@@ -308,10 +316,11 @@ pub fn merge_front<S: Signed, P: Signed, U: Unsigned>(
     count: usize,
     flag: usize,
 ) -> usize
-    requires { CanMergeFront S.MOST P.MOST U.MOST from count flag iw.old pe.old e_len.old nv.old len.old w.old hash.old
-        sides.old }
-    ensures merges { MergesClasses from count flag iw.old pe.old e_len.old nv.old len.old w.old sides.old pe.new
-        e_len.new nv.new w.new hash.new sides.new result }
+    requires { CanMergeFront S.MOST P.MOST U.MOST from count flag
+        (classes_of iw.old pe.old e_len.old nv.old len.old w.old hash.old sides.old) }
+    ensures merges { MergesClasses from count flag
+        (classes_of iw.old pe.old e_len.old nv.old len.old w.old hash.old sides.old)
+        (classes_of iw.new pe.new e_len.new nv.new len.new w.new hash.new sides.new) result }
     ensures same { (iw.new ≡ iw.old) × (len.new ≡ len.old) }
 {
     if count < 2 {

@@ -6,6 +6,7 @@ ghost use Rattle.std.specs.Prelude.{◌+◌, ◌-◌, ◌<◌, ◌^◌, ◌≡�
 ghost use Rattle.amd_words.specs.Sides.{lasts};
 ghost use Rattle.amd_words.specs.Words.{num};
 ghost use Rattle.amd_lists.specs.Lengths.{row_count};
+ghost use Rattle.amd_merging.specs.Classes.{placing_of};
 ghost use Rattle.amd_merging.specs.Effects.{PlacesClass, RestoresFront};
 ghost use Rattle.amd_lists.specs.Sizes.{bucket_count};
 ghost use Rattle.amd_merging.specs.Merging.{bucket_of};
@@ -16,6 +17,19 @@ use amd_lists::chains::put_head;
 use amd_words::sides::{Sides, row_count};
 use amd_words::words::{is_marked, leave, named};
 use amd_words::{Cell, Signed, Unsigned, Word, cell_at, copy_word, put_cell};
+
+/// A front whose classes are placed.
+#[derive(Drop)]
+pub struct Front {
+    /// Where its list starts.
+    pub from: usize,
+    /// The number of words of its list.
+    pub count: usize,
+    /// The number of rows of its classes.
+    pub border: usize,
+    /// The number of all rows that are left.
+    pub left: usize,
+}
 
 /// The bound of a class of `size` rows, from the number of rows that it reaches outside the front, the rows of the
 /// border, and the rows that are left.
@@ -41,34 +55,31 @@ fn empty_bucket<U: Unsigned>(hash: &mut [Cell<U>], sides: &[Sides<U>], i: usize,
     }
 }
 
-/// Takes the mark off a class of a front whose list has `count` words, empties its bucket if buckets are used, and puts
-/// it at the head of the list of its new bound. Returns that bound.
+/// Takes the mark off a class of a front, empties its bucket if buckets are used, and puts it at the head of the list
+/// of its new bound. Returns that bound.
 fn place_class<S: Signed, U: Unsigned>(
     nv: &mut [Word<S>],
     degree: &mut [Cell<U>],
     head: &mut [Cell<U>],
     sides: &mut [Sides<U>],
     hash: &mut [Cell<U>],
+    front: &Front,
     i: usize,
-    border: usize,
-    left: usize,
-    count: usize,
 ) -> usize
-    requires { CanPlaceClass S.MOST U.MOST border left i nv.old degree.old head.old hash.old sides.old }
-    ensures { PlacesClass border left count i nv.old degree.old head.old hash.old sides.old nv.new degree.new head.new
-        hash.new sides.new result }
+    requires { CanPlaceClass S.MOST U.MOST front.now i (placing_of nv.old degree.old head.old sides.old hash.old) }
+    ensures { PlacesClass front.now i (placing_of nv.old degree.old head.old sides.old hash.old)
+        (placing_of nv.new degree.new head.new sides.new hash.new) result }
 {
     let size = leave(nv, i);
-    empty_bucket(hash, sides, i, count);
-    let bound = new_bound(cell_at(degree, i), size, border, left);
+    empty_bucket(hash, sides, i, front.count);
+    let bound = new_bound(cell_at(degree, i), size, front.border, front.left);
     put_head(head, sides, degree, i, bound);
     bound
 }
 
-/// Restores the classes that are left of a front, whose list stands in `count` words from `from` on: each is marked no
-/// more, has its bound in the lists by bound, and its bucket is empty, which it is before where the list names one row
-/// at most. The classes are kept in these words, in their order. `border` is their number of rows, and `left` that of
-/// all rows that are left. Returns where the classes end, and the least of `least` and their bounds.
+/// Restores the classes that are left of a front: each is marked no more, has its bound in the lists by bound, and its
+/// bucket is empty, which it is before where the list of the front names one row at most. The classes are kept in the
+/// words of that list, in their order. Returns where they end, and the least of `least` and their bounds.
 pub fn restore<S: Signed, U: Unsigned>(
     iw: &mut [Word<S>],
     nv: &mut [Word<S>],
@@ -76,22 +87,19 @@ pub fn restore<S: Signed, U: Unsigned>(
     head: &mut [Cell<U>],
     sides: &mut [Sides<U>],
     hash: &mut [Cell<U>],
-    from: usize,
-    count: usize,
-    border: usize,
-    left: usize,
+    front: &Front,
     least: usize,
 ) -> (usize, usize)
-    requires { CanRestore S.MOST U.MOST border left from count iw.old nv.old degree.old head.old hash.old sides.old }
-    ensures { RestoresFront border left least from count iw.old nv.old degree.old head.old sides.old iw.new nv.new
-        degree.new head.new hash.new sides.new result.0 result.1 }
+    requires { CanRestore S.MOST U.MOST front.now iw.old (placing_of nv.old degree.old head.old sides.old hash.old) }
+    ensures { RestoresFront front.now least iw.old (placing_of nv.old degree.old head.old sides.old hash.old) iw.new
+        (placing_of nv.new degree.new head.new sides.new hash.new) result.0 result.1 }
 {
-    let mut end = from;
+    let mut end = front.from;
     let mut low = least;
-    for p in from..from + count {
+    for p in front.from..front.from + front.count {
         let i = named(iw, p);
         if is_marked(nv, i) {
-            let bound = place_class(nv, degree, head, sides, hash, i, border, left, count);
+            let bound = place_class(nv, degree, head, sides, hash, front, i);
             low = low.min(bound);
             copy_word(iw, p, end);
             end += 1;

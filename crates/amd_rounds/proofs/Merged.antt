@@ -14,6 +14,7 @@ use Rattle.amd_model.proofs.Quotient.Lists.{has_turned}
 use Rattle.amd_round_laws.proofs.Lists.Named.{filter_named}
 use Rattle.amd_round_laws.specs.Rounds.{alike_in}
 use Rattle.amd_words.specs.Words.{num, word, place, size_of, in_front, rows_in, is_negative, classes, rows}
+use Rattle.amd_merging.specs.Classes.{classes_in}
 use Rattle.amd_merging.specs.Merging.{kept_of, represents_in}
 use Rattle.amd_lists.specs.Layout.{variables_in}
 use Rattle.amd_merging.specs.Restoring.{marked_in}
@@ -101,7 +102,7 @@ module _ {g : Graph} {dense : ℕ → Bool} {nzaat : ℕ} {aggressive : Bool} {p
 
   made_marked : (x : ℕ) → has (front_at r.p3 r.c) x ≡ true → 0 < size_of p4.nv x → in_front p4.nv x ≡ true
   made_marked x h l =
-      let k = made_gives (front_at r.p3 r.c) into r.p3.pe r.p3.e_len r.p3.nv r.p3.next p4.pe p4.e_len p4.nv p4.next merges.merged x
+      let k = made_gives (front_at r.p3 r.c) into (classes_in r.p3) (classes_in p4) merges.merged x
       (filter_has (λ j. nat_lt 0 (size_of p4.nv j)) (front_at r.p3 r.c) x h (lt-ltb 0 (size_of p4.nv x) l)) in
       merges.merged.front x
       ∙ cond-false (has rest x && not (into x == x)) false (in_front r.p3.nv x)

@@ -4,6 +4,7 @@ use Rattle.std.specs.Prelude.{◌==◌}
 use Rattle.std.proofs.lemmas.Bool.{cases_eq, eq-eqb, eqb-true}
 use Rattle.amd_words.specs.Words.{num, word, place}
 use Rattle.amd_lists.specs.Layout.{has_list, Layout}
+use Rattle.amd_merging.specs.Classes.{Classes}
 use Rattle.amd_merging.specs.Merging.{AreRenewed}
 
 -- a layout asks of the counts of elements that they are parts of their lists alone
@@ -12,10 +13,9 @@ pub recounted : {n : ℕ} {iw pe e_len : List ℤ} {len : List ℕ} {free : ℕ}
 recounted e_len' y parts = record { within = y.within; apart = y.apart; parts = parts; words = y.words }
 
 -- what is asked of counters that stay 0 for the same rows
-pub renewed_zeros : {n : ℕ} {iw pe e_len : List ℤ} {len : List ℕ} {nv : List ℤ} {w w' last rest : List ℕ} →
-    ((x : ℕ) → (num w' x == 0) ≡ (num w x == 0)) → AreRenewed n iw pe e_len len nv w last rest →
-    AreRenewed n iw pe e_len len nv w' last rest
-renewed_zeros {n} {iw} {pe} {e_len} {len} {nv} {w} {w'} {last} {rest} zeros h = record {
+pub renewed_zeros : {n : ℕ} {p : Classes} {w rest : List ℕ} → ((x : ℕ) → (num w x == 0) ≡ (num p.w x == 0)) →
+    AreRenewed n p rest → AreRenewed n (record p { w = w }) rest
+renewed_zeros {n} {p} {w} {rest} zeros h = record {
   renewed = h.renewed;
   apart = h.apart;
   keys = h.keys;
@@ -24,8 +24,8 @@ renewed_zeros {n} {iw} {pe} {e_len} {len} {nv} {w} {w'} {last} {rest} zeros h = 
   standing = λ i x m k. some x (h.standing i x m k);
 }
   where
-    some : (x : ℕ) → 0 < num w x → 0 < num w' x
-    some x l = elim (cases_eq (num w' x) 0) [
-      | inl z ↦ (let a = eqb-true (num w x) 0 (sym (zeros x) ∙ eq-eqb (num w' x) 0 z) in absurd (omega (arith, a, l)))
+    some : (x : ℕ) → 0 < num p.w x → 0 < num w x
+    some x l = elim (cases_eq (num w x) 0) [
+      | inl z ↦ (let a = eqb-true (num p.w x) 0 (sym (zeros x) ∙ eq-eqb (num w x) 0 z) in absurd (omega (arith, a, l)))
       | inr nz ↦ omega (arith, nz)
     ]

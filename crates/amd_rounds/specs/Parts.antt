@@ -14,6 +14,7 @@ use Rattle.amd_fronts.specs.Effects.{KeepsOrResets}
 use Rattle.amd_fronts.specs.Tallies.{front_at, LeavesLists}
 use Rattle.amd_fronts.specs.Turning.{TurnsFront}
 use Rattle.amd_lists.specs.Sizes.{bucket_count}
+use Rattle.amd_merging.specs.Classes.{classes_in, lists_in}
 use Rattle.amd_merging.specs.Merging.{MergesAll, represents_in, bucket_of}
 use Rattle.amd_merging.specs.Restoring.{marked_in, bound_in, put_all, Restores}
 use Rattle.amd_merging.specs.Closing.{Closes}
@@ -103,8 +104,7 @@ pub record RaisesFlag (me border most_cell : ℕ) (p v : Workspace) : Type 0 whe
 -- the rows of the block are no longer live, and the classes of the front that are alike were merged
 pub record MergesFront (n me block border : ℕ) (p v : Workspace) : Type 0 where
   pub merged : MergesAll (classes p.nv (front_at p me))
-      (represents_in p.iw p.pe p.e_len p.len (classes p.nv (front_at p me))) p.pe p.e_len
-      p.nv p.next v.pe v.e_len v.nv v.next
+      (represents_in p.iw p.pe p.e_len p.len (classes p.nv (front_at p me))) (classes_in p) (classes_in v)
   pub made : classes v.nv (front_at p me) ≡ filter
       (λ i. represents_in p.iw p.pe p.e_len p.len (classes p.nv (front_at p me)) i == i) (classes p.nv (front_at p me))
   pub heads : (b : ℕ) → b < bucket_count n → num v.hash b < n → (1 < num p.len me) ×
@@ -137,7 +137,7 @@ pub record EndsFront (n me block border : ℕ) (is_built : Bool) (p v : Workspac
   pub bounds : List ℕ
   pub restores : Restores (front_at p me) border p.live p.least p.nv p.degree v.nv bounds v.least
   pub degrees : v.degree ≡ slice_set bounds me border
-  pub closes : Closes n me (in_front p.nv) p.iw p.pe p.e_len p.len v.iw v.e_len v.len p.free
+  pub closes : Closes n me (in_front p.nv) p.free (lists_in p) (lists_in v)
   pub counts : v.e_len ≡ slice_set p.e_len me (flip_of (block + border))
   pub free_is : v.free ≡ cond is_built (end_of v.pe v.len me) p.free
   pub laid : Layout n v.iw v.pe v.e_len v.len v.free

@@ -7,6 +7,7 @@ use Rattle.amd_lists.specs.Layout.{has_list, end_of, elements_in, Layout}
 use Rattle.amd_fronts.specs.Tallies.{front_at, IsPart}
 use Rattle.amd_fronts.specs.TurningLists.{AreTurning}
 use Rattle.amd_lists.specs.Sizes.{bucket_count}
+use Rattle.amd_merging.specs.Classes.{classes_in}
 use Rattle.amd_merging.specs.Merging.{AreRenewed, bucket_of}
 use Rattle.amd_merging.specs.Restoring.{marked_in, IsPlaceable}
 use Rattle.amd_lists.specs.Workspaces.{Workspace}
@@ -44,7 +45,7 @@ pub record CanTurn (n me : ℕ) (p : Workspace) : Type 0 where
 -- together
 pub record CanMerge (n me block border most_cell : ℕ) (p : Workspace) : Type 0 where
   pub front : HasFront n me p
-  pub renewed : AreRenewed n p.iw p.pe p.e_len p.len p.nv p.w p.last (classes p.nv (front_at p me))
+  pub renewed : AreRenewed n (classes_in p) (classes p.nv (front_at p me))
   pub two : 2 ≤ p.flag
   pub under : (x : ℕ) → num p.w x < p.flag + max p.most border
   pub room : p.flag + n ≤ most_cell

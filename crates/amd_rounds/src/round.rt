@@ -21,7 +21,7 @@ use amd_fronts::turning::turn;
 use amd_lists::work::Work;
 use amd_merging::closing::close;
 use amd_merging::merging::merge_front;
-use amd_merging::restoring::restore;
+use amd_merging::restoring::{Front, restore};
 use amd_types::amd::Control;
 use amd_words::{Signed, Unsigned};
 
@@ -89,6 +89,12 @@ pub fn end_front<S: Signed, P: Signed, U: Unsigned>(
     let left = work.live;
     let low = work.least;
     let (from, count) = list_lent(work.pe, work.len, me);
+    let front = Front {
+        from,
+        count,
+        border,
+        left,
+    };
     let (end, least) = restore(
         work.iw,
         work.nv,
@@ -96,10 +102,7 @@ pub fn end_front<S: Signed, P: Signed, U: Unsigned>(
         work.head,
         work.sides,
         work.hash,
-        from,
-        count,
-        border,
-        left,
+        &front,
         low,
     );
     work.least = least;

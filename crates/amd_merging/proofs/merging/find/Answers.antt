@@ -2,6 +2,8 @@ use Rattle.std.proofs.Common.{ℕ, ℤ, List, ◌≡◌, inl, inr, true, cond, r
 use Rattle.amd_model.specs.Quotient.{has}
 use Rattle.amd_words.specs.Words.{num, word, place, start, rows}
 use Rattle.amd_round_laws.specs.Rounds.{alike_in}
+use Rattle.amd_merging.specs.Classes.{Lists}
+use Rattle.amd_merging.specs.Reading.{lists_read}
 use Rattle.amd_merging.specs.Merging.{Finds, IsRenewed, bucket, looks, kept_of, words_of}
 use Rattle.amd_lists.specs.Layout.{variables_in}
 use Rattle.amd_words.proofs.RowLists.{names_at}
@@ -31,7 +33,7 @@ pub spread-requires-clause-span : goal.spread-requires-clause-span
 spread-requires-clause-span g c = record {
   inside = (let f = c.named-from.ensures in let n = c.cell_at-count.ensures.is in let h = c.requires.here in
       let a = h.some in let b = h.parts in let w = h.within in omega (arith, f, n, a, b, w));
-  names = (names_at c.args.iw.now refl (ap (λ s. s + 1) (sym c.named-from.ensures))
+  names = (names_at c.args.lists.now.iw.now refl (ap (λ s. s + 1) (sym c.named-from.ensures))
       (ap (λ m. m - 1) (sym c.cell_at-count.ensures.is)) c.requires.here.names);
 }
 
@@ -40,14 +42,14 @@ walk-requires g c = record {
   lengths = (let l = c.requires.walk.lengths in let w = sym c.spread.ensures.long in
       (l.0 ∙ w, l.1 ∙ w, l.2 ∙ w, l.3 ∙ w));
   chain = (c.requires.walk.chain);
-  members = (λ j h. subst (λ n. IsRenewed n c.args.iw.now c.args.pe.now c.args.e_len.now c.args.len.now j)
+  members = (λ j h. let p : Lists = lists_read c.args.lists.now in subst (λ n. IsRenewed n p.iw p.pe p.e_len p.len j)
       (sym c.spread.ensures.long) (c.requires.walk.members j h));
 }
 
 pub returns : goal.returns
 returns g c = record {
-  found = (let iw : List ℤ = c.args.iw.now in let pe : List ℤ = c.args.pe.now in let e_len : List ℤ = c.args.e_len.now in let len : List ℕ =
-      c.args.len.now in let i : ℕ = c.args.i in
+  found = (let p : Lists = lists_read c.args.lists.now in let iw : List ℤ = p.iw in let pe : List ℤ = p.pe in
+      let e_len : List ℤ = p.e_len in let len : List ℕ = p.len in let i : ℕ = c.args.i in
       let w : List ℕ = c.spread.new.w in let flag : ℕ = c.args.flag in
       let first : c.named-from.result ≡ start pe i = c.named-from.ensures in
       let few : c.named-few.result ≡ place (word e_len i) = c.named-few.ensures in
@@ -55,18 +57,19 @@ returns g c = record {
       ∙ ap (λ m. cond (has (rows iw (c.named-from.result + 1) (m - 1)) x) flag (num c.args.w.now x)) c.cell_at-count.ensures.is
       ∙ ap (λ s. cond (has (rows iw (s + 1) (num len i - 1)) x) flag (num c.args.w.now x)) first in
       let is : (x : ℕ) → has (bucket (nexts c.args.sides.now) c.args.head) x ≡ true →
-      looks iw pe e_len len w (num len i) c.named-few.result flag x ≡ alike_in (kept_of iw pe e_len) (variables_in iw pe e_len len) i x
-      = λ x h. ap (λ f. looks iw pe e_len len w (num len i) f flag x) few
+      looks p w (num len i) c.named-few.result flag x ≡ alike_in (kept_of iw pe e_len) (variables_in iw pe e_len len) i x
+      = λ x h. ap (λ f. looks p w (num len i) f flag x) few
       ∙ looks_alike (length c.args.w.now) iw pe e_len len i x c.requires.here (c.requires.walk.members x h) w c.args.w.now flag
       (c.requires.apart x h) c.requires.under marked in
-      elim (subst (λ m. Finds (length (nexts c.args.sides.now)) (looks iw pe e_len len w m c.named-few.result flag)
+      elim (subst (λ m. Finds (length (nexts c.args.sides.now)) (looks p w m c.named-few.result flag)
       (bucket (nexts c.args.sides.now) c.args.head) c.walk.result) c.cell_at-count.ensures.is c.walk.ensures) [
-        | inl p ↦ inl (p.0, p.1, sym (is c.walk.result p.1) ∙ p.2)
-        | inr p ↦ inr (p.0, λ x h. sym (is x h) ∙ p.1 x h)
+        | inl q ↦ inl (q.0, q.1, sym (is c.walk.result q.1) ∙ q.2)
+        | inr q ↦ inr (q.0, λ x h. sym (is x h) ∙ q.1 x h)
       ]);
   long = (c.spread.ensures.long);
-  marked = (λ x. c.spread.ensures.marked x ∙ ap (λ m.
-      cond (has (rows c.args.iw.now (c.named-from.result + 1) (m - 1)) x) c.args.flag (num c.args.w.now x)) c.cell_at-count.ensures.is
-      ∙ ap (λ s. cond (has (rows c.args.iw.now (s + 1) (num c.args.len.now c.args.i - 1)) x) c.args.flag (num c.args.w.now x))
+  marked = (λ x. let p : Lists = lists_read c.args.lists.now in c.spread.ensures.marked x
+      ∙ ap (λ m. cond (has (rows p.iw (c.named-from.result + 1) (m - 1)) x) c.args.flag (num c.args.w.now x))
+      c.cell_at-count.ensures.is
+      ∙ ap (λ s. cond (has (rows p.iw (s + 1) (num p.len c.args.i - 1)) x) c.args.flag (num c.args.w.now x))
       c.named-from.ensures);
 }

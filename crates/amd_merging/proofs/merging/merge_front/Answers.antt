@@ -4,6 +4,7 @@ use Rattle.std.proofs.Common.{ℕ, List, refl, sym, ap, subst, ◌∙◌, ◌+�
 use Rattle.amd_words.specs.Words.{num, classes, rows}
 use Rattle.amd_round_laws.specs.Rounds.{alike_in}
 use Rattle.amd_lists.specs.Sizes.{bucket_count}
+use Rattle.amd_merging.specs.Classes.{Classes, classes_of}
 use Rattle.amd_merging.specs.Merging.{MergesAll, kept_of, represents_in}
 use Rattle.amd_lists.specs.Layout.{variables_in}
 use Rattle.amd_merging.proofs.FewMerged.{few_merged}
@@ -11,15 +12,15 @@ use Rattle.amd_merging.proofs.MergeEnds.{made_is, made_from, still_linked}
 use Rattle.amd_merging.proofs.MergeState.{Merging, merging_none, all_merged, all_heads}
 use Rattle.amd_merging.proofs.MergeWalk.{premises, classes_few, classes_end, step_ready, step_room, step_skips, step_settles}
 use Rattle.std.proofs.Common.{le_refl, le-add_right}
-use Rattle.amd_words.specs.Sides.{nexts, lasts}
+use Rattle.amd_words.specs.Sides.{nexts}
 use Rattle.amd_merging.proofs.merging.merge_front.Goals as goal
 
 pub classes-init : goal.classes-init
 classes-init g c = let l = c.requires.lengths in record {
   within = omega arith;
   keys = refl;
-  merging = merging_none (length (nexts c.args.sides.now)) c.args.iw.now c.args.pe.now c.args.e_len.now c.args.len.now c.args.nv.now
-      c.args.w.now (nexts c.args.sides.now) (lasts c.args.sides.now)
+  merging = merging_none (length (nexts c.args.sides.now))
+      (classes_of c.args.iw.now c.args.pe.now c.args.e_len.now c.args.nv.now c.args.len.now c.args.w.now c.args.hash.now c.args.sides.now)
       (classes c.args.nv.now (rows c.args.iw.now c.args.from c.args.count)) c.args.flag c.args.count c.args.hash.now
       c.requires.empty c.requires.under (l.0, l.1, l.2, l.4, l.5, refl);
 }
@@ -53,17 +54,15 @@ merge_one-now-requires g c = record {
   short = (let s = c.requires.short.0 in let t = c.requires.short.1 in let u = c.requires.short.2 in
       let n = c.classes.invariant.merging.long.5 in ((omega (arith, s, n)), (omega (arith, t, n)), (omega (arith, u, n))));
   ready = (let g = premises (length (nexts c.args.sides.now))
-      c.args.iw.now c.args.pe.now c.args.e_len.now c.args.len.now c.args.nv.now c.args.w.now (nexts c.args.sides.now) (lasts
-      c.args.sides.now)
+      (classes_of c.args.iw.now c.args.pe.now c.args.e_len.now c.args.nv.now c.args.len.now c.args.w.now c.args.hash.now c.args.sides.now)
       c.args.from c.args.count c.args.flag c.requires.front.2 c.requires.few c.requires.classes_are in
-      rw c.classes.invariant.keys (step_ready _ _ _ _ _ _ _ _ _ _ _ _ g c.classes.left c.classes-test.true c.classes.invariant.within
+      rw c.classes.invariant.keys (step_ready _ _ _ _ _ g c.classes.left c.classes-test.true c.classes.invariant.within
       c.named-i.result c.named-i.ensures _ _ _ _ _ _ _ c.classes.invariant.merging (sym c.is_class.ensures ∙ c.if-is_class.true)));
   under = (c.classes.invariant.merging.under);
   room = (let g = premises (length (nexts c.args.sides.now))
-      c.args.iw.now c.args.pe.now c.args.e_len.now c.args.len.now c.args.nv.now c.args.w.now (nexts c.args.sides.now) (lasts
-      c.args.sides.now)
+      (classes_of c.args.iw.now c.args.pe.now c.args.e_len.now c.args.nv.now c.args.len.now c.args.w.now c.args.hash.now c.args.sides.now)
       c.args.from c.args.count c.args.flag c.requires.front.2 c.requires.few c.requires.classes_are in
-      let a : c.classes.now + 1 ≤ c.args.flag + c.args.count = step_room _ _ _ _ _ _ _ _ _ _ _ _ g c.classes.left c.classes-test.true
+      let a : c.classes.now + 1 ≤ c.args.flag + c.args.count = step_room _ _ _ _ _ g c.classes.left c.classes-test.true
       c.classes.invariant.within c.named-i.result c.named-i.ensures _ _ _ _ _ _ _ c.classes.invariant.merging (sym c.is_class.ensures
       ∙ c.if-is_class.true) in
       let b = c.requires.room in omega (arith, a, b));
@@ -71,52 +70,52 @@ merge_one-now-requires g c = record {
 
 pub classes-preserved-then-is_class : goal.classes-preserved-then-is_class
 classes-preserved-then-is_class g c = let g = premises (length (nexts c.args.sides.now))
-    c.args.iw.now c.args.pe.now c.args.e_len.now c.args.len.now c.args.nv.now c.args.w.now (nexts c.args.sides.now) (lasts c.args.sides.now)
+    (classes_of c.args.iw.now c.args.pe.now c.args.e_len.now c.args.nv.now c.args.len.now c.args.w.now c.args.hash.now c.args.sides.now)
     c.args.from c.args.count c.args.flag c.requires.front.2 c.requires.few c.requires.classes_are in
     let t = c.classes.invariant.within in let d = c.merge_one-now.ensures in let l = d.lengths in
     let o = c.classes.invariant.merging.long in let m = o.5 in record {
       within = omega (arith, t);
       keys = d.keys ∙ c.classes.invariant.keys;
-      merging = step_settles _ _ _ _ _ _ _ _ _ _ _ _ g c.classes.left c.classes-test.true c.classes.invariant.within c.named-i.result
+      merging = step_settles _ _ _ _ _ g c.classes.left c.classes-test.true c.classes.invariant.within c.named-i.result
           c.named-i.ensures _ _ _ _ _ _ _ c.classes.invariant.merging (sym c.is_class.ensures ∙ c.if-is_class.true)
           _ _ _ _ _ _ _ (l.0 ∙ m ∙ sym o.0, l.1 ∙ m ∙ sym o.1, l.2 ∙ m ∙ sym o.2, l.4 ∙ m ∙ sym o.3)
-          (l.5 ∙ ap bucket_count m ∙ sym o.4, l.6) d.rises d.under d.zeros (rw (sym c.classes.invariant.keys) d.settles);
+          (l.5 ∙ ap bucket_count m ∙ sym o.4, l.6) d.rises d.under d.zeros
+          (rw (d.keys, c.classes.invariant.keys) at d.settles);
     }
 
 pub classes-preserved : goal.classes-preserved
 classes-preserved g c = let g = premises (length (nexts c.args.sides.now))
-    c.args.iw.now c.args.pe.now c.args.e_len.now c.args.len.now c.args.nv.now c.args.w.now (nexts c.args.sides.now) (lasts c.args.sides.now)
+    (classes_of c.args.iw.now c.args.pe.now c.args.e_len.now c.args.nv.now c.args.len.now c.args.w.now c.args.hash.now c.args.sides.now)
     c.args.from c.args.count c.args.flag c.requires.front.2 c.requires.few c.requires.classes_are in
     let t = c.classes.invariant.within in record {
       within = omega (arith, t);
       keys = c.classes.invariant.keys;
-      merging = step_skips _ _ _ _ _ _ _ _ _ _ _ _ g c.classes.left c.classes-test.true c.classes.invariant.within c.named-i.result
+      merging = step_skips _ _ _ _ _ g c.classes.left c.classes-test.true c.classes.invariant.within c.named-i.result
           c.named-i.ensures _ _ _ _ _ _ _ c.classes.invariant.merging (sym c.is_class.ensures ∙ c.if-is_class.false);
     }
 
 pub returns-clause-merges : goal.returns-clause-merges
 returns-clause-merges g c = record {
   merges = (let list : List ℕ = rows c.args.iw.now c.args.from c.args.count in
-      let state = subst (λ k. Merging (length (nexts c.args.sides.now)) c.args.iw.now c.args.pe.now c.args.e_len.now c.args.len.now
-      c.args.nv.now c.args.w.now (nexts c.args.sides.now) (lasts c.args.sides.now) (classes c.args.nv.now list) c.args.flag c.args.count
-      k c.classes.pe c.classes.e_len c.classes.nv c.classes.w c.classes.hash (nexts c.classes.sides) c.classes.now)
+      let n : ℕ = length (nexts c.args.sides.now) in
+      let was : Classes = classes_of c.args.iw.now c.args.pe.now c.args.e_len.now c.args.nv.now c.args.len.now c.args.w.now
+      c.args.hash.now c.args.sides.now in
+      let now : Classes = classes_of c.args.iw.now c.classes.pe c.classes.e_len c.classes.nv c.args.len.now c.classes.w
+      c.classes.hash c.classes.sides in
+      let rest : List ℕ = classes was.nv list in
+      let state = subst (λ k. Merging n was rest c.args.flag c.args.count k now.pe now.e_len now.nv now.w now.hash now.next c.classes.now)
       (classes_end c.args.nv.now c.args.iw.now c.args.from c.classes.left c.classes-test.false) c.classes.invariant.merging in
-      let merged : MergesAll (classes c.args.nv.now list)
-      (represents_in c.args.iw.now c.args.pe.now c.args.e_len.now c.args.len.now (classes c.args.nv.now list))
-      c.args.pe.now c.args.e_len.now c.args.nv.now (nexts c.args.sides.now) c.classes.pe c.classes.e_len c.classes.nv
-      (nexts c.classes.sides) = (
-      let g = premises (length (nexts c.args.sides.now)) c.args.iw.now c.args.pe.now c.args.e_len.now c.args.len.now c.args.nv.now
-      c.args.w.now (nexts c.args.sides.now) (lasts c.args.sides.now) c.args.from c.args.count c.args.flag c.requires.front.2 c.requires.few
-      c.requires.classes_are in
-      all_merged _ _ _ _ _ _ _ _ _ _ _ _ g.once _ _ _ _ _ _ _ state) in record {
+      let g = premises n was c.args.from c.args.count c.args.flag c.requires.front.2 c.requires.few c.requires.classes_are in
+      let merged : MergesAll rest (represents_in was.iw was.pe was.e_len was.len rest) was now
+      = all_merged n was rest c.args.flag c.args.count g.once now c.classes.now state in record {
         merged = merged;
-        made = made_is list _ _ _ _ _ _ _ _ _ merged;
-        heads = λ b small full. let head = all_heads _ _ _ _ _ _ _ _ _ _ _ _ _ _ _ _ _ _ _ state b small full in (
+        made = made_is list _ was now merged;
+        heads = λ b small full. let head = all_heads n was rest c.args.flag c.args.count _ _ _ _ _ _ _ state b small full in (
           (let f = c.if-count-lt2.false in omega (arith, f)),
-          made_from list _ _ _ _ _ _ _ _ _ merged (num c.classes.hash b) head.0 head.1,
+          made_from list _ was now merged (num c.classes.hash b) head.0 head.1,
           head.2,
         );
-        linked = λ head degree lists none h. still_linked list _ _ _ _ _ _ _ _ _ merged _ head (lasts c.args.sides.now) degree lists none h;
+        linked = λ head degree lists none h. still_linked list _ was now merged n head was.last degree lists none h;
       });
   lengths = (let o = c.classes.invariant.merging.long in let l = c.requires.lengths in
       (o.0, o.1, o.2, l.3, o.3, o.4, o.5, ap length c.classes.invariant.keys ∙ l.7));
@@ -130,11 +129,13 @@ returns-clause-merges g c = record {
 pub returns-then-count-lt2-clause-merges : goal.returns-then-count-lt2-clause-merges
 returns-then-count-lt2-clause-merges g c = record {
   merges = (let a = classes_few c.args.nv.now c.args.iw.now c.args.from c.args.count in let t = c.if-count-lt2.true in
-      let merged = few_merged (alike_in (kept_of c.args.iw.now c.args.pe.now c.args.e_len.now)
-      (variables_in c.args.iw.now c.args.pe.now c.args.e_len.now c.args.len.now)) c.args.pe.now c.args.e_len.now c.args.nv.now
-      (nexts c.args.sides.now) (classes c.args.nv.now (rows c.args.iw.now c.args.from c.args.count)) (omega (arith, a, t)) in record {
+      let list : List ℕ = rows c.args.iw.now c.args.from c.args.count in
+      let was : Classes = classes_of c.args.iw.now c.args.pe.now c.args.e_len.now c.args.nv.now c.args.len.now c.args.w.now
+      c.args.hash.now c.args.sides.now in
+      let merged = few_merged (alike_in (kept_of was.iw was.pe was.e_len) (variables_in was.iw was.pe was.e_len was.len)) was
+      (classes was.nv list) (omega (arith, a, t)) in record {
         merged = merged;
-        made = made_is (rows c.args.iw.now c.args.from c.args.count) _ _ _ _ _ _ _ _ _ merged;
+        made = made_is list _ was was merged;
         heads = λ b k m. absurd (let e = c.requires.empty b k in omega (arith, e, m));
         linked = λ head degree lists none h. h;
       });

@@ -36,8 +36,9 @@ returns g c = record {
   marks = (c.leave-size.ensures.front);
   bound_is = (let size = c.leave-size.result in
       c.new_bound-bound.ensures
-      ∙ ap (λ m. min (m + (c.args.border - size)) (c.args.left - size)) c.cell_at.ensures.is
-      ∙ ap (λ s. min (num c.args.degree.now c.args.i + (c.args.border - s)) (c.args.left - s)) c.leave-size.ensures.rows);
+      ∙ ap (λ m. min (m + (c.args.front.now.border - size)) (c.args.front.now.left - size)) c.cell_at.ensures.is
+      ∙ ap (λ s. min (num c.args.degree.now c.args.i + (c.args.front.now.border - s)) (c.args.front.now.left - s))
+      c.leave-size.ensures.rows);
   degrees = (c.put_head.ensures.degrees);
   emptied = (c.empty_bucket.ensures);
   others = (c.put_head.ensures.others);

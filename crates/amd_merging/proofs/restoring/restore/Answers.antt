@@ -84,7 +84,7 @@ linked_as {n} {head1} {head2} {next1} {next2} {last1} {last2} {degree1} {degree2
 pub loop-p-init : goal.loop-p-init
 unfolding has
 loop-p-init g c =
-    let iw : List ℤ = c.args.iw.now in let nv : List ℤ = c.args.nv.now in let from : ℕ = c.args.from in
+    let iw : List ℤ = c.args.iw.now in let nv : List ℤ = c.args.nv.now in let from : ℕ = c.args.front.now.from in
     let n : ℕ = length (nexts c.args.sides.now) in
     let e : from - from ≡ 0 = none_passed from in let none = marked_none nv iw from in record {
       lengths = c.requires.lengths;
@@ -94,41 +94,45 @@ loop-p-init g c =
         sizes = λ j. refl;
         marks = λ j. sym (ap (λ xs. in_front nv j && not (has xs j)) (rows_start iw from) ∙ and-true (in_front nv j));
         bounds = each_none iw from (num c.args.degree.now) _;
-        least_is = sym (ap (fold (λ m i. min m (bound_in c.args.border c.args.left nv c.args.degree.now i)) c.args.least) none);
+        least_is = sym (ap (fold (λ m i. min m (bound_in c.args.front.now.border c.args.front.now.left nv c.args.degree.now i))
+            c.args.least) none);
       };
       lasts_kept = λ x m f. refl;
-      empties = emptying_none n iw nv from c.args.count c.args.hash.now (lasts c.args.sides.now);
+      empties = emptying_none n iw nv from c.args.front.now.count c.args.hash.now (lasts c.args.sides.now);
       linked = λ lists out h. lists_same n _ _ _ _ lists _ (λ d l. put_none _ _ lists none d) h;
     }
 
 pub named-i-requires-clause-is_one : goal.named-i-requires-clause-is_one
 named-i-requires-clause-is_one g c =
-    let after : c.args.from ≤ c.loop-p.p = c.loop-p.auto.p in let t = c.loop-p-test.true in
-    word_one c.requires.front.1 after (omega (arith, after, t)) c.loop-p.invariant.filters
+    let after : c.args.front.now.from ≤ c.loop-p.p = c.loop-p.auto.p in let t = c.loop-p-test.true in
+    word_one c.requires.front_is.1 after (omega (arith, after, t)) c.loop-p.invariant.filters
 
 pub is_marked-requires : goal.is_marked-requires
 is_marked-requires g c =
-    let after : c.args.from ≤ c.loop-p.p = c.loop-p.auto.p in let t = c.loop-p-test.true in
+    let after : c.args.front.now.from ≤ c.loop-p.p = c.loop-p.auto.p in let t = c.loop-p-test.true in
     let e = c.named-i.ensures in
-    let s = word_row c.requires.front.1 after (omega (arith, after, t)) c.loop-p.invariant.filters in
-    let small = (c.requires.front.1 (c.loop-p.p - c.args.from) (omega (arith, after, t))).1 in
+    let s = word_row c.requires.front_is.1 after (omega (arith, after, t)) c.loop-p.invariant.filters in
+    let small = (c.requires.front_is.1 (c.loop-p.p - c.args.front.now.from) (omega (arith, after, t))).1 in
     let long = c.loop-p.invariant.lengths.0 in omega (arith, e, s, small, long)
 
 pub place_class-bound-requires : goal.place_class-bound-requires
 place_class-bound-requires g c =
     let iw : List ℤ = c.args.iw.now in let nv : List ℤ = c.args.nv.now in let degree : List ℕ = c.args.degree.now in
-    let from : ℕ = c.args.from in let k : ℕ = c.loop-p.p - from in
+    let from : ℕ = c.args.front.now.from in let k : ℕ = c.loop-p.p - from in
     let after : from ≤ c.loop-p.p = c.loop-p.auto.p in let t = c.loop-p-test.true in
-    let l : k < c.args.count = within_count after t in
+    let l : k < c.args.front.now.count = within_count after t in
     let was = c.loop-p.invariant in let i : ℕ = c.named-i.result in
-    let is : i ≡ place (word iw (from + k)) = c.named-i.ensures ∙ word_row c.requires.front.1 after l was.filters in
-    let small = (c.requires.front.1 k l).1 in
-    let named : has (rows iw from c.args.count) i ≡ true = ap (has (rows iw from c.args.count)) is ∙ rows_has iw from c.args.count k l in
-    let fresh : has (rows iw from k) i ≡ false = ap (has (rows iw from k)) is ∙ fresh_word iw from c.args.count k l c.requires.front.2 in
+    let is : i ≡ place (word iw (from + k)) = c.named-i.ensures ∙ word_row c.requires.front_is.1 after l was.filters in
+    let small = (c.requires.front_is.1 k l).1 in
+    let named : has (rows iw from c.args.front.now.count) i ≡ true = ap (has (rows iw from c.args.front.now.count)) is
+    ∙ rows_has iw from c.args.front.now.count k l in
+    let fresh : has (rows iw from k) i ≡ false = ap (has (rows iw from k)) is
+    ∙ fresh_word iw from c.args.front.now.count k l c.requires.front_is.2 in
     let mark_same : in_front c.loop-p.nv i ≡ in_front nv i = was.restores.marks i
     ∙ ap (λ b. in_front nv i && not b) fresh ∙ and-true (in_front nv i) in
     let bound_same : num c.loop-p.degree i ≡ num degree i = was.restores.bounds i
-    ∙ cond-false (has (rows iw from k) i) (cond (in_front nv i) (bound_in c.args.border c.args.left nv degree i) (num degree i))
+    ∙ cond-false (has (rows iw from k) i) (cond (in_front nv i) (bound_in c.args.front.now.border c.args.front.now.left nv degree i) (num
+    degree i))
     (num degree i) fresh in
     let last_same : num (lasts c.loop-p.sides) i ≡ num (lasts c.args.sides.now) i = was.lasts_kept i named fresh in
     let long = was.lengths in let next = long.3 in
@@ -151,26 +155,28 @@ place_class-bound-requires g c =
 pub loop-p-preserved : goal.loop-p-preserved
 loop-p-preserved g c =
     let iw : List ℤ = c.args.iw.now in let nv : List ℤ = c.args.nv.now in let degree : List ℕ = c.args.degree.now in
-    let n : ℕ = length (nexts c.args.sides.now) in let from : ℕ = c.args.from in let p : ℕ = c.loop-p.p in let k : ℕ = p - from in
+    let n : ℕ = length (nexts c.args.sides.now) in let from : ℕ = c.args.front.now.from in let p : ℕ = c.loop-p.p in let k : ℕ = p - from in
     let after : from ≤ p = c.loop-p.auto.p in let t = c.loop-p-test.true in let at : p ≡ from + k = sym (add-sub_of_le after) in
-    let l : k < c.args.count = within_count after t in let next : p + 1 - from ≡ k + 1 = next_place after in
-    let was = c.loop-p.invariant in let h = was.filters in let word_k = c.requires.front.1 k l in
+    let l : k < c.args.front.now.count = within_count after t in let next : p + 1 - from ≡ k + 1 = next_place after in
+    let was = c.loop-p.invariant in let h = was.filters in let word_k = c.requires.front_is.1 k l in
     let is_one : is_place (word iw p) ≡ true = ap (λ m. is_place (word iw m)) at ∙ word_k.0 in
     let small : place (word iw p) < n = lt_of_le_of_lt (le_of_eq (ap (λ m. place (word iw m)) at)) word_k.1 in
     let i : ℕ = c.named-i.result in
-    let is : i ≡ place (word iw (from + k)) = c.named-i.ensures ∙ word_row c.requires.front.1 after l h in
+    let is : i ≡ place (word iw (from + k)) = c.named-i.ensures ∙ word_row c.requires.front_is.1 after l h in
     let tiny : i < n = lt_of_le_of_lt (le_of_eq is) word_k.1 in
     let rows_next_is : rows iw from (p + 1 - from) ≡ rows iw from (k + 1) = ap (rows iw from) next in
-    let named : has (rows iw from c.args.count) i ≡ true = ap (has (rows iw from c.args.count)) is ∙ rows_has iw from c.args.count k l in
-    let fresh : has (rows iw from k) i ≡ false = ap (has (rows iw from k)) is ∙ fresh_word iw from c.args.count k l c.requires.front.2 in
-    let bound : ℕ → ℕ = bound_in c.args.border c.args.left nv degree in
+    let named : has (rows iw from c.args.front.now.count) i ≡ true = ap (has (rows iw from c.args.front.now.count)) is
+    ∙ rows_has iw from c.args.front.now.count k l in
+    let fresh : has (rows iw from k) i ≡ false = ap (has (rows iw from k)) is
+    ∙ fresh_word iw from c.args.front.now.count k l c.requires.front_is.2 in
+    let bound : ℕ → ℕ = bound_in c.args.front.now.border c.args.front.now.left nv degree in
     let mark_same : in_front c.loop-p.nv i ≡ in_front nv i = was.restores.marks i
     ∙ ap (λ b. in_front nv i && not b) fresh ∙ and-true (in_front nv i) in
     let bound_same : num c.loop-p.degree i ≡ num degree i = was.restores.bounds i
     ∙ cond-false (has (rows iw from k) i) (cond (in_front nv i) (bound i) (num degree i)) (num degree i) fresh in
     let last_same : num (lasts c.loop-p.sides) i ≡ num (lasts c.args.sides.now) i = was.lasts_kept i named fresh in
     let size_same = was.restores.sizes in let long = was.lengths in
-    let border : ℕ = c.args.border in let left : ℕ = c.args.left in let met : List ℕ = marked_in nv (rows iw from k) in
+    let border : ℕ = c.args.front.now.border in let left : ℕ = c.args.front.now.left in let met : List ℕ = marked_in nv (rows iw from k) in
     let f : ℕ → ℕ → ℕ = λ m j. min m (bound j) in let order = c.requires.order in
     elim c.if-is_marked.branch [
       | then-is_marked w ↦ (
@@ -181,18 +187,21 @@ loop-p-preserved g c =
           ∙ ap (λ m. min (m + (border - size_of nv i)) (left - size_of nv i)) bound_same in
           let tight : b < n = (let a = old.class in omega (arith, bound_is, a, order)) in
           let grown = marked_next nv iw from k i is here in
-          let out_met : (lists : ℕ → List ℕ) → ((d x : ℕ) → d < n → has (lists d) x ≡ true → has (rows iw from c.args.count) x ≡ false) →
-          (d x : ℕ) → d < n → has (rows iw from c.args.count) x ≡ true → has (rows iw from k) x ≡ false →
+          let out_met : (lists : ℕ → List ℕ) → ((d x : ℕ) → d < n → has (lists d) x ≡ true →
+          has (rows iw from c.args.front.now.count) x ≡ false) →
+          (d x : ℕ) → d < n → has (rows iw from c.args.front.now.count) x ≡ true → has (rows iw from k) x ≡ false →
           has (put_all bound met lists d) x ≡ false
           = λ lists out d x s m g. false_from_ne_true (has (put_all bound met lists d) x) (λ q. elim (put_gives bound met lists d x q) [
             | inl u ↦ clash {P = ⊥} (filter_gives (in_front nv) (rows iw from k) x u).0 g
             | inr u ↦ clash {P = ⊥} m (out d x s u)
           ]) in
           let hash_is : w.place_class-bound.new.hash
-          ≡ cond (nat_lt 1 c.args.count) (set c.loop-p.hash (bucket_of c.args.count (lasts c.args.sides.now) i) n) c.loop-p.hash = e.emptied
-          ∙ ap (λ m. cond (nat_lt 1 c.args.count) (set c.loop-p.hash m (length (nexts c.loop-p.sides))) c.loop-p.hash)
-          (bucket_same c.args.count (lasts c.loop-p.sides) (lasts c.args.sides.now) i i last_same)
-          ∙ ap (λ m. cond (nat_lt 1 c.args.count) (set c.loop-p.hash (bucket_of c.args.count (lasts c.args.sides.now) i) m) c.loop-p.hash)
+          ≡ cond (nat_lt 1 c.args.front.now.count) (set c.loop-p.hash (bucket_of c.args.front.now.count (lasts c.args.sides.now) i) n)
+          c.loop-p.hash = e.emptied
+          ∙ ap (λ m. cond (nat_lt 1 c.args.front.now.count) (set c.loop-p.hash m (length (nexts c.loop-p.sides))) c.loop-p.hash)
+          (bucket_same c.args.front.now.count (lasts c.loop-p.sides) (lasts c.args.sides.now) i i last_same)
+          ∙ ap (λ m. cond (nat_lt 1 c.args.front.now.count) (set c.loop-p.hash (bucket_of c.args.front.now.count (lasts c.args.sides.now) i)
+          m) c.loop-p.hash)
           long.3 in
           let v = e.lengths in
           record {
@@ -205,7 +214,7 @@ loop-p-preserved g c =
               ap length w.hash-is ∙ v.5 ∙ ap bucket_count long.3,
             );
             filters = filters_as next (w.iw-is ∙ w.copy_word.ensures) w.end-is
-                (filters_yes n (in_front nv) (λ j. 0) 0 iw from from h p 0 at (omega arith) (let a = c.requires.front.0 in
+                (filters_yes n (in_front nv) (λ j. 0) 0 iw from from h p 0 at (omega arith) (let a = c.requires.front_is.0 in
                 omega (arith, a, at, l))
                 is_one small (ap (in_front nv) (sym is) ∙ here) (let z = cut_small 0 (omega arith) in omega (arith, z)));
             restores = restores_as iw from next w.nv-is w.degree-is w.low-is record {
@@ -228,11 +237,11 @@ loop-p-preserved g c =
                 ap (λ l. num l x) (ap lasts w.sides-is) ∙ e.others x q.0
                 (no_head n c.loop-p.head (nexts c.loop-p.sides) (lasts c.loop-p.sides) c.loop-p.degree
                 (put_all bound met given.0) b x
-                (was.linked given.0 given.2 given.1) tight (rows_small n iw from c.args.count c.requires.front.1 x m)
+                (was.linked given.0 given.2 given.1) tight (rows_small n iw from c.args.front.now.count c.requires.front_is.1 x m)
                 (out_met given.0 given.2 b x tight m q.1)) ∙ was.lasts_kept x m q.1;
             empties = emptying_as next (w.hash-is ∙ hash_is)
-                (emptying_clears n iw nv from c.args.count c.args.hash.now (lasts c.args.sides.now) c.requires.heads k i is
-                c.loop-p.hash was.empties (bucket_small n c.args.count (lasts c.args.sides.now) i old.key) long.5);
+                (emptying_clears n iw nv from c.args.front.now.count c.args.hash.now (lasts c.args.sides.now) c.requires.heads k i is
+                c.loop-p.hash was.empties (bucket_small n c.args.front.now.count (lasts c.args.sides.now) i old.key) long.5);
             linked = λ lists out g.
                 let before = subst (λ m. DegreeLists m c.loop-p.head (nexts c.loop-p.sides) (lasts c.loop-p.sides) c.loop-p.degree
                 (put_all bound met lists))
@@ -279,7 +288,8 @@ loop-p-preserved g c =
             };
             lasts_kept = λ x m g. ap (λ l. num l x) (ap lasts w.sides-is)
                 ∙ was.lasts_kept x m (rows_fresh nv iw from k i is x (sym (ap (λ xs. has xs x) rows_next_is) ∙ g)).1;
-            empties = emptying_as next w.hash-is (emptying_skips n iw nv from c.args.count c.args.hash.now (lasts c.args.sides.now)
+            empties = emptying_as next w.hash-is (emptying_skips n iw nv from c.args.front.now.count c.args.hash.now (lasts
+                c.args.sides.now)
                 c.requires.heads k i is
                 c.loop-p.hash was.empties none);
             linked = λ lists out g. linked_as (λ m. put_all bound (marked_in nv (rows iw from m)) lists) next w.head-is
@@ -294,46 +304,49 @@ loop-p-preserved g c =
 
 pub named-i-requires-clause-inside : goal.named-i-requires-clause-inside
 named-i-requires-clause-inside g c = lt_of_lt_of_le c.loop-p-test.true
-    (le_trans c.requires.front.0 (le_of_eq (sym c.loop-p.invariant.filters.long)))
+    (le_trans c.requires.front_is.0 (le_of_eq (sym c.loop-p.invariant.filters.long)))
 
 pub copy_word-requires-clause-from : goal.copy_word-requires-clause-from
 copy_word-requires-clause-from g c = lt_of_lt_of_le c.loop-p-test.true
-    (le_trans c.requires.front.0 (le_of_eq (sym c.loop-p.invariant.filters.long)))
+    (le_trans c.requires.front_is.0 (le_of_eq (sym c.loop-p.invariant.filters.long)))
 
 pub copy_word-requires-clause-to : goal.copy_word-requires-clause-to
 copy_word-requires-clause-to g c =
     lt_of_le_of_lt (le_trans c.loop-p.invariant.filters.high (le_of_eq (add-sub_of_le c.loop-p.auto.p)))
-    (lt_of_lt_of_le c.loop-p-test.true (le_trans c.requires.front.0 (le_of_eq (sym c.loop-p.invariant.filters.long))))
+    (lt_of_lt_of_le c.loop-p-test.true (le_trans c.requires.front_is.0 (le_of_eq (sym c.loop-p.invariant.filters.long))))
 
 pub loop-p-smaller : goal.loop-p-smaller
-loop-p-smaller g c = falls (c.args.from + c.args.count) c.loop-p.p c.loop-p-test.true
+loop-p-smaller g c = falls (c.args.front.now.from + c.args.front.now.count) c.loop-p.p c.loop-p-test.true
 
 pub returns : goal.returns
 returns g c = record {
-  filters = (let t = c.loop-p-test.false in let after : c.args.from ≤ c.loop-p.p = c.loop-p.auto.p in
-      let past : c.loop-p.p ≤ c.args.from + c.args.count = c.loop-p.auto.p-end (le-add_right _ _) in
-      let all : c.loop-p.p - c.args.from ≡ c.args.count = all_passed _ _ _ after past t in
-      subst (λ m. Filters (length (nexts c.args.sides.now)) (in_front c.args.nv.now) (λ j. 0) 0
-      (span c.args.iw.now c.args.from m) c.args.from (sifted c.loop-p.iw c.loop-p.end 0)) all c.loop-p.invariant.filters);
-  placed = (let t = c.loop-p-test.false in let after : c.args.from ≤ c.loop-p.p = c.loop-p.auto.p in
-      let past : c.loop-p.p ≤ c.args.from + c.args.count = c.loop-p.auto.p-end (le-add_right _ _) in
-      let all : c.loop-p.p - c.args.from ≡ c.args.count = all_passed _ _ _ after past t in
-      subst (λ m. Restores (rows c.args.iw.now c.args.from m) c.args.border c.args.left c.args.least c.args.nv.now c.args.degree.now
+  filters = (let t = c.loop-p-test.false in let after : c.args.front.now.from ≤ c.loop-p.p = c.loop-p.auto.p in
+      let past : c.loop-p.p ≤ c.args.front.now.from + c.args.front.now.count = c.loop-p.auto.p-end (le-add_right _ _) in
+      let all : c.loop-p.p - c.args.front.now.from ≡ c.args.front.now.count = all_passed _ _ _ after past t in
+      subst (λ m. Filters (length (nexts c.args.sides.now)) (in_front c.args.nv.now) (λ j. 0) 0 (span c.args.iw.now c.args.front.now.from m)
+      c.args.front.now.from (sifted c.loop-p.iw c.loop-p.end 0)) all c.loop-p.invariant.filters);
+  placed = (let t = c.loop-p-test.false in let after : c.args.front.now.from ≤ c.loop-p.p = c.loop-p.auto.p in
+      let past : c.loop-p.p ≤ c.args.front.now.from + c.args.front.now.count = c.loop-p.auto.p-end (le-add_right _ _) in
+      let all : c.loop-p.p - c.args.front.now.from ≡ c.args.front.now.count = all_passed _ _ _ after past t in
+      subst (λ m. Restores (rows c.args.iw.now c.args.front.now.from m) c.args.front.now.border c.args.front.now.left c.args.least
+      c.args.nv.now c.args.degree.now
       c.loop-p.nv c.loop-p.degree c.loop-p.low) all c.loop-p.invariant.restores);
-  empty = (let t = c.loop-p-test.false in let after : c.args.from ≤ c.loop-p.p = c.loop-p.auto.p in
-      let past : c.loop-p.p ≤ c.args.from + c.args.count = c.loop-p.auto.p-end (le-add_right _ _) in
-      let all : c.loop-p.p - c.args.from ≡ c.args.count = all_passed _ _ _ after past t in
-      emptying_all (length (nexts c.args.sides.now)) c.args.iw.now c.args.nv.now c.args.from c.args.count c.args.hash.now
+  empty = (let t = c.loop-p-test.false in let after : c.args.front.now.from ≤ c.loop-p.p = c.loop-p.auto.p in
+      let past : c.loop-p.p ≤ c.args.front.now.from + c.args.front.now.count = c.loop-p.auto.p-end (le-add_right _ _) in
+      let all : c.loop-p.p - c.args.front.now.from ≡ c.args.front.now.count = all_passed _ _ _ after past t in
+      emptying_all (length (nexts c.args.sides.now)) c.args.iw.now c.args.nv.now c.args.front.now.from c.args.front.now.count
+      c.args.hash.now
       (lasts c.args.sides.now)
-      c.requires.heads c.loop-p.hash (subst (λ m. Emptying (length (nexts c.args.sides.now)) c.args.iw.now c.args.from c.args.hash.now m
+      c.requires.heads c.loop-p.hash (subst (λ m. Emptying (length (nexts c.args.sides.now)) c.args.iw.now c.args.front.now.from
+      c.args.hash.now m
       c.loop-p.hash)
       all c.loop-p.invariant.empties));
-  linked = (λ lists out h. let t = c.loop-p-test.false in let after : c.args.from ≤ c.loop-p.p = c.loop-p.auto.p in
-      let past : c.loop-p.p ≤ c.args.from + c.args.count = c.loop-p.auto.p-end (le-add_right _ _) in
-      let all : c.loop-p.p - c.args.from ≡ c.args.count = all_passed _ _ _ after past t in
+  linked = (λ lists out h. let t = c.loop-p-test.false in let after : c.args.front.now.from ≤ c.loop-p.p = c.loop-p.auto.p in
+      let past : c.loop-p.p ≤ c.args.front.now.from + c.args.front.now.count = c.loop-p.auto.p-end (le-add_right _ _) in
+      let all : c.loop-p.p - c.args.front.now.from ≡ c.args.front.now.count = all_passed _ _ _ after past t in
       subst (λ m. DegreeLists (length (nexts c.args.sides.now)) c.loop-p.head (nexts c.loop-p.sides) (lasts c.loop-p.sides) c.loop-p.degree
-      (put_all (bound_in c.args.border c.args.left c.args.nv.now c.args.degree.now) (marked_in c.args.nv.now
-      (rows c.args.iw.now c.args.from m)) lists))
+      (put_all (bound_in c.args.front.now.border c.args.front.now.left c.args.nv.now c.args.degree.now) (marked_in c.args.nv.now
+      (rows c.args.iw.now c.args.front.now.from m)) lists))
       all (c.loop-p.invariant.linked lists out h));
   lengths = (c.loop-p.invariant.lengths);
 }

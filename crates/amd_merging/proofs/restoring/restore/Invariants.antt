@@ -17,14 +17,18 @@ invariant-loop-p g l = record {
       × (length l.head ≡ length (nexts l.fn.sides))
       × (length (nexts l.sides) ≡ length (nexts l.fn.sides)) × (length (lasts l.sides) ≡ length (nexts l.fn.sides))
       × (length l.hash ≡ bucket_count (length (nexts l.fn.sides)));
-  filters : Filters (length (nexts l.fn.sides)) (in_front l.fn.nv) (λ j. 0) 0 (span l.fn.iw l.from (l.p - l.from)) l.from (sifted l.iw l.end 0);
-  restores : Restores (rows l.fn.iw l.from (l.p - l.from)) l.border l.left l.least l.fn.nv l.fn.degree l.nv l.degree l.low;
-  lasts_kept : (x : ℕ) → has (rows l.fn.iw l.from l.count) x ≡ true → has (rows l.fn.iw l.from (l.p - l.from)) x ≡ false →
+  filters : Filters (length (nexts l.fn.sides)) (in_front l.fn.nv) (λ j. 0) 0 (span l.fn.iw l.front.from (l.p - l.front.from))
+      l.front.from (sifted l.iw l.end 0);
+  restores : Restores (rows l.fn.iw l.front.from (l.p - l.front.from)) l.front.border l.front.left l.least l.fn.nv l.fn.degree l.nv l.degree
+      l.low;
+  lasts_kept : (x : ℕ) → has (rows l.fn.iw l.front.from l.front.count) x ≡ true →
+      has (rows l.fn.iw l.front.from (l.p - l.front.from)) x ≡ false →
       num (lasts l.sides) x ≡ num (lasts l.fn.sides) x;
-  empties : Emptying (length (nexts l.fn.sides)) l.fn.iw l.from l.fn.hash (l.p - l.from) l.hash;
+  empties : Emptying (length (nexts l.fn.sides)) l.fn.iw l.front.from l.fn.hash (l.p - l.front.from) l.hash;
   linked : (lists : ℕ → List ℕ) → ((b x : ℕ) → b < length (nexts l.fn.sides) → has (lists b) x ≡ true →
-      has (rows l.fn.iw l.from l.count) x ≡ false) →
+      has (rows l.fn.iw l.front.from l.front.count) x ≡ false) →
       DegreeLists (length (nexts l.fn.sides)) l.fn.head (nexts l.fn.sides) (lasts l.fn.sides) l.fn.degree lists →
       DegreeLists (length (nexts l.fn.sides)) l.head (nexts l.sides) (lasts l.sides) l.degree
-      (put_all (bound_in l.border l.left l.fn.nv l.fn.degree) (marked_in l.fn.nv (rows l.fn.iw l.from (l.p - l.from))) lists);
+      (put_all (bound_in l.front.border l.front.left l.fn.nv l.fn.degree) (marked_in l.fn.nv (rows l.fn.iw l.front.from (l.p -
+      l.front.from))) lists);
 }

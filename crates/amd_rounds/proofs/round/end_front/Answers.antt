@@ -5,6 +5,7 @@ use Rattle.amd_words.specs.Sides.{nexts, lasts}
 use Rattle.amd_words.specs.Words.{num, start, in_front}
 use Rattle.amd_lists.specs.Layout.{end_of, Layout}
 use Rattle.amd_lists.specs.Chains.{DegreeLists}
+use Rattle.amd_merging.specs.Classes.{lists_of, placing_of}
 use Rattle.amd_merging.specs.Closing.{Closes}
 use Rattle.amd_merging.specs.Premises.{CanRestore}
 use Rattle.amd_merging.specs.Effects.{RestoresFront}
@@ -22,8 +23,10 @@ pub returns : goal.returns
 returns g c =
     let p = c.args.work.now in let v = c.restore-end.new in let at = c.list_lent-from.ensures.list in let s = c.requires.sized in
     let from_is = at.0 in let same = c.list_lent-from.ensures.same in
-    let told : RestoresFront c.args.border p.live p.least (start p.pe.now c.args.me) (num p.len.now c.args.me) p.iw.now p.nv.now
-    p.degree.now p.head.now p.sides.now v.iw v.nv v.degree v.head v.hash v.sides c.restore-end.result.0 c.restore-end.result.1
+    let told : RestoresFront
+    (record { from = start p.pe.now c.args.me; count = num p.len.now c.args.me; border = c.args.border; left = p.live }) p.least
+    p.iw.now (placing_of p.nv.now p.degree.now p.head.now p.sides.now p.hash.now) v.iw
+    (placing_of v.nv v.degree v.head v.sides v.hash) c.restore-end.result.0 c.restore-end.result.1
     = rw (at.0, at.1) at c.restore-end.ensures in
     let n : ℕ = length p.nv.now in let me : ℕ = c.args.me in let iw : List ℤ = p.iw.now in let pe : List ℤ = p.pe.now in
     let e_len : List ℤ = p.e_len.now in let len : List ℕ = p.len.now in let nv : List ℤ = p.nv.now in let free : ℕ = p.free in
@@ -37,8 +40,8 @@ returns g c =
     (subst (λ k. Filters k (in_front nv) (λ j. 0) 0 (span iw from (num len me)) from (sifted v.iw end 0)) s.next
     (subst (λ f. Filters (length (nexts p.sides.now)) (in_front nv) (λ j. 0) 0 (span iw f (num len me)) f (sifted v.iw end 0)) (sym from_is)
     told.filters)) in
-    let closes : Closes n me (in_front nv) iw pe e_len len v.iw e_len' len' free =
-    subst (λ l. Closes n me (in_front nv) iw pe e_len l v.iw e_len' len' free) same_len
+    let closes : Closes n me (in_front nv) free (lists_of iw pe e_len len) (lists_of v.iw pe e_len' len') =
+    subst (λ l. Closes n me (in_front nv) free (lists_of iw pe e_len l) (lists_of v.iw pe e_len' len')) same_len
     (c.close.ensures.closes n (in_front nv) (λ j. 0) 0 0 iw v.iw pe free (sym from_is) h.front.starts filters
     (subst (λ l. Layout n iw pe e_len l free) (sym same_len) h.front.laid)) in
     let count : num len' me ≡ end - from = ap (λ l. num l me) c.close.ensures.lengths ∙ get_or-set_same mid_len me (end - from) 0
@@ -64,7 +67,8 @@ returns g c =
         bounds = v.degree;
         restores = told.placed;
         degrees = c.close.ensures.borders;
-        closes = closes;
+        closes = subst (λ q. Closes n me (in_front nv) free (lists_of iw pe e_len len) (lists_of v.iw q e_len' len'))
+            (sym same_pe) closes;
         counts = c.close.ensures.counts;
         free_is = free_is ∙ ap (λ q. cond c.args.is_built (end_of q len' me) free) (sym same_pe);
         laid = subst (λ q. Layout n v.iw q e_len' len' c.if-is_built.free) (sym same_pe) laid;
@@ -109,12 +113,12 @@ pub restore-end-requires : goal.restore-end-requires
 restore-end-requires g c =
     let s = c.requires.sized in let h = c.requires.front in let w = c.requires.wide in let f = h.front in let p = c.args.work.now in
     let n = sym s.next in let k = s.next in let q = f.within in let at = c.list_lent-from.ensures.list in
-    let ready : CanRestore g.S.Signed.MOST g.U.Unsigned.MOST c.args.border p.live (start p.pe.now c.args.me)
-    (num p.len.now c.args.me) p.iw.now p.nv.now p.degree.now p.head.now p.hash.now p.sides.now
-    = record {
+    let ready : CanRestore g.S.Signed.MOST g.U.Unsigned.MOST
+    (record { from = start p.pe.now c.args.me; count = num p.len.now c.args.me; border = c.args.border; left = p.live }) p.iw.now
+    (placing_of p.nv.now p.degree.now p.head.now p.sides.now p.hash.now) = record {
       lengths = (s.nv ∙ n, s.degree ∙ n, s.head ∙ n, refl, s.last ∙ n, s.hash ∙ ap bucket_count n);
       short = (let a = w.2 in let b = w.3 in ((omega (arith, a, k)), (omega (arith, b, k))));
-      front = (
+      front_is = (
         (let b = f.end in omega (arith, q, b)),
         rw s.next (λ m l. f.laid.words (start p.pe.now c.args.me + m) (omega (arith, q, l))),
         f.once,
@@ -142,8 +146,10 @@ close-requires g c =
     let s = c.requires.sized in let h = c.requires.front in let at = c.list_lent-from.ensures.list in
     let same = c.list_lent-from.ensures.same in
     let p = c.args.work.now in let v = c.restore-end.new in
-    let told : RestoresFront c.args.border p.live p.least (start p.pe.now c.args.me) (num p.len.now c.args.me) p.iw.now p.nv.now
-    p.degree.now p.head.now p.sides.now v.iw v.nv v.degree v.head v.hash v.sides c.restore-end.result.0 c.restore-end.result.1
+    let told : RestoresFront
+    (record { from = start p.pe.now c.args.me; count = num p.len.now c.args.me; border = c.args.border; left = p.live }) p.least
+    p.iw.now (placing_of p.nv.now p.degree.now p.head.now p.sides.now p.hash.now) v.iw
+    (placing_of v.nv v.degree v.head v.sides v.hash) c.restore-end.result.0 c.restore-end.result.1
     = rw (at.0, at.1) at c.restore-end.ensures in let w = c.requires.wide in
     let row = h.front.row in let low = told.filters.low in let from_is = at.0 in record {
       row = (

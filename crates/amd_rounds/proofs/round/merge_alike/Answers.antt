@@ -3,6 +3,7 @@ use Rattle.amd_words.specs.Sides.{nexts, lasts}
 use Rattle.std.proofs.Common.{◌+◌}
 use Rattle.amd_words.specs.Words.{classes, num, start}
 use Rattle.amd_merging.specs.Premises.{CanMergeFront}
+use Rattle.amd_merging.specs.Classes.{classes_of}
 use Rattle.amd_merging.specs.Effects.{MergesClasses}
 use Rattle.amd_lists.specs.Sizes.{bucket_count}
 use Rattle.amd_merging.specs.Merging.{AreRenewed}
@@ -24,8 +25,8 @@ merge_front-work-requires g c =
     let flag = c.renew_flag-flag.ensures in let w = c.requires.wide in let a = front_count f in let k = s.next in
     let at = c.list_lent-from.ensures.list in let same = c.list_lent-from.ensures.same in
     let ready : CanMergeFront g.S.Signed.MOST g.P.Signed.MOST g.U.Unsigned.MOST (start p.pe.now c.args.me) (num p.len.now c.args.me)
-    c.renew_flag-flag.result p.iw.now p.pe.now p.e_len.now p.nv.now p.len.now c.renew_flag-flag.new.w p.hash.now p.sides.now
-    = record {
+    c.renew_flag-flag.result
+    (classes_of p.iw.now p.pe.now p.e_len.now p.nv.now p.len.now c.renew_flag-flag.new.w p.hash.now p.sides.now) = record {
       lengths = (s.pe ∙ n, s.e_len ∙ n, s.nv ∙ n, s.len ∙ n, flag.long ∙ s.w ∙ n, s.hash ∙ ap bucket_count n, refl, s.last ∙ n);
       short = (omega (arith, w, k), omega (arith, w, k), omega (arith, w, k));
       front = (
@@ -34,8 +35,9 @@ merge_front-work-requires g c =
         f.once,
       );
       few = omega (arith, a, k);
-      classes_are = subst (λ n. AreRenewed n p.iw.now p.pe.now p.e_len.now p.len.now p.nv.now c.renew_flag-flag.new.w
-          (lasts p.sides.now) (classes p.nv.now (front_at (workspace_of p) c.args.me))) n
+      classes_are = subst (λ n. AreRenewed n
+          (classes_of p.iw.now p.pe.now p.e_len.now p.nv.now p.len.now c.renew_flag-flag.new.w p.hash.now p.sides.now) (classes p.nv.now
+          (front_at (workspace_of p) c.args.me))) n
           (renewed_zeros flag.zeros h.renewed);
       under = flag.under;
       room = (let x = s.w in let r = flag.room in omega (arith, a, x, r));
@@ -47,14 +49,15 @@ pub returns : goal.returns
 returns g c =
     let p = c.args.work.now in let v = c.merge_front-work.new in let at = c.list_lent-from.ensures.list in
     let was = c.list_lent-from.ensures.same in let kept = c.merge_front-work.ensures.same in
-    let told : MergesClasses (start p.pe.now c.args.me) (num p.len.now c.args.me) c.renew_flag-flag.result p.iw.now p.pe.now
-    p.e_len.now p.nv.now p.len.now c.renew_flag-flag.new.w p.sides.now v.pe v.e_len v.nv v.w v.hash v.sides c.merge_front-work.result
+    let told : MergesClasses (start p.pe.now c.args.me) (num p.len.now c.args.me) c.renew_flag-flag.result
+    (classes_of p.iw.now p.pe.now p.e_len.now p.nv.now p.len.now c.renew_flag-flag.new.w p.hash.now p.sides.now)
+    (classes_of v.iw v.pe v.e_len v.nv v.len v.w v.hash v.sides) c.merge_front-work.result
     = rw (at.0, at.1, was.0, was.1) at c.merge_front-work.ensures.merges in
     let same : (v.iw ≡ p.iw.now) × (v.len ≡ p.len.now) = (kept.0, kept.1 ∙ was.1) in let s = c.requires.sized in
-    let l = told.lengths in
+    let l = told.lengths in let m = told.merges.merged in
     record {
       merges = record {
-        merged = told.merges.merged;
+        merged = record { sizes = m.sizes; links = m.links; lists = m.lists; front = m.front; nexts = m.nexts };
         made = told.merges.made;
         heads = λ b k m. let n = s.next in
             told.merges.heads b (lt_of_lt_of_le k (le_of_eq (ap bucket_count (sym n)))) (omega (arith, n, m));
