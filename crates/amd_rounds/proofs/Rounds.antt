@@ -6,7 +6,7 @@ use Rattle.amd_model.specs.Run.{last_state}
 use Rattle.amd_model.specs.Quotient.{QuotientGraph, next}
 use Rattle.amd_model.specs.Ordering.{Follows, none, more}
 use Rattle.amd_model.proofs.Listings.Orderings.{follows_more}
-use Rattle.amd_rounds.specs.declared.work.Work.{Work}
+use Rattle.amd_lists.specs.declared.work.Work.{Work}
 use Rattle.amd_round_laws.proofs.Round.Ended.{no_row_is_live}
 use Rattle.amd_lists.specs.Workspaces.{Workspace, KeepsLoans}
 use Rattle.amd_rounds.specs.Views.{view_of}

@@ -3,7 +3,7 @@ use Rattle.std.specs.Prelude.{ℕ, true, false, ◌≡◌, ◌<◌, ◌≤◌, �
 use Rattle.amd_model.specs.Quotient.{has}
 use Rattle.amd_words.specs.Words.{num, word, is_place, size_of, in_front}
 use Rattle.amd_lists.specs.Layout.{has_list, elements_in, Layout, live_words}
-use Rattle.amd_lists.specs.Sizes.{bucket_count}
+use Rattle.amd_lists.specs.Sizes.{bucket_count, IsSized}
 use Rattle.amd_lists.specs.Workspaces.{Workspace}
 
 -- the lists of n rows have no more than nzaat words; each class and what it lists as elements have a list; counters are
