@@ -11,7 +11,7 @@ ghost use Rattle.amd_plain.specs.Rounds.{plain_mass, less, plain_rows_left, Plai
 ghost use Rattle.amd_plain.specs.Keeps.{AreSized, IsIdle, IsMarked};
 
 use crate::marks::{clear_all, touched_by};
-use crate::work::{PlainLists, Scratch};
+use crate::work::{PlainLists, RowCounts, Scratch};
 use std::alloc::{AllocError, Allocator};
 
 /// Writes, for each element of a list, the number of rows of its border: that of block and border less that of its
@@ -177,50 +177,48 @@ fn shorten<A: Allocator>(
 }
 
 /// The new element of the pivot absorbs elements, and the classes of its front keep what is left. The front and the
-/// pivot are marked before; nothing is after. `block` tells the number of rows of the block of each element, and
-/// `whole` that of block and border. `beyond` gets, for each element that holds a class of the front and not the pivot,
-/// the rows of block and border less those of the block and of each class of the front that lists it, 0 at least: in
-/// the rounds that is the number of rows of its border in no class of the front. What `into` and the other places of
-/// `beyond` then hold is left open.
+/// pivot are marked before; nothing is after. `beyond` gets, for each element that holds a class of the front and not
+/// the pivot, the rows of block and border less those of the block and of each class of the front that lists it, 0 at
+/// least: in the rounds that is the number of rows of its border in no class of the front. What `into` and the other
+/// places of `beyond` then hold is left open.
 pub fn absorb<A: Allocator + Copy>(
     alloc: A,
     pivot: usize,
     front: &[usize],
     aggressive: bool,
-    size: &[usize],
-    block: &[usize],
-    whole: &[usize],
+    counts: &RowCounts<'_, '_, '_>,
     lists: &mut PlainLists<A>,
     parent: &mut Vec<Option<usize>, A>,
     scratch: &mut Scratch<A>,
 ) -> Result<(), AllocError>
-    requires fronts { (length block.now ≡ length size.now) × (length whole.now ≡ length size.now) }
-    requires lists { AreSized (length size.now) lists.old }
-    requires pivot { (pivot < length size.now) × (has front.now pivot ≡ false) }
-    requires range { Below (length size.now) front.now }
+    requires fronts { (length counts.now.block.now ≡ length counts.now.size.now) ×
+        (length counts.now.whole.now ≡ length counts.now.size.now) }
+    requires lists { AreSized (length counts.now.size.now) lists.old }
+    requires pivot { (pivot < length counts.now.size.now) × (has front.now pivot ≡ false) }
+    requires range { Below (length counts.now.size.now) front.now }
     requires once { Once front.now }
-    requires parent { length parent.old.items ≡ length size.now }
-    requires marked { IsMarked (length size.now) pivot front.now scratch.old }
-    ensures absorbed { OnOk result (PlainAbsorbed aggressive pivot front.now size.now block.now whole.now lists.old
-        lists.new parent.old.items parent.new.items scratch.new.beyond.items) }
-    ensures lists { OnOk result (AreSized (length size.now) lists.new) }
-    ensures parent { OnOk result (length parent.new.items ≡ length size.now) }
-    ensures idle { OnOk result (IsIdle (length size.now) scratch.new) }
+    requires parent { length parent.old.items ≡ length counts.now.size.now }
+    requires marked { IsMarked (length counts.now.size.now) pivot front.now scratch.old }
+    ensures absorbed { OnOk result (PlainAbsorbed aggressive pivot front.now counts.now.size.now counts.now.block.now
+        counts.now.whole.now lists.old lists.new parent.old.items parent.new.items scratch.new.beyond.items) }
+    ensures lists { OnOk result (AreSized (length counts.now.size.now) lists.new) }
+    ensures parent { OnOk result (length parent.new.items ≡ length counts.now.size.now) }
+    ensures idle { OnOk result (IsIdle (length counts.now.size.now) scratch.new) }
 {
     let touched = touched_by(alloc, pivot, front, &lists.elements, &mut scratch.elements)?;
     count_beyond(
         &touched,
         front,
         &lists.elements,
-        size,
-        block,
-        whole,
+        counts.size,
+        counts.block,
+        counts.whole,
         &mut scratch.beyond,
     );
     spare(&touched, &scratch.beyond, aggressive, &mut scratch.elements);
     adopt(pivot, &lists.elements[pivot], &scratch.elements, parent);
     adopt(pivot, &touched, &scratch.elements, parent);
-    shorten(front, size, &scratch.rows, &scratch.elements, lists);
+    shorten(front, counts.size, &scratch.rows, &scratch.elements, lists);
     clear_all(&mut scratch.elements, &lists.elements[pivot]);
     clear_all(&mut scratch.elements, &touched);
     clear_all(&mut scratch.rows, front);

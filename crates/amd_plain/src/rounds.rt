@@ -17,7 +17,7 @@ use crate::bounds::{renew_bounds, renew_lists};
 use crate::by_bound::{choose, place_all};
 use crate::marks::front_of;
 use crate::merging::{join, made_of, representatives};
-use crate::work::PlainWork;
+use crate::work::{PlainWork, RowCounts};
 use amd_types::amd::Control;
 use std::alloc::{AllocError, Allocator};
 
@@ -46,9 +46,11 @@ fn make_element<A: Allocator + Copy>(
         pivot,
         &front,
         aggressive,
-        &work.size,
-        &work.block,
-        &work.front,
+        &RowCounts {
+            size: &work.size,
+            block: &work.block,
+            whole: &work.front,
+        },
         &mut work.lists,
         &mut work.parent,
         &mut work.scratch,

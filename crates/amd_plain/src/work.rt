@@ -17,6 +17,17 @@ pub struct PlainLists<A: Allocator> {
     pub members: Vec<Vec<usize, A>, A>,
 }
 
+/// How many rows the classes and the elements have, as a round reads it.
+#[derive(Drop)]
+pub struct RowCounts<'a, 'b, 'c> {
+    /// The number of rows of each class.
+    pub size: &'a [usize],
+    /// The number of rows of the block of each element.
+    pub block: &'b [usize],
+    /// The number of rows of block and border of each element.
+    pub whole: &'c [usize],
+}
+
 /// Room for a round: marks, which are clear between rounds, groups, which are empty then, and numbers that mean nothing
 /// then.
 #[derive(Drop)]

@@ -16,40 +16,41 @@ use Rattle.amd_plain.proofs.absorption.absorb.Goals as goal
 pub count_beyond-requires-clause-range : goal.count_beyond-requires-clause-range
 count_beyond-requires-clause-range g c =
     let elements = c.args.lists.now.elements.items in
-    let below = touched_below (length c.args.size.now) elements (has (list_at elements c.args.pivot)) c.args.front.now
+    let below = touched_below (length c.args.counts.now.size.now) elements (has (list_at elements c.args.pivot)) c.args.front.now
     c.in_ok-touched.touched.items c.requires.lists.elements c.in_ok-touched.ensures.list in
     rw c.deref.ensures.value below
 
 pub spare-requires-clause-range : goal.spare-requires-clause-range
 spare-requires-clause-range g c =
     let elements = c.args.lists.now.elements.items in
-    let below = touched_below (length c.args.size.now) elements (has (list_at elements c.args.pivot)) c.args.front.now
+    let below = touched_below (length c.args.counts.now.size.now) elements (has (list_at elements c.args.pivot)) c.args.front.now
     c.in_ok-touched.touched.items c.requires.lists.elements c.in_ok-touched.ensures.list in
-    let room : length c.deref-3.result.now ≡ length c.args.size.now = ap length c.deref-3.ensures.value ∙ c.count_beyond.ensures.size ∙
-    c.requires.marked.beyond in
+    let room : length c.deref-3.result.now ≡ length c.args.counts.now.size.now = ap length c.deref-3.ensures.value ∙
+    c.count_beyond.ensures.size ∙ c.requires.marked.beyond in
     rw (c.deref-2.ensures.value, room) below
 
 pub adopt-requires-2-clause-range : goal.adopt-requires-2-clause-range
 adopt-requires-2-clause-range g c =
     let elements = c.args.lists.now.elements.items in
-    let below = touched_below (length c.args.size.now) elements (has (list_at elements c.args.pivot)) c.args.front.now
+    let below = touched_below (length c.args.counts.now.size.now) elements (has (list_at elements c.args.pivot)) c.args.front.now
     c.in_ok-touched.touched.items c.requires.lists.elements c.in_ok-touched.ensures.list in
-    let room : length c.deref-7.result.now ≡ length c.args.size.now = ap length c.deref-7.ensures.value ∙ c.spare.ensures.size ∙
+    let room : length c.deref-7.result.now ≡ length c.args.counts.now.size.now = ap length c.deref-7.ensures.value ∙ c.spare.ensures.size ∙
     c.in_ok-touched.ensures.size ∙ c.requires.marked.elements.0 in
     rw (c.deref-6.ensures.value, room) below
 
 pub clear_all-requires-2 : goal.clear_all-requires-2
 clear_all-requires-2 g c =
     let elements = c.args.lists.now.elements.items in
-    let below = touched_below (length c.args.size.now) elements (has (list_at elements c.args.pivot)) c.args.front.now
+    let below = touched_below (length c.args.counts.now.size.now) elements (has (list_at elements c.args.pivot)) c.args.front.now
     c.in_ok-touched.touched.items c.requires.lists.elements c.in_ok-touched.ensures.list in
-    let room : length c.clear_all.new.marks.items ≡ length c.args.size.now = c.clear_all.ensures.size ∙ c.spare.ensures.size ∙
+    let room : length c.clear_all.new.marks.items ≡ length c.args.counts.now.size.now = c.clear_all.ensures.size ∙ c.spare.ensures.size ∙
     c.in_ok-touched.ensures.size ∙ c.requires.marked.elements.0 in
     rw (c.deref-11.ensures.value, room) (record { range = below })
 
 pub returns : goal.returns
 returns g c =
-    let r = c.requires in let p : ℕ = c.args.pivot in let front : List ℕ = c.args.front.now in let size : List ℕ = c.args.size.now in
+    let r = c.requires in let p : ℕ = c.args.pivot in let front : List ℕ = c.args.front.now in
+    let size : List ℕ = c.args.counts.now.size.now in
     let elements = c.args.lists.now.elements.items in let members = c.args.lists.now.members.items in
     let variables = c.args.lists.now.variables.items in
     let touched : List ℕ = c.in_ok-touched.touched.items in let own : List ℕ = list_at elements p in
@@ -142,7 +143,7 @@ clear_all-requires-3 g c = record { range = subst (λ n. Below n c.args.front.no
 
 pub clear_all-requires : goal.clear_all-requires
 clear_all-requires g c = record {
-  range = read_below (length c.args.size.now) (length c.spare.new.taken.items) c.shorten.new.lists.elements.items c.args.pivot
+  range = read_below (length c.args.counts.now.size.now) (length c.spare.new.taken.items) c.shorten.new.lists.elements.items c.args.pivot
       c.index-2.result.now c.deref-10.result.now c.shorten.ensures.elements c.requires.pivot.0 c.index-2.ensures c.deref-10.ensures.value
       (c.spare.ensures.size ∙ c.in_ok-touched.ensures.size ∙ c.requires.marked.elements.0);
 }
@@ -167,7 +168,7 @@ shorten-requires-clause-lengths g c = (
 
 pub adopt-requires-clause-range : goal.adopt-requires-clause-range
 adopt-requires-clause-range g c =
-    read_below (length c.args.size.now) (length c.deref-5.result.now) c.args.lists.now.elements.items c.args.pivot
+    read_below (length c.args.counts.now.size.now) (length c.deref-5.result.now) c.args.lists.now.elements.items c.args.pivot
     c.index.result.now c.deref-4.result.now c.requires.lists.elements c.requires.pivot.0 c.index.ensures c.deref-4.ensures.value
     (ap length c.deref-5.ensures.value ∙ c.spare.ensures.size ∙ c.in_ok-touched.ensures.size ∙ c.requires.marked.elements.0)
 
