@@ -9,9 +9,9 @@ ghost use Rattle.amd_elements.specs.Premises.{CanBeginOwn, CanMakeElement};
 ghost use Rattle.amd_lists.specs.Workspaces.{KeepsLoans, workspace_of};
 
 use crate::element::build;
-use amd_lists::lent::named_lent;
 use crate::making::{absorb_own, settle};
 use crate::own_place::make_own;
+use amd_lists::lent::named_lent;
 use amd_lists::work::Work;
 use amd_words::words::{put_row, size_inside};
 use amd_words::{Signed, Unsigned, Word};
