@@ -1,23 +1,49 @@
-// How many entries each column of a factor has, and what the factor needs, without its columns: the input is tested as
-// for `columns`, the lists of earlier and of later neighbours are made, and `counted` counts. Source: Liu 1986;
-// Gilbert, Ng and Peyton 1994; AMD user guide (the figures of `Info`).
+// How many entries each column of a factor has, and what the factor needs: the input is tested as for `columns`, and
+// columns are made that share entries (`sharing`). Where these take too much room, the lists of earlier and of later
+// neighbours are made, and `counted` counts. Source: Sherman 1975; Liu 1986; Gilbert, Ng and Peyton 1994; AMD user
+// guide (the figures of `Info`).
 
-ghost use Rattle.std.specs.Prelude.{◌≡◌, pos, map, IfOk, IfErr};
-ghost use Rattle.amd_model.specs.Input.Columns.{IsColumnForm};
-ghost use Rattle.amd_model.specs.Input.Pattern.{graph_of};
+ghost use Rattle.std.specs.Prelude.{pos, map, IfOk, IfErr, MatchOption};
 ghost use Rattle.amd_factor.specs.Orders.{Order};
-ghost use Rattle.amd_types.specs.Naturals.{naturals};
+ghost use Rattle.amd_factor.specs.Within.{IsPosed};
 ghost use Rattle.amd_factor.specs.Counted.{IsCountsFault, IsCountsOf};
 
 use crate::counted::{Counts, empty_counts, written_counts};
 use crate::entrance::rows_of;
 use crate::factor::{Fault, fault_for};
+use crate::neighbours::later_lists;
 use crate::ordering::ordered_lists;
+use crate::places::places;
+use crate::sharing::shared_counts;
 use amd_types::index::Index;
 use num_traits::PrimInt;
 use std::alloc::Allocator;
 
-/// The counts of a column form with `size` rows and columns.
+/// The counts of a column form with `size` rows and columns, whose columns share entries; none where they take more
+/// room than they are given. The lists and the room are given back.
+fn form_shared<I: Index, A: Allocator + Copy>(
+    alloc: A,
+    size: usize,
+    a_p: &[I],
+    a_i: &[I],
+    p: &[I],
+) -> Result<Option<Counts<A>>, Fault>
+    ghost o: { Order }
+    requires posed { IsPosed o size (map I.value a_p.now) (map I.value a_i.now) (map I.value p.now) }
+    ensures counts { IfOk result (λ r. MatchOption r (Unit {0}) (λ c. IsCountsOf (pos size) (map I.value a_p.now)
+        (map I.value a_i.now) (map I.value p.now) c.sizes.items c.parent.items c.need)) }
+    ensures fault { IfErr result (λ e. IsCountsFault (pos size) (map I.value a_p.now) (map I.value a_i.now)
+        (map I.value p.now) e) }
+{
+    let Some(places) = places(alloc, size, p)? else {
+        return Err(Fault::NotPermutation);
+    };
+    let lists = later_lists(alloc, size, a_p, a_i, &places)?;
+    Ok(shared_counts(alloc, &lists.starts, &lists.neighbours)?)
+}
+
+/// The counts of a column form with `size` rows and columns: by columns that share entries, or where these would take
+/// too much room, by the elimination tree and the meetings of arcs.
 fn form_counts<I: Index, A: Allocator + Copy>(
     alloc: A,
     size: usize,
@@ -26,14 +52,15 @@ fn form_counts<I: Index, A: Allocator + Copy>(
     p: &[I],
 ) -> Result<Counts<A>, Fault>
     ghost o: { Order }
-    requires form { IsColumnForm (pos size) size (map I.value a_p.now) (map I.value a_i.now) }
-    requires graph { o.graph ≡ graph_of size (map I.value a_p.now) (map I.value a_i.now) }
-    requires rows { o.rows ≡ naturals (map I.value p.now) }
+    requires posed { IsPosed o size (map I.value a_p.now) (map I.value a_i.now) (map I.value p.now) }
     ensures counts { IfOk result (λ c. IsCountsOf (pos size) (map I.value a_p.now) (map I.value a_i.now)
         (map I.value p.now) c.sizes.items c.parent.items c.need) }
     ensures fault { IfErr result (λ e. IsCountsFault (pos size) (map I.value a_p.now) (map I.value a_i.now)
         (map I.value p.now) e) }
 {
+    if let Some(counts) = form_shared(alloc, size, a_p, a_i, p)? {
+        return Ok(counts);
+    }
     let mut lists = ordered_lists(alloc, size, a_p, a_i, p)?;
     Ok(written_counts(alloc, &mut lists.starts, &mut lists.neighbours)?)
 }
@@ -68,9 +95,12 @@ pub fn matrix_counts<I: Index, A: Allocator + Copy>(
 /// parents; the sum of the sizes is the room that `columns` needs. For `n = 0` the pointers and row indices are not
 /// looked at, and `p` must be empty.
 ///
-/// No entry is written: beside the lists of neighbours, a few numbers a row are taken, all of them before the first
-/// count. The steps are as many as there are rows and entries of the matrix, times at most the logarithm of the number
-/// of rows.
+/// A column with nothing new has the entries of a child where they stand; only another one is written. There is room
+/// for eight numbers for each arc, that is, for each pair of rows that an entry off the diagonal joins, and for each
+/// row. This memory is asked for before the first column, whatever is used of it. Where it is not enough, or where more
+/// rows than that have to be marked again, it is given back, and the arcs are counted by their meetings in the
+/// elimination tree: then no entry is written, and beside the lists of neighbours a few numbers a row are taken. So the
+/// steps are as many as there are rows and entries of the matrix, times at most the logarithm of the number of rows.
 ///
 /// # Errors
 ///
@@ -81,7 +111,7 @@ pub fn matrix_counts<I: Index, A: Allocator + Copy>(
 ///
 /// `OutOfMemory` where an allocation was refused. It may come in place of the second. No other fault.
 ///
-/// Source: Rose, Tarjan and Lueker 1976; Liu 1986; Gilbert, Ng and Peyton 1994.
+/// Source: Rose, Tarjan and Lueker 1976; Sherman 1975; Liu 1986; Gilbert, Ng and Peyton 1994.
 pub fn counts<I: PrimInt, A: Allocator + Copy>(
     alloc: A,
     n: I,

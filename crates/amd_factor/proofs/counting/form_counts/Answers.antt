@@ -3,7 +3,7 @@ use Rattle.amd_factor.proofs.Calls.ColumnParts.{laws, earlier_of}
 use Rattle.amd_factor.proofs.counting.form_counts.Goals as goal
 
 pub ordered_lists-requires : goal.ordered_lists-requires
-ordered_lists-requires g c = record { form = c.requires.1.1.0 }
+ordered_lists-requires g c = record { form = c.requires.1.1.form }
 
 pub written_counts-requires : goal.written_counts-requires
 written_counts-requires g c κs within =
@@ -12,8 +12,8 @@ written_counts-requires g c κs within =
     let p : List ℤ = map g.I.Index.value c.args.p.now in (
       within,
       (
-        laws c.args.size a_p a_i p g.o c.requires.1.1.1.0 c.requires.1.1.1.1,
-        earlier_of c.args.size a_p a_i p g.o c.requires.1.1.1.0 c.requires.1.1.1.1 c.deref_mut.result.now c.deref_mut-2.result.now
+        laws c.args.size a_p a_i p g.o c.requires.1.1.graph c.requires.1.1.rows,
+        earlier_of c.args.size a_p a_i p g.o c.requires.1.1.graph c.requires.1.1.rows c.deref_mut.result.now c.deref_mut-2.result.now
             (rw (c.deref_mut.ensures.value, c.deref_mut-2.ensures.value) c.in_ok-lists.ensures.lists),
       ),
     )

@@ -25,7 +25,7 @@ form_counts-requires g c κs within =
     let a_p : List ℤ = map g.I.Index.value c.args.a_p.now in
     let a_i : List ℤ = map g.I.Index.value c.args.a_i.now in
     let form = c.in-Ok.ensures.form c.if-size-eq0.false in
-    (within.0, (within.1, (form, (refl, refl))))
+    (within.0, (within.1, record { form = form; graph = refl; rows = refl }))
 
 pub returns-clause-counts : goal.returns-clause-counts
 returns-clause-counts g c =
