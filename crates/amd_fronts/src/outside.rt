@@ -11,8 +11,8 @@ ghost use Rattle.amd_fronts.specs.Effects.{CountsClass, CountsOutside, RenewsFla
 ghost use Rattle.amd_fronts.specs.Premises.{CanCountClass, CanCountFront, CanRenewFlag, CanTouch, CanTouchAll};
 ghost use Rattle.amd_fronts.specs.Tallies.{front_at, tally_of, touched_in};
 
-use amd_lists::lent::{list_lent, named_lent};
 use amd_lists::chains::take_out;
+use amd_lists::lent::{list_lent, named_lent};
 use amd_lists::work::Work;
 use amd_words::sides::Sides;
 use amd_words::words::{named, put_flip, size_inside};

@@ -13,8 +13,8 @@ ghost use Rattle.amd_lists.specs.Workspaces.{KeepsLoans, workspace_of};
 use crate::packing::compact;
 use amd_elements::beginning::{begin_built, begin_own};
 use amd_elements::fitting::has_room;
-use amd_lists::lent::named_lent;
 use amd_lists::chains::choose;
+use amd_lists::lent::named_lent;
 use amd_lists::work::Work;
 use amd_words::{Signed, Unsigned};
 

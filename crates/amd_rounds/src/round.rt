@@ -15,9 +15,9 @@ ghost use Rattle.amd_rounds.specs.Premises.{CanEnd, CanMerge, CanTurn};
 ghost use Rattle.amd_lists.specs.Workspaces.{KeepsLoans, workspace_of};
 
 use crate::pivot::{begin, pick};
-use amd_lists::lent::list_lent;
 use amd_fronts::outside::renew_flag;
 use amd_fronts::turning::turn;
+use amd_lists::lent::list_lent;
 use amd_lists::work::Work;
 use amd_merging::closing::close;
 use amd_merging::merging::merge_front;
