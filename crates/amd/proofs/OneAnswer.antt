@@ -15,6 +15,7 @@ use Rattle.amd_model.specs.Input.Held.{is_held_last}
 use Rattle.amd_model.proofs.Listings.OneOrdering.{one_ordering, figure_same, greatest_same}
 use Rattle.amd_types.specs.Permutations.{AreInverse}
 use Rattle.amd_types.specs.Statuses.{IsStatusOf}
+use Rattle.amd_types.specs.declared.amd.Control.{Control}
 use Rattle.amd_types.specs.declared.amd.Info.{Info}
 use Rattle.amd_types.specs.declared.amd.Status.{Status}
 use Rattle.amd_types.specs.declared.amd.Status.TheVariants.{OK, Invalid, OkButJumbled, OutOfMemory}
@@ -66,31 +67,32 @@ rows_one n g dense aggressive lists p q r s xs ys first other states others info
     )
 
 -- two orderings of one set of pairs, with starting lists in one order and the same rows held last
-orders_one : (hold held : Option (List Bool)) (n : ℕ) (t : ℤ) (aggressive : Bool) (u v : ℕ → ℕ → Bool) (a_p a_i b_p b_i p q r s : List ℤ)
-    (one other : Info) → HoldTheSame hold held n t a_p a_i →
-    ((i j : ℕ) → u i j ≡ v i j) → OrdersMatrix hold n t aggressive u a_p a_i p q one →
-    OrdersMatrix held n t aggressive v b_p b_i r s other → SamePattern n a_p a_i b_p b_i → one.status ≡ other.status →
+orders_one : (hold held : Option (List Bool)) (n : ℕ) (control : Control) (u v : ℕ → ℕ → Bool) (a_p a_i b_p b_i p q r s : List ℤ)
+    (one other : Info) → HoldTheSame hold held n control.dense a_p a_i →
+    ((i j : ℕ) → u i j ≡ v i j) → OrdersMatrix hold n control u a_p a_i p q one →
+    OrdersMatrix held n control v b_p b_i r s other → SamePattern n a_p a_i b_p b_i → one.status ≡ other.status →
     AreOneAnswer p q r s one other
-orders_one hold held n t aggressive u v a_p a_i b_p b_i p q r s one other alike pairs o k same status =
+orders_one hold held n control u v a_p a_i b_p b_i p q r s one other alike pairs o k same status =
     let graph : graph_of n b_p b_i ≡ graph_of n a_p a_i = sym (graph_same n a_p a_i b_p b_i same) in
     let last : is_held_last held (graph_of n b_p b_i) k.threshold ≡ is_held_last hold (graph_of n a_p a_i) o.threshold
     = sym (same_tests (is_held_last hold (graph_of n a_p a_i) o.threshold) (is_held_last held (graph_of n b_p b_i) k.threshold)
-    (last_equal hold held n t a_p a_i b_p b_i o.threshold k.threshold alike same o.is_threshold k.is_threshold)) in
-    let listing : IsListingOf (graph_of n a_p a_i) (is_held_last hold (graph_of n a_p a_i) o.threshold) aggressive (starting_list n u)
-    k.first k.states k.rows =
-    subst (λ x. IsListingOf x (is_held_last hold (graph_of n a_p a_i) o.threshold) aggressive (starting_list n u) k.first k.states k.rows)
-    graph
-    (subst (λ x. IsListingOf (graph_of n b_p b_i) x aggressive (starting_list n u) k.first k.states k.rows) last
-    (subst (λ x. IsListingOf (graph_of n b_p b_i) (is_held_last held (graph_of n b_p b_i) k.threshold) aggressive (starting_list n x)
-    k.first k.states k.rows) (sym (funext2 u v pairs)) k.listing)) in
+    (last_equal hold held n control.dense a_p a_i b_p b_i o.threshold k.threshold alike same o.is_threshold k.is_threshold)) in
+    let listing : IsListingOf (graph_of n a_p a_i) (is_held_last hold (graph_of n a_p a_i) o.threshold) control.aggressive
+    (starting_list n u) k.first k.states k.rows =
+    subst (λ x. IsListingOf x (is_held_last hold (graph_of n a_p a_i) o.threshold) control.aggressive (starting_list n u) k.first k.states
+    k.rows) graph
+    (subst (λ x. IsListingOf (graph_of n b_p b_i) x control.aggressive (starting_list n u) k.first k.states k.rows) last
+    (subst (λ x. IsListingOf (graph_of n b_p b_i) (is_held_last held (graph_of n b_p b_i) k.threshold) control.aggressive
+    (starting_list n x) k.first k.states k.rows) (sym (funext2 u v pairs)) k.listing)) in
     let told : TellsFigures (graph_of n a_p a_i) (is_held_last hold (graph_of n a_p a_i) o.threshold) (last_state k.first k.states) other =
     subst (λ x. TellsFigures x (is_held_last hold (graph_of n a_p a_i) o.threshold) (last_state k.first k.states) other) graph
     (subst (λ x. TellsFigures (graph_of n b_p b_i) x (last_state k.first k.states) other) last k.told) in
-    let rows = rows_one n (graph_of n a_p a_i) (is_held_last hold (graph_of n a_p a_i) o.threshold) aggressive (starting_list n u) p q r s
-    o.rows k.rows o.first k.first o.states k.states one other
+    let rows = rows_one n (graph_of n a_p a_i) (is_held_last hold (graph_of n a_p a_i) o.threshold) control.aggressive
+    (starting_list n u) p q r s o.rows k.rows o.first k.first o.states k.states one other
     o.listed k.listed o.inverse k.inverse o.listing listing o.told told in
-    let of_pattern = wells_equal hold held n t t aggressive aggressive u v a_p a_i b_p b_i p q r s one other o k same in
-    let dense = dense_equal hold held n t aggressive aggressive u v a_p a_i b_p b_i p q r s one other alike o k same in
+    let of_pattern = wells_equal hold held n control control u v a_p a_i b_p b_i p q r s one other o k same in
+    let dense = dense_equal hold held n control.dense control.aggressive control.aggressive u v a_p a_i b_p b_i p q r s one other alike
+    o k same in
     let of_run = rows.2 in
     record {
       order = rows.0;
@@ -132,8 +134,8 @@ answers_alike hold held (pos zero) t aggressive a_p a_i b_p b_i p q r s one othe
       tells = ap {A = Info} (λ x. record x { n_cmp_a = 0 }) (a.fresh ∙ sym b.fresh);
     }
 answers_alike hold held (pos (suc n)) t aggressive a_p a_i b_p b_i p q r s one other alike o k same status =
-    orders_one hold held (suc n) t aggressive (ordered_pairs one.status (suc n) a_p a_i) (ordered_pairs other.status (suc n) b_p b_i) a_p
-    a_i b_p b_i p q r s one other
+    orders_one hold held (suc n) (record { dense = t; aggressive = aggressive }) (ordered_pairs one.status (suc n) a_p a_i)
+    (ordered_pairs other.status (suc n) b_p b_i) a_p a_i b_p b_i p q r s one other
     (alike (λ e. cc))
     (λ i j. pairs_one one.status (suc n) a_p a_i b_p b_i same i j ∙ ap (λ x. ordered_pairs x (suc n) b_p b_i i j) status)
     (o.orders (λ e. cc)) (k.orders (λ e. cc)) same status

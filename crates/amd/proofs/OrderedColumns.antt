@@ -7,6 +7,7 @@ use Rattle.amd_model.specs.Input.Columns.{IsColumnForm, IsInput, IsSorted}
 use Rattle.num_traits.specs.Laws.{Checks}
 use Rattle.amd_model.specs.Input.Held.{HasMarks}
 use Rattle.amd_types.specs.Statuses.{IsStatusOf}
+use Rattle.amd_types.specs.declared.amd.Control.{Control}
 use Rattle.amd_types.specs.declared.amd.Info.{Info}
 use Rattle.amd_types.specs.declared.amd.Status.{Status}
 use Rattle.amd_types.specs.declared.amd.Status.TheVariants.{OK, Invalid, OkButJumbled, OutOfMemory}
@@ -129,22 +130,22 @@ status_sorted hold n z a_p a_i status is h sorted =
     subst (λ m. IsSorted m a_p a_i) (sym (ap unsigned_abs is)) (input_sorted z a_p a_i (here.is (here.marks (λ e. cc))).1)
 
 -- an ordering by the pairs that its status says is one of the input
-pub ordering : (hold : Option (List Bool)) (n : ℕ) (z t : ℤ) (aggressive jumbled : Bool) (a_p a_i p q : List ℤ) (info : Info)
+pub ordering : (hold : Option (List Bool)) (n : ℕ) (z : ℤ) (control : Control) (jumbled : Bool) (a_p a_i p q : List ℤ) (info : Info)
     (status : Status) → pos n ≡ z → HasStatus hold z a_p a_i status → jumbled_by status ≡ Some jumbled → info.status ≡ status →
-    OrdersMatrix hold n t aggressive (pairs_by jumbled n a_p a_i) a_p a_i p q info →
-    IsOrderingHolding hold z t aggressive a_p a_i p q info
-ordering hold n z t aggressive jumbled a_p a_i p q info status is h by told o =
+    OrdersMatrix hold n control (pairs_by jumbled n a_p a_i) a_p a_i p q info →
+    IsOrderingHolding hold z control.dense control.aggressive a_p a_i p q info
+ordering hold n z control jumbled a_p a_i p q info status is h by told o =
     let valid : status ≢ Invalid = jumbled_valid status jumbled by in
     let marks = h.marks valid in
-    let here : OrdersMatrix hold n t aggressive (ordered_pairs info.status n a_p a_i) a_p a_i p q info =
-    subst (λ s. OrdersMatrix hold n t aggressive (ordered_pairs s n a_p a_i) a_p a_i p q info) (sym told)
-    (subst (λ pair. OrdersMatrix hold n t aggressive pair a_p a_i p q info) (pairs_ordered status jumbled by n a_p a_i) o) in
+    let here : OrdersMatrix hold n control (ordered_pairs info.status n a_p a_i) a_p a_i p q info =
+    subst (λ s. OrdersMatrix hold n control (ordered_pairs s n a_p a_i) a_p a_i p q info) (sym told)
+    (subst (λ pair. OrdersMatrix hold n control pair a_p a_i p q info) (pairs_ordered status jumbled by n a_p a_i) o) in
     record {
       nothing = λ e. absurd (h.some e);
       form = λ _. valid_form hold z a_p a_i status h valid;
       marks = λ _. marks;
       status = λ _. subst (IsStatusOf z z a_p a_i) (sym told) (h.is marks);
-      orders = λ _. subst (λ m. OrdersMatrix hold m t aggressive (ordered_pairs info.status m a_p a_i) a_p a_i p q info)
+      orders = λ _. subst (λ m. OrdersMatrix hold m control (ordered_pairs info.status m a_p a_i) a_p a_i p q info)
           (ap unsigned_abs is) here;
     }
 

@@ -23,6 +23,7 @@ use Rattle.amd_model.proofs.Counting.Below.{count_same, sum_same}
 use Rattle.amd_model.specs.Input.Dense.{IsThreshold}
 use Rattle.amd_engine_law.proofs.EnginesAgree.{threshold_one}
 use Rattle.amd_engine_law.specs.Engine.{IsEngineAnswer, with_figures}
+use Rattle.amd_types.specs.declared.amd.Control.{Control}
 use Rattle.amd_types.specs.declared.amd.Info.{Info}
 use Rattle.amd_types.specs.declared.amd.Status.{Status}
 use Rattle.amd.specs.Answers.{OrdersMatrix, TellsFigures, Reserves, FillsNothing, DenseStandLast, IsOrderingHolding, HaveEqualFigures}
@@ -34,10 +35,10 @@ use Rattle.amd_pattern_laws.proofs.SamePairs.{figures_turned, graph_turned, grap
 use Rattle.amd_edges.proofs.Places.{funext2}
 
 -- an ordering of the transpose is one of the matrix
-pub orders_turned : (hold : Option (List Bool)) (n : ℕ) (t : ℤ) (aggressive : Bool) (a_p a_i b_p b_i p q : List ℤ) (info : Info) →
-    IsCleanForm n a_p a_i b_p b_i → OrdersMatrix hold n t aggressive (is_pair n b_p b_i) b_p b_i p q info →
-    OrdersMatrix hold n t aggressive (λ i j. is_pair n a_p a_i j i) a_p a_i p q info
-orders_turned hold n t aggressive a_p a_i b_p b_i p q info clean o =
+pub orders_turned : (hold : Option (List Bool)) (n : ℕ) (control : Control) (a_p a_i b_p b_i p q : List ℤ) (info : Info) →
+    IsCleanForm n a_p a_i b_p b_i → OrdersMatrix hold n control (is_pair n b_p b_i) b_p b_i p q info →
+    OrdersMatrix hold n control (λ i j. is_pair n a_p a_i j i) a_p a_i p q info
+orders_turned hold n control a_p a_i b_p b_i p q info clean o =
     let same : graph_of n b_p b_i ≡ graph_of n a_p a_i = graph_turned n a_p a_i b_p b_i clean.transpose in
     let pairs = funext2 (is_pair n b_p b_i) (λ i j. is_pair n a_p a_i j i) (pairs_turned n a_p a_i b_p b_i clean.transpose) in
     record {
@@ -51,10 +52,10 @@ orders_turned hold n t aggressive a_p a_i b_p b_i p q info clean o =
       listed = o.listed;
       first = o.first;
       states = o.states;
-      listing = subst (λ pair. IsListingOf (graph_of n a_p a_i) (is_held_last hold (graph_of n a_p a_i) o.threshold) aggressive
+      listing = subst (λ pair. IsListingOf (graph_of n a_p a_i) (is_held_last hold (graph_of n a_p a_i) o.threshold) control.aggressive
           (starting_list n pair) o.first o.states o.rows) pairs
-          (subst (λ g. IsListingOf g (is_held_last hold g o.threshold) aggressive (starting_list n (is_pair n b_p b_i)) o.first o.states
-          o.rows) same o.listing);
+          (subst (λ g. IsListingOf g (is_held_last hold g o.threshold) control.aggressive (starting_list n (is_pair n b_p b_i)) o.first
+          o.states o.rows) same o.listing);
       promises = subst (λ g. Promises g (is_held_last hold g o.threshold) o.first o.states o.rows) same o.promises;
       told = subst (λ g. TellsFigures g (is_held_last hold g o.threshold) (last_state o.first o.states) info) same o.told;
       reserves = subst (λ g. Reserves g o.rows info) same o.reserves;
@@ -88,10 +89,10 @@ told_still g dense s info status told = record {
 }
 
 -- and so it orders the matrix whatever status it gets
-pub orders_still : (hold : Option (List Bool)) (n : ℕ) (t : ℤ) (aggressive : Bool) (pair : ℕ → ℕ → Bool) (a_p a_i p q : List ℤ)
-    (info : Info) (status : Status) → OrdersMatrix hold n t aggressive pair a_p a_i p q info →
-    OrdersMatrix hold n t aggressive pair a_p a_i p q (record info { status = status })
-orders_still hold n t aggressive pair a_p a_i p q info status o =
+pub orders_still : (hold : Option (List Bool)) (n : ℕ) (control : Control) (pair : ℕ → ℕ → Bool) (a_p a_i p q : List ℤ)
+    (info : Info) (status : Status) → OrdersMatrix hold n control pair a_p a_i p q info →
+    OrdersMatrix hold n control pair a_p a_i p q (record info { status = status })
+orders_still hold n control pair a_p a_i p q info status o =
     let f = o.figures in
     record {
       inverse = o.inverse;
@@ -175,12 +176,12 @@ figures_stay n a_p a_i g dense s compactions info f = record
     { size = f.size; entries = f.entries; diagonal = f.diagonal; off_diagonal = f.off_diagonal; symmetric = f.symmetric }
 
 -- the answer of an engine, and the figures of the pattern, order the matrix
-pub engine_orders : (hold : Option (List Bool)) (n : ℕ) (t : ℤ) (aggressive : Bool) (a_p a_i p q : List ℤ) (numbers : List ℕ) (total : ℕ)
+pub engine_orders : (hold : Option (List Bool)) (n : ℕ) (control : Control) (a_p a_i p q : List ℤ) (numbers : List ℕ) (total : ℕ)
     (info new : Info) →
     AreDegrees n a_p a_i total numbers → HasPatternFigures n a_p a_i info → total + total / 5 + n < 2 ^ 63 → new.n_cmp_a ≤ n →
-    IsEngineAnswer hold n t aggressive a_p a_i p q info new → OrdersMatrix hold n t aggressive (is_pair n a_p a_i) a_p a_i p q new
+    IsEngineAnswer hold n control a_p a_i p q info new → OrdersMatrix hold n control (is_pair n a_p a_i) a_p a_i p q new
 unfolding graph_of
-engine_orders hold n t aggressive a_p a_i p q numbers total info new degrees f room few o =
+engine_orders hold n control a_p a_i p q numbers total info new degrees f room few o =
     let g : Graph = graph_of n a_p a_i in
     let dense : ℕ → Bool = is_held_last hold (graph_of n a_p a_i) o.threshold in
     let told : TellsFigures (graph_of n a_p a_i) (is_held_last hold (graph_of n a_p a_i) o.threshold) (last_state o.first o.states) new =
@@ -229,12 +230,12 @@ same_truth true false p q = sym (q.1 (p.0 refl))
 same_truth false true p q = p.1 (q.0 refl)
 
 -- orderings of two inputs with the same pairs tell the same of the pattern
-pub wells_equal : (hold held : Option (List Bool)) (n : ℕ) (t m : ℤ) (x y : Bool) (u v : ℕ → ℕ → Bool) (a_p a_i b_p b_i p q r s : List ℤ)
+pub wells_equal : (hold held : Option (List Bool)) (n : ℕ) (x y : Control) (u v : ℕ → ℕ → Bool) (a_p a_i b_p b_i p q r s : List ℤ)
     (one other : Info) →
-    OrdersMatrix hold n t x u a_p a_i p q one → OrdersMatrix held n m y v b_p b_i r s other → SamePattern n a_p a_i b_p b_i →
+    OrdersMatrix hold n x u a_p a_i p q one → OrdersMatrix held n y v b_p b_i r s other → SamePattern n a_p a_i b_p b_i →
     HaveEqualFigures one other
 unfolding graph_of pair_count diagonal_count
-wells_equal hold held n t m x y u v a_p a_i b_p b_i p q r s one other o k same =
+wells_equal hold held n x y u v a_p a_i b_p b_i p q r s one other o k same =
     let pairs = pairs_same n a_p a_i b_p b_i same in
     let graph = graph_same n a_p a_i b_p b_i same in
     let f = o.figures in let h = k.figures in
@@ -266,7 +267,8 @@ last_equal hold held n t a_p a_i b_p b_i x y alike same is_x is_y v =
 
 pub dense_equal : (hold held : Option (List Bool)) (n : ℕ) (t : ℤ) (x y : Bool) (u v : ℕ → ℕ → Bool) (a_p a_i b_p b_i p q r s : List ℤ)
     (one other : Info) → HoldTheSame hold held n t a_p a_i →
-    OrdersMatrix hold n t x u a_p a_i p q one → OrdersMatrix held n t y v b_p b_i r s other → SamePattern n a_p a_i b_p b_i →
+    OrdersMatrix hold n (record { dense = t; aggressive = x }) u a_p a_i p q one →
+    OrdersMatrix held n (record { dense = t; aggressive = y }) v b_p b_i r s other → SamePattern n a_p a_i b_p b_i →
     one.n_dense ≡ other.n_dense
 unfolding graph_of
 dense_equal hold held n t x y u v a_p a_i b_p b_i p q r s one other alike o k same =
@@ -287,8 +289,9 @@ figures_equal hold held (pos zero) t m x y a_p a_i b_p b_i p q r s one other o k
       off_diagonal = ap (λ x. x.nz_a_plus_at) e;
     }
 figures_equal hold held (pos (suc n)) t m x y a_p a_i b_p b_i p q r s one other o k same =
-    wells_equal hold held (suc n) t m x y (ordered_pairs one.status (suc n) a_p a_i) (ordered_pairs other.status (suc n) b_p b_i) a_p a_i
-    b_p b_i p q r s one other (o.orders (λ e. cc)) (k.orders (λ e. cc)) same
+    wells_equal hold held (suc n) (record { dense = t; aggressive = x }) (record { dense = m; aggressive = y })
+    (ordered_pairs one.status (suc n) a_p a_i) (ordered_pairs other.status (suc n) b_p b_i) a_p a_i b_p b_i p q r s one other
+    (o.orders (λ e. cc)) (k.orders (λ e. cc)) same
 figures_equal hold held (negsuc n) t m x y a_p a_i b_p b_i p q r s one other o k same = absurd (o.form (λ e. cc))
 
 pub dense_rows_equal : (hold : Option (List Bool)) (n t : ℤ) (x y : Bool) (a_p a_i b_p b_i p q r s : List ℤ) (one other : Info) →

@@ -19,6 +19,7 @@ use Rattle.amd_model.specs.Input.Held.{HasMarks, is_held_last}
 use Rattle.amd_types.specs.Statuses.{IsStatusOf}
 use Rattle.amd_types.specs.Permutations.{AreInverse}
 use Rattle.amd_types.specs.Records.{fresh_info}
+use Rattle.amd_types.specs.declared.amd.Control.{Control}
 use Rattle.amd_types.specs.declared.amd.Info.{Info}
 use Rattle.amd_types.specs.declared.amd.Status.{Status}
 use Rattle.amd_types.specs.declared.amd.Status.TheVariants.{OK, Invalid, OkButJumbled, OutOfMemory}
@@ -63,25 +64,23 @@ pub record FillsNothing (g : Graph) (p : List ℕ) (info : Info) : Type 0 where
   pub count : info.lnz ≡ info.nz_a_plus_at / 2
   pub entry : EntriesAreEdges g p
 
--- what an ordering of a matrix with n rows and a dense row parameter of t thousandths promises, where the marked rows
--- are held last beside the dense ones; the pairs order the starting lists
-pub record OrdersMatrix (hold : Option (List Bool)) (n : ℕ) (t : ℤ) (aggressive : Bool) (pair : ℕ → ℕ → Bool)
-    (ap ai p q : List ℤ)
-    (info : Info) : Type 0 where
+-- what an ordering of a matrix with n rows promises, where the marked rows are held last beside those that are dense by
+-- the control; the pairs order the starting lists
+pub record OrdersMatrix (hold : Option (List Bool)) (n : ℕ) (control : Control) (pair : ℕ → ℕ → Bool)
+    (ap ai p q : List ℤ) (info : Info) : Type 0 where
   pub inverse : AreInverse n p q
   pub figures : HasPatternFigures n ap ai info
   pub compactions : info.n_cmp_a ≤ n
   pub threshold : ℕ
-  pub is_threshold : IsThreshold n t threshold
+  pub is_threshold : IsThreshold n control.dense threshold
   pub dense : DenseStandLast (graph_of n ap ai) (is_held_last hold (graph_of n ap ai) threshold) p info.n_dense
   -- p lists the assembly tree of a run of least bounds in postorder, the rows held last at the end
   pub rows : List ℕ
   pub listed : p ≡ map pos rows
   pub first : State
   pub states : List State
-  pub listing : IsListingOf (graph_of n ap ai) (is_held_last hold (graph_of n ap ai) threshold) aggressive
-      (starting_list n pair) first
-      states rows
+  pub listing : IsListingOf (graph_of n ap ai) (is_held_last hold (graph_of n ap ai) threshold) control.aggressive
+      (starting_list n pair) first states rows
   -- and with this run: paths, bounds, the tree, the columns, forests; its figures; and what they reserve
   pub promises : Promises (graph_of n ap ai) (is_held_last hold (graph_of n ap ai) threshold) first states rows
   pub told : TellsFigures (graph_of n ap ai) (is_held_last hold (graph_of n ap ai) threshold) (last_state first states)
@@ -107,7 +106,7 @@ pub record IsOrderingHolding (hold : Option (List Bool)) (n t : ℤ) (aggressive
   pub form : n ≢ pos 0 → IsInput n n ap ai
   pub marks : n ≢ pos 0 → HasMarks hold (unsigned_abs n)
   pub status : n ≢ pos 0 → IsStatusOf n n ap ai info.status
-  pub orders : n ≢ pos 0 → OrdersMatrix hold (unsigned_abs n) t aggressive
+  pub orders : n ≢ pos 0 → OrdersMatrix hold (unsigned_abs n) (record { dense = t; aggressive = aggressive })
       (ordered_pairs info.status (unsigned_abs n) ap ai) ap ai p q info
 
 -- an answer where no row is marked: the rows held last are the dense ones

@@ -8,6 +8,7 @@ use Rattle.amd_model.specs.Input.Held.{HasMarks}
 use Rattle.amd_model.specs.Input.Pattern.{is_pair}
 use Rattle.amd_lists.specs.Sizes.{AreWideEnough}
 use Rattle.amd_types.specs.Naturals.{naturals}
+use Rattle.amd_input.specs.Degrees.{AreDegrees}
 use Rattle.amd_workspace.specs.Lists.{HasRoom}
 use Rattle.amd_workspace.specs.declared.lists.Memory.{Memory}
 use Rattle.amd.specs.Answers.{IsInputHolding}
@@ -36,6 +37,14 @@ pub record IsGiven (hold : Option (List Bool)) (jumbled : Bool) (ap ai : List �
   pub form : IsColumnForm (pos n) n ap ai
   pub sorted : jumbled ≡ false → IsSorted n ap ai
   pub marks : HasMarks hold n
+
+-- the degrees of a matrix with n rows are counted: so many words hold its lists, and their sum, with a fifth more and n
+-- words, is at most the greatest `isize`
+pub record AreCounted (n : ℕ) (ap ai : List ℤ) (words : ℕ) (degrees : List ℕ) : Type 0 where
+  pub sum : ℕ
+  pub degrees_are : AreDegrees n ap ai sum degrees
+  pub held : sum + n ≤ words
+  pub few : sum + sum / 5 + n < 2 ^ 63
 
 -- how many words the lists of n rows take for that many entries
 abbrev pub list_words : ℕ → ℕ → ℕ

@@ -10,6 +10,7 @@ ghost use Rattle.amd.specs.Workspaces.{IsMadeFor};
 use crate::entrance::jumbled_of;
 use crate::lent::{fours, is_narrow, workspace_bytes};
 use crate::refusal::Refusal;
+use crate::request::Request;
 use crate::widths::WorkspaceIn;
 use crate::workspace::{Widths, valid_rows};
 use amd_lent::{Lodged, Piece};
@@ -87,6 +88,7 @@ pub fn order_in_block<I: PrimInt>(
         return Err(Refusal::TooLarge);
     };
     info.status = status;
-    widths.order(a_p, a_i, jumbled, control, hold, p, p_inv, &mut info);
+    let request = Request { control, hold };
+    widths.order(a_p, a_i, jumbled, &request, p, p_inv, &mut info);
     Ok(info)
 }

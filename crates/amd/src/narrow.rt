@@ -15,6 +15,7 @@ ghost use Rattle.amd.specs.Within.{IsGiven, IsIntoRefusal, pairs_by};
 
 use crate::entrance::jumbled_of;
 use crate::once::{most_words, order_once};
+use crate::request::Request;
 use crate::within::count_degrees;
 use crate::workspace::valid_rows;
 use amd_engine::amd_1::{ask_for_most, holds, order_within_lent};
@@ -36,19 +37,18 @@ fn order_counted<J: Index, A: Allocator + Copy>(
     memory: &mut Memory<i32, i32, u32, A>,
     a_p: &[J],
     a_i: &[J],
-    control: &Control,
-    hold: Option<&[bool]>,
+    request: &Request<'_>,
     p: &mut [i32],
     p_inv: &mut [i32],
 ) -> Result<Info, AllocError>
-    requires given { IsGiven (option_copied hold) false (map J.value a_p.now) (map J.value a_i.now) (length p.old)
-        (length p_inv.old) }
+    requires given { IsGiven (option_copied request.now.hold) false (map J.value a_p.now) (map J.value a_i.now)
+        (length p.old) (length p_inv.old) }
     requires room { HasRoomBeside (length p.old) 0 memory.old }
     requires narrow { AreWideEnough 2147483647 2147483647 4294967295 (length p.old)
         (2 * slice_index (naturals (map J.value a_p.now)) (length p.old)
         + 2 * slice_index (naturals (map J.value a_p.now)) (length p.old) / 5 + length p.old) }
-    ensures orders { IfOk result (OrdersMatrix (option_copied hold.entry) (length p.old) control.now.dense
-        control.now.aggressive (is_pair (length p.old) (map J.value a_p.now) (map J.value a_i.now))
+    ensures orders { IfOk result (OrdersMatrix (option_copied request.now.hold) (length p.old)
+        request.now.control.now (is_pair (length p.old) (map J.value a_p.now) (map J.value a_i.now))
         (map J.value a_p.now) (map J.value a_i.now) (values p.new) (values p_inv.new)) }
     ensures kept { IfErr result (λ e. (p.new ≡ p.old) × (p_inv.new ≡ p_inv.old)) }
 {
@@ -58,8 +58,8 @@ fn order_counted<J: Index, A: Allocator + Copy>(
     let room = nzaat + nzaat / 5 + size;
     memory.words.iw = Vec::with_capacity(alloc, room)?;
     let choice = Choice {
-        control,
-        hold,
+        control: request.control,
+        hold: request.hold,
         flag: 2,
     };
     order_within_lent(memory, a_p, a_i, room, &choice, p, p_inv, &mut info);
@@ -76,25 +76,24 @@ fn order_in<A: Allocator + Copy>(
     a_p: &[i32],
     a_i: &[i32],
     jumbled: bool,
-    control: &Control,
-    hold: Option<&[bool]>,
+    request: &Request<'_>,
     p: &mut [i32],
     p_inv: &mut [i32],
 ) -> Result<Info, AllocError>
-    requires given { IsGiven (option_copied hold) jumbled (values a_p.now) (values a_i.now) (length p.old)
-        (length p_inv.old) }
+    requires given { IsGiven (option_copied request.now.hold) jumbled (values a_p.now) (values a_i.now)
+        (length p.old) (length p_inv.old) }
     requires narrow { AreWideEnough 2147483647 2147483647 4294967295 (length p.old)
         (2 * slice_index (naturals (values a_p.now)) (length p.old)
         + 2 * slice_index (naturals (values a_p.now)) (length p.old) / 5 + length p.old) }
-    ensures orders { IfOk result (OrdersMatrix (option_copied hold.entry) (length p.old) control.now.dense
-        control.now.aggressive (pairs_by jumbled (length p.old) (values a_p.now) (values a_i.now))
+    ensures orders { IfOk result (OrdersMatrix (option_copied request.now.hold) (length p.old)
+        request.now.control.now (pairs_by jumbled (length p.old) (values a_p.now) (values a_i.now))
         (values a_p.now) (values a_i.now) (values p.new) (values p_inv.new)) }
     ensures kept { IfErr result (λ e. (p.new ≡ p.old) × (p_inv.new ≡ p_inv.old)) }
 {
     let size = p.len();
     let mut memory = Memory::beside(alloc, size, 0)?;
     if !jumbled {
-        return order_counted(alloc, &mut memory, a_p, a_i, control, hold, p, p_inv);
+        return order_counted(alloc, &mut memory, a_p, a_i, request, p, p_inv);
     }
     let (c_p, c_i): (Vec<i32, A>, Vec<i32, A>) = row_form_with(
         alloc,
@@ -104,7 +103,7 @@ fn order_in<A: Allocator + Copy>(
         &mut memory.lists.w,
         &mut memory.words.next,
     )?;
-    order_counted(alloc, &mut memory, &c_p, &c_i, control, hold, p, p_inv)
+    order_counted(alloc, &mut memory, &c_p, &c_i, request, p, p_inv)
 }
 
 /// As `order_once`, but where words of 32 bits hold all numbers, `p` serves as one of the lists.
@@ -117,16 +116,15 @@ fn order_lending<A: Allocator + Copy>(
     a_p: &[i32],
     a_i: &[i32],
     jumbled: bool,
-    control: &Control,
-    hold: Option<&[bool]>,
+    request: &Request<'_>,
     p: &mut [i32],
     p_inv: &mut [i32],
 ) -> Result<Info, AllocError>
-    requires given { IsGiven (option_copied hold) jumbled (values a_p.now) (values a_i.now) (length p.old)
-        (length p_inv.old) }
+    requires given { IsGiven (option_copied request.now.hold) jumbled (values a_p.now) (values a_i.now)
+        (length p.old) (length p_inv.old) }
     requires fits { length p.old < 2 ^ 31 }
-    ensures orders { IfOk result (OrdersMatrix (option_copied hold.entry) (length p.old) control.now.dense
-        control.now.aggressive (pairs_by jumbled (length p.old) (values a_p.now) (values a_i.now))
+    ensures orders { IfOk result (OrdersMatrix (option_copied request.now.hold) (length p.old)
+        request.now.control.now (pairs_by jumbled (length p.old) (values a_p.now) (values a_i.now))
         (values a_p.now) (values a_i.now) (values p.new) (values p_inv.new)) }
     ensures kept { IfErr result (λ e. (p.new ≡ p.old) × (p_inv.new ≡ p_inv.old)) }
 {
@@ -136,10 +134,10 @@ fn order_lending<A: Allocator + Copy>(
         return Err(AllocError);
     };
     if !holds::<i32, i32, u32>(size, most, 2) {
-        return order_once(alloc, a_p, a_i, jumbled, control, hold, p, p_inv);
+        return order_once(alloc, a_p, a_i, jumbled, request, p, p_inv);
     }
     ask_for_most(alloc, size, 8, entries + entries / 5 + size)?;
-    order_in(alloc, a_p, a_i, jumbled, control, hold, p, p_inv)
+    order_in(alloc, a_p, a_i, jumbled, request, p, p_inv)
 }
 
 /// Orders the rows of a square matrix as [`crate::order_into`] does. It asks for one list less where words of 32 bits
@@ -175,7 +173,8 @@ pub fn order_into_narrow<A: Allocator + Copy>(
     let Some(jumbled) = jumbled_of(&status) else {
         unreachable!()
     };
-    let mut info = order_lending(alloc, a_p, a_i, jumbled, control, hold, p, p_inv)?;
+    let request = Request { control, hold };
+    let mut info = order_lending(alloc, a_p, a_i, jumbled, &request, p, p_inv)?;
     info.status = status;
     Ok(info)
 }

@@ -11,10 +11,11 @@ ghost use Rattle.amd_workspace.specs.Lists.{HasRoom};
 ghost use Rattle.amd.specs.Answers.{OrdersMatrix};
 ghost use Rattle.amd.specs.Within.{IsGiven, pairs_by};
 
+use crate::request::Request;
 use crate::within::{count_degrees, order_sorted};
 use amd_engine::amd_1::{ask_for_most, holds};
 use amd_input::preprocess::row_form_with;
-use amd_types::amd::{Control, Info};
+use amd_types::amd::Info;
 use amd_types::index::Index;
 use amd_types::internal::{count_at, from_count};
 use amd_words::{Signed, Unsigned};
@@ -41,13 +42,12 @@ fn order_counted<I: Index, J: Index, S: Signed, P: Signed, U: Unsigned, A: Alloc
     memory: &mut Memory<S, P, U, A>,
     a_p: &[J],
     a_i: &[J],
-    control: &Control,
-    hold: Option<&[bool]>,
+    request: &Request<'_>,
     p: &mut [I],
     p_inv: &mut [I],
 ) -> Result<Info, AllocError>
-    requires given { IsGiven (option_copied hold) false (map J.value a_p.now) (map J.value a_i.now) (length p.old)
-        (length p_inv.old) }
+    requires given { IsGiven (option_copied request.now.hold) false (map J.value a_p.now) (map J.value a_i.now)
+        (length p.old) (length p_inv.old) }
     requires fits { (k : ℕ) → k < length p.old → I.fits (pos k) }
     requires room { HasRoom (length p.old) 0 memory.old }
     requires narrow { AreWideEnough S.MOST P.MOST U.MOST (length p.old)
@@ -55,8 +55,8 @@ fn order_counted<I: Index, J: Index, S: Signed, P: Signed, U: Unsigned, A: Alloc
         + 2 * slice_index (naturals (map J.value a_p.now)) (length p.old) / 5 + length p.old) }
     requires few { 2 * slice_index (naturals (map J.value a_p.now)) (length p.old)
         + 2 * slice_index (naturals (map J.value a_p.now)) (length p.old) / 5 + length p.old < 2 ^ 63 }
-    ensures orders { IfOk result (OrdersMatrix (option_copied hold.entry) (length p.old) control.now.dense
-        control.now.aggressive (is_pair (length p.old) (map J.value a_p.now) (map J.value a_i.now))
+    ensures orders { IfOk result (OrdersMatrix (option_copied request.now.hold) (length p.old)
+        request.now.control.now (is_pair (length p.old) (map J.value a_p.now) (map J.value a_i.now))
         (map J.value a_p.now) (map J.value a_i.now) (map I.value p.new) (map I.value p_inv.new)) }
     ensures kept { IfErr result (λ e. (p.new ≡ p.old) × (p_inv.new ≡ p_inv.old)) }
 {
@@ -65,9 +65,7 @@ fn order_counted<I: Index, J: Index, S: Signed, P: Signed, U: Unsigned, A: Alloc
     let nzaat = count_degrees(memory, size, a_p, a_i, &mut info);
     let room = nzaat + nzaat / 5 + size;
     memory.words.iw = Vec::with_capacity(alloc, room)?;
-    order_sorted(
-        memory, a_p, a_i, nzaat, room, control, hold, p, p_inv, &mut info,
-    );
+    order_sorted(memory, a_p, a_i, room, request, p, p_inv, &mut info);
     Ok(info)
 }
 
@@ -81,28 +79,27 @@ fn order_in<I: Index, J: Index, S: Signed, P: Signed, U: Unsigned, A: Allocator 
     a_p: &[I],
     a_i: &[I],
     jumbled: bool,
-    control: &Control,
-    hold: Option<&[bool]>,
+    request: &Request<'_>,
     p: &mut [I],
     p_inv: &mut [I],
 ) -> Result<Info, AllocError>
-    requires given { IsGiven (option_copied hold) jumbled (map I.value a_p.now) (map I.value a_i.now) (length p.old)
-        (length p_inv.old) }
+    requires given { IsGiven (option_copied request.now.hold) jumbled (map I.value a_p.now) (map I.value a_i.now)
+        (length p.old) (length p_inv.old) }
     requires fits { (k : ℕ) → k < length p.old → I.fits (pos k) }
     requires narrow { AreWideEnough S.MOST P.MOST U.MOST (length p.old)
         (2 * slice_index (naturals (map I.value a_p.now)) (length p.old)
         + 2 * slice_index (naturals (map I.value a_p.now)) (length p.old) / 5 + length p.old) }
     requires few { 2 * slice_index (naturals (map I.value a_p.now)) (length p.old)
         + 2 * slice_index (naturals (map I.value a_p.now)) (length p.old) / 5 + length p.old < 2 ^ 63 }
-    ensures orders { IfOk result (OrdersMatrix (option_copied hold.entry) (length p.old) control.now.dense
-        control.now.aggressive (pairs_by jumbled (length p.old) (map I.value a_p.now) (map I.value a_i.now))
+    ensures orders { IfOk result (OrdersMatrix (option_copied request.now.hold) (length p.old)
+        request.now.control.now (pairs_by jumbled (length p.old) (map I.value a_p.now) (map I.value a_i.now))
         (map I.value a_p.now) (map I.value a_i.now) (map I.value p.new) (map I.value p_inv.new)) }
     ensures kept { IfErr result (λ e. (p.new ≡ p.old) × (p_inv.new ≡ p_inv.old)) }
 {
     let size = p.len();
     let mut memory: Memory<S, P, U, A> = Memory::with_room(alloc, size, 0)?;
     if !jumbled {
-        return order_counted(alloc, &mut memory, a_p, a_i, control, hold, p, p_inv);
+        return order_counted(alloc, &mut memory, a_p, a_i, request, p, p_inv);
     }
     if from_count::<J>(size).is_none() {
         return Err(AllocError);
@@ -115,7 +112,7 @@ fn order_in<I: Index, J: Index, S: Signed, P: Signed, U: Unsigned, A: Allocator 
         &mut memory.lists.w,
         &mut memory.words.next,
     )?;
-    order_counted(alloc, &mut memory, &c_p, &c_i, control, hold, p, p_inv)
+    order_counted(alloc, &mut memory, &c_p, &c_i, request, p, p_inv)
 }
 
 /// Orders a matrix with at least one row in the least widths that its rows and entries need; a jumbled one by its
@@ -131,16 +128,15 @@ pub fn order_once<I: Index, A: Allocator + Copy>(
     a_p: &[I],
     a_i: &[I],
     jumbled: bool,
-    control: &Control,
-    hold: Option<&[bool]>,
+    request: &Request<'_>,
     p: &mut [I],
     p_inv: &mut [I],
 ) -> Result<Info, AllocError>
-    requires given { IsGiven (option_copied hold) jumbled (map I.value a_p.now) (map I.value a_i.now) (length p.old)
-        (length p_inv.old) }
+    requires given { IsGiven (option_copied request.now.hold) jumbled (map I.value a_p.now) (map I.value a_i.now)
+        (length p.old) (length p_inv.old) }
     requires fits { (k : ℕ) → k < length p.old → I.fits (pos k) }
-    ensures orders { IfOk result (OrdersMatrix (option_copied hold.entry) (length p.old) control.now.dense
-        control.now.aggressive (pairs_by jumbled (length p.old) (map I.value a_p.now) (map I.value a_i.now))
+    ensures orders { IfOk result (OrdersMatrix (option_copied request.now.hold) (length p.old)
+        request.now.control.now (pairs_by jumbled (length p.old) (map I.value a_p.now) (map I.value a_i.now))
         (map I.value a_p.now) (map I.value a_i.now) (map I.value p.new) (map I.value p_inv.new)) }
     ensures kept { IfErr result (λ e. (p.new ≡ p.old) × (p_inv.new ≡ p_inv.old)) }
 {
@@ -151,23 +147,19 @@ pub fn order_once<I: Index, A: Allocator + Copy>(
     };
     ask_for_most(alloc, size, 9, entries + entries / 5 + size)?;
     if holds::<i32, i32, u32>(size, most, 2) {
-        return order_in::<I, i32, i32, i32, u32, A>(
-            alloc, a_p, a_i, jumbled, control, hold, p, p_inv,
-        );
+        return order_in::<I, i32, i32, i32, u32, A>(alloc, a_p, a_i, jumbled, request, p, p_inv);
     }
     if holds::<i32, isize, u32>(size, most, 2) {
-        return order_in::<I, i32, i32, isize, u32, A>(
-            alloc, a_p, a_i, jumbled, control, hold, p, p_inv,
-        );
+        return order_in::<I, i32, i32, isize, u32, A>(alloc, a_p, a_i, jumbled, request, p, p_inv);
     }
     if holds::<i32, isize, usize>(size, most, 2) {
         return order_in::<I, isize, i32, isize, usize, A>(
-            alloc, a_p, a_i, jumbled, control, hold, p, p_inv,
+            alloc, a_p, a_i, jumbled, request, p, p_inv,
         );
     }
     if holds::<isize, isize, usize>(size, most, 2) {
         return order_in::<I, isize, isize, isize, usize, A>(
-            alloc, a_p, a_i, jumbled, control, hold, p, p_inv,
+            alloc, a_p, a_i, jumbled, request, p, p_inv,
         );
     }
     Err(AllocError)

@@ -14,10 +14,11 @@ ghost use Rattle.amd.specs.Answers.{OrdersMatrix};
 ghost use Rattle.amd.specs.Blocks.{words_in, workspace_words};
 ghost use Rattle.amd.specs.Within.{IsGiven, IsSized, list_words, pairs_by};
 
+use crate::request::Request;
 use crate::within::{count_degrees, order_sorted};
 use amd_input::preprocess::transpose_within;
 use amd_lists::work::bucket_count;
-use amd_types::amd::{Control, Info};
+use amd_types::amd::Info;
 use amd_types::index::Index;
 use amd_words::{Signed, Unsigned};
 use amd_workspace::lists::{Lists, Memory, Words};
@@ -31,21 +32,20 @@ fn order_columns<I: Index, J: Index, S: Signed, P: Signed, U: Unsigned, A: Alloc
     words: usize,
     a_p: &[J],
     a_i: &[J],
-    control: &Control,
-    hold: Option<&[bool]>,
+    request: &Request<'_>,
     p: &mut [I],
     p_inv: &mut [I],
     info: &mut Info,
 )
-    requires given { IsGiven (option_copied hold) false (map J.value a_p.now) (map J.value a_i.now) (length p.old)
-        (length p_inv.old) }
+    requires given { IsGiven (option_copied request.now.hold) false (map J.value a_p.now) (map J.value a_i.now)
+        (length p.old) (length p_inv.old) }
     requires fits { (k : ℕ) → k < length p.old → I.fits (pos k) }
     requires room { HasRoom (length p.old) words memory.old }
     requires words { list_words (length p.old) (slice_index (naturals (map J.value a_p.now)) (length p.old)) ≤ words }
     requires few { 2 * slice_index (naturals (map J.value a_p.now)) (length p.old)
         + 2 * slice_index (naturals (map J.value a_p.now)) (length p.old) / 5 + length p.old < 2 ^ 63 }
     requires narrow { AreWideEnough S.MOST P.MOST U.MOST (length p.old) words }
-    ensures orders { OrdersMatrix (option_copied hold.entry) (length p.old) control.now.dense control.now.aggressive
+    ensures orders { OrdersMatrix (option_copied request.now.hold) (length p.old) request.now.control.now
         (is_pair (length p.old) (map J.value a_p.now) (map J.value a_i.now)) (map J.value a_p.now)
         (map J.value a_i.now) (map I.value p.new) (map I.value p_inv.new) info.new }
     ensures status { info.new.status ≡ info.old.status }
@@ -54,7 +54,7 @@ fn order_columns<I: Index, J: Index, S: Signed, P: Signed, U: Unsigned, A: Alloc
     let size = p.len();
     let nzaat = count_degrees(memory, size, a_p, a_i, info);
     let room = (nzaat + nzaat / 5 + size).min(words);
-    order_sorted(memory, a_p, a_i, nzaat, room, control, hold, p, p_inv, info);
+    order_sorted(memory, a_p, a_i, room, request, p, p_inv, info);
 }
 
 /// Memory for eliminations of up to `rows` rows in up to `words` words, with no place more.
@@ -139,37 +139,26 @@ impl<J: Index, S: Signed, P: Signed, U: Unsigned, A: Allocator + Copy> Workspace
         a_p: &[I],
         a_i: &[I],
         jumbled: bool,
-        control: &Control,
-        hold: Option<&[bool]>,
+        request: &Request<'_>,
         p: &mut [I],
         p_inv: &mut [I],
         info: &mut Info,
     )
-        requires given { IsGiven (option_copied hold) jumbled (map I.value a_p.now) (map I.value a_i.now) (length p.old)
-            (length p_inv.old) }
+        requires given { IsGiven (option_copied request.now.hold) jumbled (map I.value a_p.now) (map I.value a_i.now)
+            (length p.old) (length p_inv.old) }
         requires fits { (k : ℕ) → k < length p.old → I.fits (pos k) }
         requires inside { (length p.old ≤ self.old.rows) ×
             (slice_index (naturals (map I.value a_p.now)) (length p.old) ≤ self.old.entries) }
         requires names { J.fits (pos self.old.rows) × J.fits (pos self.old.entries) }
-        ensures orders { OrdersMatrix (option_copied hold.entry) (length p.old) control.now.dense
-            control.now.aggressive (pairs_by jumbled (length p.old) (map I.value a_p.now) (map I.value a_i.now))
+        ensures orders { OrdersMatrix (option_copied request.now.hold) (length p.old) request.now.control.now
+            (pairs_by jumbled (length p.old) (map I.value a_p.now) (map I.value a_i.now))
             (map I.value a_p.now) (map I.value a_i.now) (map I.value p.new) (map I.value p_inv.new) info.new }
         ensures status { info.new.status ≡ info.old.status }
         ensures made { (self.new.rows ≡ self.old.rows) × (self.new.entries ≡ self.old.entries) }
     {
         let words = 2 * self.entries + self.rows;
         if !jumbled {
-            order_columns(
-                &mut self.memory,
-                words,
-                a_p,
-                a_i,
-                control,
-                hold,
-                p,
-                p_inv,
-                info,
-            );
+            order_columns(&mut self.memory, words, a_p, a_i, request, p, p_inv, info);
             return;
         }
         transpose_within(
@@ -186,8 +175,7 @@ impl<J: Index, S: Signed, P: Signed, U: Unsigned, A: Allocator + Copy> Workspace
             words,
             &self.pointers,
             &self.columns,
-            control,
-            hold,
+            request,
             p,
             p_inv,
             info,

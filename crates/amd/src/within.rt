@@ -2,7 +2,7 @@
 // rows are eliminated in it. Nothing here asks for memory. Source: AMD user guide; Amestoy, Davis and Duff 1996 and
 // 2004.
 
-ghost use Rattle.std.specs.Prelude.{◌≡◌, ◌<◌, ◌≤◌, ◌+◌, ◌*◌, ◌/◌, ◌^◌, ℕ, pos, map, length, slice_index, false};
+ghost use Rattle.std.specs.Prelude.{◌≡◌, ◌<◌, ◌≤◌, ◌*◌, ◌^◌, ℕ, pos, map, length, slice_index, false};
 ghost use Rattle.std.specs.Option.{option_copied};
 ghost use Rattle.amd_model.specs.Input.Columns.{IsColumnForm, IsSorted};
 ghost use Rattle.amd_model.specs.Input.Pattern.{is_pair};
@@ -12,12 +12,13 @@ ghost use Rattle.amd_input.specs.Degrees.{AreDegrees};
 ghost use Rattle.amd_input.specs.PatternFigures.{HasPatternFigures};
 ghost use Rattle.amd_workspace.specs.Lists.{HasRoom, HasRoomBeside};
 ghost use Rattle.amd.specs.Answers.{OrdersMatrix};
-ghost use Rattle.amd.specs.Within.{IsGiven};
+ghost use Rattle.amd.specs.Within.{AreCounted, IsGiven};
 
+use crate::request::Request;
 use amd_engine::amd_1::order_within;
 use amd_engine::rows::Choice;
 use amd_input::aat::{DegreeCounter, aat_within};
-use amd_types::amd::{Control, Info};
+use amd_types::amd::Info;
 use amd_types::index::Index;
 use amd_words::{Signed, Unsigned};
 use amd_workspace::lists::Memory;
@@ -27,7 +28,8 @@ use std::mem::replace;
 /// Counts the degree of each of `size` rows into the memory, and answers their sum; writes the figures of the pattern.
 ///
 /// The input is a column form with `size` rows and columns, each of which is strictly ascending. The memory has room
-/// for so many rows, but maybe none for the numbers of rows, and keeps it. A cell has room for `size` and for the number of entries.
+/// for so many rows, but maybe none for the numbers of rows, and keeps it. A cell has room for `size` and for the
+/// number of entries.
 ///
 /// Source: AMD user guide; Amestoy, Davis and Duff 2004.
 pub fn count_degrees<J: Index, S: Signed, P: Signed, U: Unsigned, A: Allocator + Copy>(
@@ -57,8 +59,8 @@ pub fn count_degrees<J: Index, S: Signed, P: Signed, U: Unsigned, A: Allocator +
     sum
 }
 
-/// Orders a matrix with sorted columns, whose degrees stand in the memory and have the sum `nzaat`, in at most `room`
-/// words; the record has the figures of its pattern.
+/// Orders a matrix with sorted columns, whose degrees stand in the memory, in at most `room` words; the record has the
+/// figures of its pattern.
 ///
 /// Writes the permutation into `p` and its inverse into `p_inv`, which have a place for each row, and the other figures
 /// into `info`, of which the status stays.
@@ -68,34 +70,30 @@ pub fn order_sorted<I: Index, J: Index, S: Signed, P: Signed, U: Unsigned, A: Al
     memory: &mut Memory<S, P, U, A>,
     a_p: &[J],
     a_i: &[J],
-    nzaat: usize,
     room: usize,
-    control: &Control,
-    hold: Option<&[bool]>,
+    request: &Request<'_>,
     p: &mut [I],
     p_inv: &mut [I],
     info: &mut Info,
 )
-    requires given { IsGiven (option_copied hold) false (map J.value a_p.now) (map J.value a_i.now) (length p.old)
-        (length p_inv.old) }
+    requires given { IsGiven (option_copied request.now.hold) false (map J.value a_p.now) (map J.value a_i.now)
+        (length p.old) (length p_inv.old) }
     requires fits { (k : ℕ) → k < length p.old → I.fits (pos k) }
-    requires degrees { AreDegrees (length p.old) (map J.value a_p.now) (map J.value a_i.now) nzaat
+    requires counted { AreCounted (length p.old) (map J.value a_p.now) (map J.value a_i.now) room
         memory.old.len.items }
     requires figures { HasPatternFigures (length p.old) (map J.value a_p.now) (map J.value a_i.now) info.old }
-    requires words { nzaat + length p.old ≤ room }
-    requires few { nzaat + nzaat / 5 + length p.old < 2 ^ 63 }
     requires room { HasRoom (length p.old) room memory.old }
     requires narrow { AreWideEnough S.MOST P.MOST U.MOST (length p.old) room }
     requires pointers { slice_index (naturals (map J.value a_p.now)) (length p.old) ≤ U.MOST }
-    ensures orders { OrdersMatrix (option_copied hold.entry) (length p.old) control.now.dense control.now.aggressive
+    ensures orders { OrdersMatrix (option_copied request.now.hold) (length p.old) request.now.control.now
         (is_pair (length p.old) (map J.value a_p.now) (map J.value a_i.now)) (map J.value a_p.now)
         (map J.value a_i.now) (map I.value p.new) (map I.value p_inv.new) info.new }
     ensures status { info.new.status ≡ info.old.status }
     ensures room { (n count : ℕ) → HasRoom n count memory.old → HasRoom n count memory.new }
 {
     let choice = Choice {
-        control,
-        hold,
+        control: request.control,
+        hold: request.hold,
         flag: 2,
     };
     order_within(memory, a_p, a_i, room, &choice, p, p_inv, info);

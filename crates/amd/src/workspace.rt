@@ -16,6 +16,7 @@ ghost use Rattle.amd.specs.Workspaces.{IsMadeFor, entries_of, rows_of, words_of}
 use crate::entrance::{class_of, jumbled_of};
 use crate::once::most_words;
 use crate::refusal::Refusal;
+use crate::request::Request;
 use crate::widths::WorkspaceIn;
 use amd_engine::amd_1::holds;
 use amd_lent::{Lodged, Piece};
@@ -153,28 +154,27 @@ impl<A: Allocator + Copy> Widths<A> {
         a_p: &[I],
         a_i: &[I],
         jumbled: bool,
-        control: &Control,
-        hold: Option<&[bool]>,
+        request: &Request<'_>,
         p: &mut [I],
         p_inv: &mut [I],
         info: &mut Info,
     )
-        requires given { IsGiven (option_copied hold) jumbled (map I.value a_p.now) (map I.value a_i.now) (length p.old)
-            (length p_inv.old) }
+        requires given { IsGiven (option_copied request.now.hold) jumbled (map I.value a_p.now) (map I.value a_i.now)
+            (length p.old) (length p_inv.old) }
         requires fits { (k : ℕ) → k < length p.old → I.fits (pos k) }
         requires inside { (length p.old ≤ rows_of self.old) ×
             (slice_index (naturals (map I.value a_p.now)) (length p.old) ≤ entries_of self.old) }
-        ensures orders { OrdersMatrix (option_copied hold.entry) (length p.old) control.now.dense
-            control.now.aggressive (pairs_by jumbled (length p.old) (map I.value a_p.now) (map I.value a_i.now))
+        ensures orders { OrdersMatrix (option_copied request.now.hold) (length p.old) request.now.control.now
+            (pairs_by jumbled (length p.old) (map I.value a_p.now) (map I.value a_i.now))
             (map I.value a_p.now) (map I.value a_i.now) (map I.value p.new) (map I.value p_inv.new) info.new }
         ensures status { info.new.status ≡ info.old.status }
         ensures made { IsMadeFor (rows_of self.old) (entries_of self.old) self.new }
     {
         match self {
-            Widths::Narrow(lists) => lists.order(a_p, a_i, jumbled, control, hold, p, p_inv, info),
-            Widths::Places(lists) => lists.order(a_p, a_i, jumbled, control, hold, p, p_inv, info),
-            Widths::Words(lists) => lists.order(a_p, a_i, jumbled, control, hold, p, p_inv, info),
-            Widths::Wide(lists) => lists.order(a_p, a_i, jumbled, control, hold, p, p_inv, info),
+            Widths::Narrow(lists) => lists.order(a_p, a_i, jumbled, request, p, p_inv, info),
+            Widths::Places(lists) => lists.order(a_p, a_i, jumbled, request, p, p_inv, info),
+            Widths::Words(lists) => lists.order(a_p, a_i, jumbled, request, p, p_inv, info),
+            Widths::Wide(lists) => lists.order(a_p, a_i, jumbled, request, p, p_inv, info),
         }
     }
 }
@@ -253,8 +253,9 @@ impl<A: Allocator + Copy> Workspace<A> {
             unreachable!()
         };
         info.status = status;
+        let request = Request { control, hold };
         self.widths
-            .order(a_p, a_i, jumbled, control, hold, p, p_inv, &mut info);
+            .order(a_p, a_i, jumbled, &request, p, p_inv, &mut info);
         Ok(info)
     }
 

@@ -2,6 +2,7 @@
 use Rattle.std.specs.Prelude.{ℕ, ℤ, Bool, true, Option, None, Some, List, ◌≡◌, ◌<◌, ◌≤◌, ◌+◌, length, max, pos, negsuc}
 use Rattle.std.specs.Prelude.{map, replicate}
 use Rattle.std.specs.Borrow.{MutBor}
+use Rattle.std.specs.Option.{option_copied}
 use Rattle.amd_model.specs.Graph.{Graph}
 use Rattle.amd_model.specs.State.{State, IsStart, is_element}
 use Rattle.amd_model.specs.Run.{last_state}
@@ -195,7 +196,7 @@ listing_in rows = record {
 -- of whatever graph is laid the engine answers an ordering, and tells its elements
 pub record AnswersInPlace (g : Graph) (lists : ℕ → List ℕ) (hold : Option (List Bool)) (n : ℕ) (control : Control) (rows : Listing)
     (old new : Info) : Type 0 where
-  pub answer : IsAnswerOf g lists hold n control.dense control.aggressive rows.p rows.q old new
+  pub answer : IsAnswerOf g lists hold n control rows.p rows.q old new
   pub elements : TellsElements g (last_state answer.first answer.states) rows.nv rows.e_len
   pub tree : TellsTree g (last_state answer.first answer.states) rows.nv rows.pe
 
@@ -210,6 +211,12 @@ told_info told info = record info {
   n_mult_subs_lu = told.figures.n_mult_subs_lu;
   d_max = told.figures.d_max;
 }
+
+-- so of whatever graph is laid, as it is chosen, and with what a run told
+abbrev pub AnswersLaid : {P U : Type 0} → List ℤ → Laid P U → Listing → Told → Type 0
+AnswersLaid iw laid rows told = (g : Graph) (lists : ℕ → List ℕ) (info : Info) → LaysGraph g lists iw laid.pe.now laid.len.now →
+    AnswersInPlace g lists (option_copied laid.choice.now.hold) (length laid.len.now) laid.choice.now.control.now rows info
+    (told_info told info)
 
 -- numbers of 32 bits as what they stand for
 abbrev pub values : List ℤ → List ℤ

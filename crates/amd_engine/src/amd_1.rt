@@ -1,11 +1,10 @@
 // The engine in place: the lists of the neighbours are laid in one workspace, whose words have 32 bits where that is
 // wide enough, and the rows are eliminated in it. Source: Amestoy, Davis and Duff 1996 and 2004.
 
-ghost use Rattle.std.specs.Prelude.{◌≡◌, ◌<◌, ◌≤◌, ◌+◌, ◌^◌, ◌↔◌, ℕ, IsTrue, List, pos, map, length};
+ghost use Rattle.std.specs.Prelude.{◌≡◌, ◌<◌, ◌≤◌, ◌+◌, ◌^◌, ◌↔◌, ℕ, IsTrue, pos, map, length};
 ghost use Rattle.std.specs.Prelude.{slice_index, IfOk, IfErr, OnOk};
 ghost use Rattle.std.specs.Option.{option_copied};
 ghost use Rattle.std.specs.Vec.{vec_capacity};
-ghost use Rattle.amd_model.specs.Graph.{Graph};
 ghost use Rattle.amd_model.specs.Input.Columns.{IsColumnForm, IsSorted};
 ghost use Rattle.amd_model.specs.Input.Held.{HasMarks};
 ghost use Rattle.amd_model.specs.Input.Pattern.{graph_of};
@@ -13,7 +12,7 @@ ghost use Rattle.amd_edges.specs.Visits.{AreCounts, start_of};
 ghost use Rattle.amd_engine_law.specs.Engine.{IsEngineAnswer};
 ghost use Rattle.amd_lists.specs.Sizes.{AreWideEnough};
 ghost use Rattle.amd_types.specs.Naturals.{naturals};
-ghost use Rattle.amd_engine.specs.InPlace.{AnswersInPlace, CanRun, KeepsLaid, LaysGraph, rows_in, told_info};
+ghost use Rattle.amd_engine.specs.InPlace.{AnswersLaid, CanRun, KeepsLaid, rows_in, told_info};
 ghost use Rattle.amd_engine.specs.InPlace.{values};
 ghost use Rattle.amd_workspace.specs.Lists.{HasRoom, HasRoomBeside};
 ghost use Rattle.amd_workspace.specs.Lower.{AreNeighbourCounts, own_start};
@@ -118,16 +117,13 @@ fn order_lent<S: Signed, P: Signed, U: Unsigned, A: Allocator>(
     requires room { (length iw.old.items ≤ laid.old.room) × (laid.old.room ≤ vec_capacity iw.old) }
     requires marks { HasMarks (option_copied laid.old.choice.now.hold) (length laid.old.len.now) }
     requires flag { 2 ≤ laid.old.choice.now.flag }
-    ensures orders { (g : Graph) (lists : ℕ → List ℕ) (info : Info) →
-        LaysGraph g lists iw.old.items laid.old.pe.now laid.old.len.now →
-        AnswersInPlace g lists (option_copied laid.old.choice.now.hold) (length laid.old.len.now)
-        laid.old.choice.now.control.now (record {
-          p = map pos head.new;
-          q = map pos w.new;
-          nv = nv.new;
-          e_len = e_len.new;
-          pe = laid.new.pe.now;
-        }) info (told_info result info) }
+    ensures orders { AnswersLaid iw.old.items laid.old (record {
+      p = map pos head.new;
+      q = map pos w.new;
+      nv = nv.new;
+      e_len = e_len.new;
+      pe = laid.new.pe.now;
+    }) result }
     ensures packs { result.n_cmp_a ≤ length laid.old.len.now }
     ensures unpacked { length iw.new.items < laid.old.room → result.n_cmp_a ≡ 0 }
     ensures capacity { vec_capacity iw.new ≡ vec_capacity iw.old }
@@ -175,8 +171,8 @@ fn eliminate_within<J: Index, S: Signed, P: Signed, U: Unsigned, A: Allocator + 
     requires marks { HasMarks (option_copied choice.now.hold) (length nv.old) }
     requires flag { 2 ≤ choice.now.flag }
     ensures orders { (info : Info) → IsEngineAnswer (option_copied choice.now.hold) (length nv.old)
-        choice.now.control.now.dense choice.now.control.now.aggressive (map J.value a_p.now) (map J.value a_i.now)
-        (map pos memory.new.lists.head.items) (map pos memory.new.lists.w.items) info (told_info result info) }
+        choice.now.control.now (map J.value a_p.now) (map J.value a_i.now) (map pos memory.new.lists.head.items)
+        (map pos memory.new.lists.w.items) info (told_info result info) }
     ensures long { length memory.new.lists.head.items ≡ length nv.old }
     ensures packs { result.n_cmp_a ≤ length nv.old }
     ensures room { (n count : ℕ) → HasRoomBeside n count memory.old → HasRoomBeside n count memory.new }
@@ -251,9 +247,8 @@ pub fn order_within<I: Index, J: Index, S: Signed, P: Signed, U: Unsigned, A: Al
     requires pointers { slice_index (naturals (map J.value a_p.now)) (length p.old) ≤ U.MOST }
     requires marks { HasMarks (option_copied choice.now.hold) (length p.old) }
     requires flag { 2 ≤ choice.now.flag }
-    ensures orders { IsEngineAnswer (option_copied choice.now.hold) (length p.old) choice.now.control.now.dense
-        choice.now.control.now.aggressive (map J.value a_p.now) (map J.value a_i.now) (map I.value p.new)
-        (map I.value p_inv.new) info.old info.new }
+    ensures orders { IsEngineAnswer (option_copied choice.now.hold) (length p.old) choice.now.control.now
+        (map J.value a_p.now) (map J.value a_i.now) (map I.value p.new) (map I.value p_inv.new) info.old info.new }
     ensures compactions { info.new.n_cmp_a ≤ length p.old }
     ensures room { (n count : ℕ) → HasRoom n count memory.old → HasRoom n count memory.new }
 {
@@ -294,9 +289,8 @@ pub fn order_within_lent<J: Index, P: Signed, U: Unsigned, A: Allocator + Copy>(
     requires pointers { slice_index (naturals (map J.value a_p.now)) (length p.old) ≤ U.MOST }
     requires marks { HasMarks (option_copied choice.now.hold) (length p.old) }
     requires flag { 2 ≤ choice.now.flag }
-    ensures orders { IsEngineAnswer (option_copied choice.now.hold) (length p.old) choice.now.control.now.dense
-        choice.now.control.now.aggressive (map J.value a_p.now) (map J.value a_i.now) (values p.new)
-        (values p_inv.new) info.old info.new }
+    ensures orders { IsEngineAnswer (option_copied choice.now.hold) (length p.old) choice.now.control.now
+        (map J.value a_p.now) (map J.value a_i.now) (values p.new) (values p_inv.new) info.old info.new }
     ensures compactions { info.new.n_cmp_a ≤ length p.old }
     ensures room { (n count : ℕ) → HasRoomBeside n count memory.old → HasRoomBeside n count memory.new }
 {
@@ -338,8 +332,8 @@ pub fn order_in<I: Index, S: Signed, P: Signed, U: Unsigned, A: Allocator + Copy
     requires marks { HasMarks (option_copied choice.now.hold) (length len.now) }
     requires flag { 2 ≤ choice.now.flag }
     ensures orders { IfOk result (λ a. IsEngineAnswer (option_copied choice.now.hold) (length len.now)
-        choice.now.control.now.dense choice.now.control.now.aggressive (map I.value a_p.now) (map I.value a_i.now)
-        (map I.value a.0.items) (map I.value a.1.items) info.old info.new) }
+        choice.now.control.now (map I.value a_p.now) (map I.value a_i.now) (map I.value a.0.items)
+        (map I.value a.1.items) info.old info.new) }
     ensures compactions { OnOk result (info.new.n_cmp_a ≤ length len.now) }
     ensures refused { IfErr result (λ e. e ≡ Status.OutOfMemory) }
 {
@@ -402,9 +396,8 @@ pub fn amd_1<I: PrimInt, A: Allocator + Copy>(
     requires room { (start_of (graph_of (length len.old) (map I.value a_p.now) (map I.value a_i.now)) (length len.old)
         + length len.old ≤ iwlen) × (iwlen < 2 ^ 63) }
     requires marks { HasMarks (option_copied hold) (length len.old) }
-    ensures orders { IfOk result (λ a. IsEngineAnswer (option_copied hold.entry) (length len.old) control.now.dense
-        control.now.aggressive (map I.value a_p.now) (map I.value a_i.now) (map I.value a.0.items)
-        (map I.value a.1.items) info.old info.new) }
+    ensures orders { IfOk result (λ a. IsEngineAnswer (option_copied hold.entry) (length len.old) control.now
+        (map I.value a_p.now) (map I.value a_i.now) (map I.value a.0.items) (map I.value a.1.items) info.old info.new) }
     ensures compactions { OnOk result (info.new.n_cmp_a ≤ length len.old) }
     ensures refused { IfErr result (λ e. e ≡ Status.OutOfMemory) }
     ensures degrees { len.new ≡ len.old }

@@ -9,7 +9,7 @@ ghost use Rattle.amd_lending.specs.Views.{raised};
 ghost use Rattle.amd_words.specs.Words.{is_place, word};
 ghost use Rattle.amd_lists.specs.Sizes.{AreWideEnough};
 ghost use Rattle.amd_workspace.specs.Laying.{IsLaidOut};
-ghost use Rattle.amd_engine.specs.InPlace.{AnswersInPlace, CanRun, KeepsLaid, LaysGraph, rows_in, told_info};
+ghost use Rattle.amd_engine.specs.InPlace.{AnswersInPlace, AnswersLaid, CanRun, KeepsLaid, LaysGraph, rows_in};
 
 use crate::ended::{finish, list_rows};
 use crate::fresh::{fill_lists, room_for};
@@ -44,16 +44,13 @@ fn eliminate_lent<S: Signed, P: Signed, U: Unsigned>(
     requires narrow { AreWideEnough S.MOST P.MOST U.MOST (length laid.old.len.now) (length iw.old) }
     requires marks { HasMarks (option_copied laid.old.choice.now.hold) (length laid.old.len.now) }
     requires flag { 2 ≤ laid.old.choice.now.flag }
-    ensures orders { (g : Graph) (lists : ℕ → List ℕ) (info : Info) →
-        LaysGraph g lists iw.old laid.old.pe.now laid.old.len.now →
-        AnswersInPlace g lists (option_copied laid.old.choice.now.hold) (length laid.old.len.now)
-        laid.old.choice.now.control.now (record {
-          p = map pos head.new;
-          q = map pos w.new;
-          nv = nv.new;
-          e_len = e_len.new;
-          pe = laid.new.pe.now;
-        }) info (told_info result info) }
+    ensures orders { AnswersLaid iw.old laid.old (record {
+      p = map pos head.new;
+      q = map pos w.new;
+      nv = nv.new;
+      e_len = e_len.new;
+      pe = laid.new.pe.now;
+    }) result }
     ensures packs { result.n_cmp_a ≤ length laid.old.len.now }
     ensures loans { KeepsLaid laid.old laid.new }
 {

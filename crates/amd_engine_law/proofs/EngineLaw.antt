@@ -85,7 +85,7 @@ module _ (g : Graph) (aggressive : Bool) (lists : ℕ → List ℕ) (hold : Opti
 
   unfoldable pub answer_of : (n : ℕ) (t : ℤ) → g.size ≡ n → 0 < n → IsThreshold n t threshold → (p q : List ℤ) → p ≡ map pos rows →
       AreInverse n p q → (compactions : ℕ) (before after : Info) → after ≡ told_by n_dense figures compactions before →
-      IsAnswerOf g lists hold n t aggressive p q before after
+      IsAnswerOf g lists hold n (record { dense = t; aggressive = aggressive }) p q before after
   answer_of n t size some is_threshold p q is inverse compactions before after told =
       let all = told ∙ figures_told g (is_held_last hold g threshold) (last_state first r.states) n_dense figures r.tells compactions before
       in

@@ -12,6 +12,7 @@ use Rattle.amd_model.specs.Input.Dense.{IsThreshold, IsRawThreshold, IsGreatest}
 use Rattle.amd_model.specs.Input.Held.{is_held_last}
 use Rattle.amd_model.proofs.Listings.OneOrdering.{one_ordering, figure_same, greatest_same}
 use Rattle.amd_types.specs.Permutations.{AreInverse}
+use Rattle.amd_types.specs.declared.amd.Control.{Control}
 use Rattle.amd_types.specs.declared.amd.Info.{Info}
 use Rattle.amd_engine_law.specs.Engine.{IsAnswerOf, with_figures}
 
@@ -52,24 +53,24 @@ without_packs : (g : Graph) (dense : ℕ → Bool) (s : State) (old new : Info) 
     (record new { n_cmp_a = 0 }) ≡ with_figures g dense s 0 old
 without_packs g dense s old new told = ap {A = Info} (λ x. record x { n_cmp_a = 0 }) told
 
-module _ (g : Graph) (lists : ℕ → List ℕ) (hold : Option (List Bool)) (n : ℕ) (t : ℤ) (aggressive : Bool) (p q r s : List ℤ)
-    (old one other : Info) (a : IsAnswerOf g lists hold n t aggressive p q old one)
-    (b : IsAnswerOf g lists hold n t aggressive r s old other) where
+module _ (g : Graph) (lists : ℕ → List ℕ) (hold : Option (List Bool)) (n : ℕ) (control : Control) (p q r s : List ℤ)
+    (old one other : Info) (a : IsAnswerOf g lists hold n control p q old one)
+    (b : IsAnswerOf g lists hold n control r s old other) where
   threshold_is : b.threshold ≡ a.threshold
-  threshold_is = threshold_one n t b.threshold a.threshold b.is_threshold a.is_threshold
+  threshold_is = threshold_one n control.dense b.threshold a.threshold b.is_threshold a.is_threshold
 
   abbrev dense : ℕ → Bool
   dense = is_held_last hold g a.threshold
 
-  listing : IsListingOf g (is_held_last hold g a.threshold) aggressive lists b.first b.states b.rows
-  listing = subst (λ k. IsListingOf g (is_held_last hold g k) aggressive lists b.first b.states b.rows) threshold_is b.listing
+  listing : IsListingOf g (is_held_last hold g a.threshold) control.aggressive lists b.first b.states b.rows
+  listing = subst (λ k. IsListingOf g (is_held_last hold g k) control.aggressive lists b.first b.states b.rows) threshold_is b.listing
 
   told : other ≡ with_figures g (is_held_last hold g a.threshold) (last_state b.first b.states) other.n_cmp_a old
   told = subst (λ k. other ≡ with_figures g (is_held_last hold g k) (last_state b.first b.states) other.n_cmp_a old) threshold_is b.told
 
   pub answers_one : (p ≡ r) × (q ≡ s) × ((record one { n_cmp_a = 0 }) ≡ (record other { n_cmp_a = 0 }))
   answers_one =
-      let o = one_ordering g dense aggressive lists a.first b.first a.states b.states a.rows b.rows a.listing listing in
+      let o = one_ordering g dense control.aggressive lists a.first b.first a.states b.states a.rows b.rows a.listing listing in
       let same : p ≡ r = a.listed ∙ ap (map pos) o.0 ∙ sym b.listed in (
         same,
         inverse_one n p q s a.inverse (subst (λ x. AreInverse n x s) (sym same) b.inverse),

@@ -15,6 +15,7 @@ use Rattle.amd_model.specs.Ordering.{Follows, IsListingOf, Promises}
 use Rattle.amd_model.specs.Quotient.{QuotientGraph, Fits, starting_list, start_quotient}
 use Rattle.amd_model.specs.QuotientLaws.{NamesNeighbours}
 use Rattle.amd_types.specs.Permutations.{AreInverse}
+use Rattle.amd_types.specs.declared.amd.Control.{Control}
 use Rattle.amd_types.specs.declared.amd.Info.{Info}
 use Rattle.amd_types.specs.declared.figures.Figures.{Figures}
 use Rattle.amd_words.specs.Words.{num, word}
@@ -33,29 +34,28 @@ with_figures g dense s compactions old = record old {
 }
 
 -- p and q are inverse permutations; p lists the run of the rules from these starting lists of a graph with n rows, in
--- which the marked rows and the dense ones of a parameter of t thousandths are held last; the run and its listing keep
--- what is promised of each; and its figures are told, of which the entries and the greatest front are at most those of
--- a full matrix
-pub record IsAnswerOf (g : Graph) (lists : ℕ → List ℕ) (hold : Option (List Bool)) (n : ℕ) (t : ℤ) (aggressive : Bool)
-    (p q : List ℤ)
-    (old new : Info) : Type 0 where
+-- which the marked rows and those that are dense by the control are held last; the run and its listing keep what is
+-- promised of each; and its figures are told, of which the entries and the greatest front are at most those of a full
+-- matrix
+pub record IsAnswerOf (g : Graph) (lists : ℕ → List ℕ) (hold : Option (List Bool)) (n : ℕ) (control : Control)
+    (p q : List ℤ) (old new : Info) : Type 0 where
   pub inverse : AreInverse n p q
   pub threshold : ℕ
-  pub is_threshold : IsThreshold n t threshold
+  pub is_threshold : IsThreshold n control.dense threshold
   pub rows : List ℕ
   pub listed : p ≡ map pos rows
   pub first : State
   pub states : List State
-  pub listing : IsListingOf g (is_held_last hold g threshold) aggressive lists first states rows
+  pub listing : IsListingOf g (is_held_last hold g threshold) control.aggressive lists first states rows
   pub promises : Promises g (is_held_last hold g threshold) first states rows
   pub told : new ≡ with_figures g (is_held_last hold g threshold) (last_state first states) new.n_cmp_a old
   pub lnz_most : new.lnz ≤ n * (n - 1) / 2
   pub greatest_most : new.d_max ≤ n
 
 -- so for the graph and the starting lists of a matrix with n rows
-abbrev pub IsEngineAnswer : Option (List Bool) → ℕ → ℤ → Bool → List ℤ → List ℤ → List ℤ → List ℤ → Info → Info → Type 0
-IsEngineAnswer hold n t aggressive ap ai p q old new =
-    IsAnswerOf (graph_of n ap ai) (starting_list n (is_pair n ap ai)) hold n t aggressive p q old new
+abbrev pub IsEngineAnswer : Option (List Bool) → ℕ → Control → List ℤ → List ℤ → List ℤ → List ℤ → Info → Info → Type 0
+IsEngineAnswer hold n control ap ai p q old new =
+    IsAnswerOf (graph_of n ap ai) (starting_list n (is_pair n ap ai)) hold n control p q old new
 
 -- ---- a run of an engine
 

@@ -205,7 +205,7 @@ module _ {A : Type 0} (ap' ai : List ℤ) (len : List ℕ) (counts : AreCounts (
         -- the answer
         pub answer : (t : ℤ) → 0 < length len → IsThreshold (length len) t threshold → (p q : List ℤ) → p ≡ map pos order →
             AreInverse (length order) p q → (before after : Info) → after ≡ told_by w.n_dense w.figures 0 before →
-            IsEngineAnswer hold (length len) t aggressive ap' ai p q before after
+            IsEngineAnswer hold (length len) (record { dense = t; aggressive = aggressive }) ap' ai p q before after
         unfolding graph_of
         answer t some is_threshold p q is inverse before after figures =
             answer_of graph aggressive lists hold threshold (first_state graph dense) w.n_dense w.figures here order listed_here

@@ -72,9 +72,8 @@ pub fn plain_1<I: Index, A: Allocator + Copy>(
     requires sorted { IsSorted (length len.now) (map I.value a_p.now) (map I.value a_i.now) }
     requires degrees { AreCounts (graph_of (length len.now) (map I.value a_p.now) (map I.value a_i.now))
         ((graph_of (length len.now) (map I.value a_p.now) (map I.value a_i.now)).edge) len.now }
-    ensures orders { IfOk result (λ a. IsEngineAnswer (option_copied hold.entry) (length len.now) control.now.dense
-        control.now.aggressive (map I.value a_p.now) (map I.value a_i.now) (map I.value a.0.items)
-        (map I.value a.1.items) info.old info.new) }
+    ensures orders { IfOk result (λ a. IsEngineAnswer (option_copied hold.entry) (length len.now) control.now
+        (map I.value a_p.now) (map I.value a_i.now) (map I.value a.0.items) (map I.value a.1.items) info.old info.new) }
     ensures compactions { OnOk result (info.new.n_cmp_a ≡ 0) }
     ensures refused { IfErr result (λ e. e ≡ Status.OutOfMemory) }
 {

@@ -93,7 +93,7 @@ none-ends g laws s p first ptr rows parent inside h e k t exact here next low l 
 
 pub exact-blocks-stand-inside : ExactBlocksStandInside
 unfolding graph_of
-exact-blocks-stand-inside hold n t aggressive pair ap' ai p q info first ptr rows parent m h =
+exact-blocks-stand-inside hold n control pair ap' ai p q info first ptr rows parent m h =
     let same : h.order ≡ m.rows =
     order_once n p h.order m.rows h.permutes (record { listed = m.listed; each = m.promises.each_row }) in
     none-ends (graph_of n ap' ai) (pattern_graph n ap' ai) (last_state m.first m.states) m.rows first ptr rows parent m.promises.columns

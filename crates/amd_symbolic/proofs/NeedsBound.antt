@@ -3,6 +3,7 @@ use Rattle.std.proofs.Common.{ℕ, ℤ, zero, suc, pos, negsuc, Bool, ◌≡◌,
 use Rattle.std.specs.Prelude.{Option}
 use Rattle.amd_model.specs.Factor.{IsFactor, needed_front}
 use Rattle.amd_model.specs.Input.Pattern.{graph_of}
+use Rattle.amd_types.specs.declared.amd.Control.{Control}
 use Rattle.amd_types.specs.declared.amd.Info.{Info}
 use Rattle.amd.specs.Answers.{OrdersMatrix}
 use Rattle.amd_factor.specs.Counted.{IsCutNeed, TellCounts, wide_cut}
@@ -30,9 +31,9 @@ none-within need info h = record {
   greatest = (let e = h.greatest in omega (arith, e));
 }
 
-module _ (hold : Option (List Bool)) (t : ℤ) (aggressive : Bool) (ap' ai p q : List ℤ) (info : Info) (sizes : List ℕ)
+module _ (hold : Option (List Bool)) (control : Control) (ap' ai p q : List ℤ) (info : Info) (sizes : List ℕ)
     (parent : List (Option ℕ)) (need : Need) where
-  within : (n : ℕ) (pair : ℕ → ℕ → Bool) → OrdersMatrix hold n t aggressive pair ap' ai p q info → (order : List ℕ) → Permutes n p order →
+  within : (n : ℕ) (pair : ℕ → ℕ → Bool) → OrdersMatrix hold n control pair ap' ai p q info → (order : List ℕ) → Permutes n p order →
       TellCounts (graph_of n ap' ai) order sizes parent need → NeedsWithin need info
   unfolding graph_of
   within n pair m order h c =
@@ -55,6 +56,8 @@ figures_bound_needs hold (pos zero) t aggressive ap' ai p q info sizes parent ne
     none-within need info (subst (λ xs. IsCutNeed xs need)
     (empty c.tells.holds.columns (c.tells.holds.factor.places ∙ c.permutes.each.places)) c.tells.needs)
 figures_bound_needs hold (pos (suc n)) t aggressive ap' ai p q info sizes parent need o c =
-    within hold t aggressive ap' ai p q info sizes parent need (suc n) _ (o.orders (λ e. cc)) c.order c.permutes c.tells
+    within hold (record { dense = t; aggressive = aggressive }) ap' ai p q info sizes parent need (suc n) _ (o.orders (λ e. cc))
+    c.order c.permutes c.tells
 figures_bound_needs hold (negsuc n) t aggressive ap' ai p q info sizes parent need o c =
-    within hold t aggressive ap' ai p q info sizes parent need (suc n) _ (o.orders (λ e. cc)) c.order c.permutes c.tells
+    within hold (record { dense = t; aggressive = aggressive }) ap' ai p q info sizes parent need (suc n) _ (o.orders (λ e. cc))
+    c.order c.permutes c.tells

@@ -30,11 +30,15 @@ unfolding cut
 capped x y e short = omega arith
 
 module _ (hold : Option (List Bool)) (t : ℤ) (aggressive : Bool) (ap' ai p q : List ℤ) (info : Info) where
-  permutes_rows : (n : ℕ) (pair : ℕ → ℕ → Bool) (m : OrdersMatrix hold n t aggressive pair ap' ai p q info) → Permutes n p m.rows
+  -- the record tells an ordering of a matrix with n rows
+  abbrev Orders : ℕ → (ℕ → ℕ → Bool) → Type 0
+  Orders n pair = OrdersMatrix hold n (record { dense = t; aggressive = aggressive }) pair ap' ai p q info
+
+  permutes_rows : (n : ℕ) (pair : ℕ → ℕ → Bool) (m : Orders n pair) → Permutes n p m.rows
   unfolding graph_of
   permutes_rows n pair m = record { listed = m.listed; each = m.promises.each_row }
 
-  rows_of : (n : ℕ) (pair : ℕ → ℕ → Bool) → OrdersMatrix hold n t aggressive pair ap' ai p q info → (order : List ℕ) × Permutes n p order
+  rows_of : (n : ℕ) (pair : ℕ → ℕ → Bool) → Orders n pair → (order : List ℕ) × Permutes n p order
   rows_of n pair m = (m.rows, permutes_rows n pair m)
 
   pub permutes : (z : ℤ) → IsOrderingHolding hold z t aggressive ap' ai p q info → (order : List ℕ) × Permutes (unsigned_abs z) p order
@@ -43,11 +47,11 @@ module _ (hold : Option (List Bool)) (t : ℤ) (aggressive : Bool) (ap' ai p q :
   permutes (pos (suc n)) o = rows_of (suc n) _ (o.orders (λ e. cc))
   permutes (negsuc n) o = rows_of (suc n) _ (o.orders (λ e. cc))
 
-  same_rows : (n : ℕ) (pair : ℕ → ℕ → Bool) (m : OrdersMatrix hold n t aggressive pair ap' ai p q info) (order : List ℕ) →
+  same_rows : (n : ℕ) (pair : ℕ → ℕ → Bool) (m : Orders n pair) (order : List ℕ) →
       Permutes n p order → order ≡ m.rows
   same_rows n pair m order h = order_once n p order m.rows h (permutes_rows n pair m)
 
-  matrix_small : (n : ℕ) (pair : ℕ → ℕ → Bool) → OrdersMatrix hold n t aggressive pair ap' ai p q info →
+  matrix_small : (n : ℕ) (pair : ℕ → ℕ → Bool) → Orders n pair →
       info.lnz ≢ 18446744073709551615 → (order : List ℕ) → Permutes n p order →
       PassesRoom (graph_of n ap' ai) order info.lnz → ⊥
   matrix_small n pair m short order h x =
@@ -66,7 +70,7 @@ module _ (hold : Option (List Bool)) (t : ℤ) (aggressive : Bool) (ap' ai p q :
   never_small (negsuc n) o short order h x = matrix_small (suc n) _ (o.orders (λ e. cc)) short order h x
 
   -- the columns of the factor, by the record
-  bound : (n : ℕ) (pair : ℕ → ℕ → Bool) → OrdersMatrix hold n t aggressive pair ap' ai p q info → (order : List ℕ) →
+  bound : (n : ℕ) (pair : ℕ → ℕ → Bool) → Orders n pair → (order : List ℕ) →
       Permutes n p order → (ptr rows : List ℕ) (parent : List (Option ℕ)) →
       HoldFactor (graph_of n ap' ai) order ptr rows parent → FiguresBound n ptr rows info
   unfolding entries

@@ -6,6 +6,7 @@ use Rattle.amd_model.specs.Input.Pattern.{graph_of}
 use Rattle.amd_model.specs.Run.{last_state}
 use Rattle.amd_model.specs.State.{Gone, Last, State}
 use Rattle.amd.specs.Answers.{OrdersMatrix}
+use Rattle.amd_types.specs.declared.amd.Control.{Control}
 use Rattle.amd_types.specs.declared.amd.Info.{Info}
 use Rattle.amd_factor.specs.Supernodes.{IsSupernodesOf}
 use Rattle.amd_factor.specs.Trees.{Entry}
@@ -28,8 +29,8 @@ NoneEndsInside g s p first = (e k t : ℕ) → IsExactFront g s p e → s.home (
 -- and so under each ordering
 abbrev pub ExactBlocksStandInside : Type 0
 ExactBlocksStandInside =
-    (hold : Option (List Bool)) (n : ℕ) (t : ℤ) (aggressive : Bool) (pair : ℕ → ℕ → Bool) (ap ai p q : List ℤ)
+    (hold : Option (List Bool)) (n : ℕ) (control : Control) (pair : ℕ → ℕ → Bool) (ap ai p q : List ℤ)
     (info : Info) (first ptr rows : List ℕ) (parent : List (Option ℕ)) →
-    (m : OrdersMatrix hold n t aggressive pair ap ai p q info) →
+    (m : OrdersMatrix hold n control pair ap ai p q info) →
     IsSupernodesOf (pos n) ap ai p first ptr rows parent →
     NoneEndsInside (graph_of n ap ai) (last_state m.first m.states) m.rows first

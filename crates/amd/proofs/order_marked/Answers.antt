@@ -50,13 +50,13 @@ returns-clause-ordering g c =
     let hold = option_copied c.args.hold in let z : ℤ = g.I.Number.value c.args.n in
     let a_p : List ℤ = map g.I.Number.value c.args.a_p.now in let a_i : List ℤ = map g.I.Number.value c.args.a_i.now in
     let p : List ℤ = map g.I.Number.value new.p in let q : List ℤ = map g.I.Number.value new.p_inv in
-    let n = c.in-Some.count in let t = c.args.control.now.dense in let aggressive = c.args.control.now.aggressive in
+    let n = c.in-Some.count in let control = c.args.control.now in
     let jumbled = c.in-Some-jumbled_of.jumbled in let status = c.class_of-status.result in let info = c.in_ok-info.info in
     let same = long g at.After-deref_mut in
     let p_is = take_at new.p (drop (length new.p) c.in_ok-p.p.items) c.in_ok-p.p.len
     (c.order_once.auto.p ∙ ap length c.deref_mut.ensures.value ∙ sym c.in_ok-p.p.ok.0) in
     let q_is = take_at new.p_inv (drop (length new.p_inv) c.in_ok-p_inv.p_inv.items) c.in_ok-p_inv.p_inv.len
     (c.order_once.auto.p_inv ∙ ap length c.deref_mut-2.ensures.value ∙ sym c.in_ok-p_inv.p_inv.ok.0) in
-    rw (p_is, q_is) (ordering hold n z t aggressive jumbled a_p a_i p q (record info { status = status }) status c.in-Some.ensures.1
+    rw (p_is, q_is) (ordering hold n z control jumbled a_p a_i p q (record info { status = status }) status c.in-Some.ensures.1
     (known g at.After-class_of-status) (sym c.jumbled_of.ensures ∙ c.in-Some-jumbled_of.is) refl
-    (orders_still hold n t aggressive (pairs_by jumbled n a_p a_i) a_p a_i p q info status (rw same at c.in_ok-info.ensures.orders)))
+    (orders_still hold n control (pairs_by jumbled n a_p a_i) a_p a_i p q info status (rw same at c.in_ok-info.ensures.orders)))

@@ -33,7 +33,7 @@ returns-clause-ordering g c =
     let hold = option_copied c.args.hold in let z : ℤ = g.I.Number.value c.args.n in let e = c.in-Some.ensures in
     let a_p : List ℤ = map g.I.Number.value c.args.a_p.now in let a_i : List ℤ = map g.I.Number.value c.args.a_i.now in
     let p : List ℤ = map g.I.Number.value c.order.new.p in let q : List ℤ = map g.I.Number.value c.order.new.p_inv in
-    ordering hold c.in-Some.size z c.args.control.now.dense c.args.control.now.aggressive c.in-Some-jumbled_of.jumbled a_p a_i p q
+    ordering hold c.in-Some.size z c.args.control.now c.in-Some-jumbled_of.jumbled a_p a_i p q
     c.order.new.info c.in-Some.status e.size
     (has_its_status hold c.in-Some.size z a_p a_i c.in-Some.status e.size c.if-size-eq0.false e.marks e.status)
     (sym c.jumbled_of.ensures ∙ c.in-Some-jumbled_of.is) c.order.ensures.status (rw e.places.0 at c.order.ensures.orders)

@@ -31,7 +31,7 @@ pub returns-clause-orders : goal.returns-clause-orders
 returns-clause-orders g c =
     let new = c.order_within_lent.new in let counted = c.count_degrees-nzaat in
     let room = c.requires.narrow in let sum = counted.ensures.few in let wide = room.0 in
-    engine_orders (option_copied c.args.hold) (length c.args.p.now) c.args.control.now.dense c.args.control.now.aggressive
+    engine_orders (option_copied c.args.request.now.hold) (length c.args.p.now) c.args.request.now.control.now
     (map g.J.Index.value c.args.a_p.now) (map g.J.Index.value c.args.a_i.now) (values new.p) (values new.p_inv)
     counted.new.memory.len.items counted.result counted.new.info new.info counted.ensures.degrees counted.ensures.figures
     (omega (arith, sum, wide)) c.order_within_lent.ensures.compactions c.order_within_lent.ensures.orders

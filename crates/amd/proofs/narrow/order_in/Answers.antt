@@ -29,5 +29,5 @@ returns-clause-orders g c =
     let a_p : List ℤ = values c.args.a_p.now in let a_i : List ℤ = values c.args.a_i.now in
     let b_p : List ℤ = values c.deref.result.now in let b_i : List ℤ = values c.deref-2.result.now in
     rw c.if-not-jumbled.false (ok_gives c.order_counted-2.result (λ info ordered.
-    orders_turned (option_copied c.args.hold) n c.args.control.now.dense c.args.control.now.aggressive a_p a_i b_p b_i (values new.p)
+    orders_turned (option_copied c.args.request.now.hold) n c.args.request.now.control.now a_p a_i b_p b_i (values new.p)
     (values new.p_inv) info (clean g (goal.at.returns-clause-orders g c).After-deref-2) ordered) c.order_counted-2.ensures.orders)

@@ -1,4 +1,4 @@
-use Rattle.std.proofs.Common.{length}
+use Rattle.std.proofs.Common.{arith, length}
 use Rattle.amd.proofs.once.order_counted.Goals as goal
 
 pub order_sorted-requires-clause-room : goal.order_sorted-requires-clause-room
@@ -13,4 +13,13 @@ order_sorted-requires-clause-room g c =
         lists = has.beside.lists;
       };
       nv = has.nv;
+    }
+
+pub order_sorted-requires-clause-counted : goal.order_sorted-requires-clause-counted
+order_sorted-requires-clause-counted g c =
+    let counted = c.count_degrees-nzaat.ensures in let sum = counted.few in let few = c.requires.few in record {
+      sum = c.count_degrees-nzaat.result;
+      degrees_are = counted.degrees;
+      held = omega arith;
+      few = omega (arith, sum, few);
     }
