@@ -14,6 +14,7 @@ mod memory;
 mod numbers;
 mod orders;
 mod refusals;
+mod shared;
 mod supernodes;
 mod texts;
 mod worked;
