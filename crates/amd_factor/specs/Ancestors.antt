@@ -1,5 +1,6 @@
 -- Links to ancestors in the elimination tree, while a row climbs by them. Source: Liu 1986.
-use Rattle.std.specs.Prelude.{ℕ, ◌≡◌, ◌≢◌, ◌<◌, ◌≤◌, ◌⊎◌, List, Option, None, length, slice_index, slice_index_or}
+use Rattle.std.specs.Prelude.{ℕ, true, ◌≡◌, ◌≢◌, ◌<◌, ◌≤◌, ◌⊎◌, List, Option, None, length, slice_index, slice_index_or}
+use Rattle.amd_model.specs.Graph.{IsGraph}
 use Rattle.amd_factor.specs.Orders.{Order}
 use Rattle.amd_factor.specs.Trees.{InSubtree, Over}
 use Rattle.amd_factor.specs.Walks.{TellParents}
@@ -23,6 +24,14 @@ pub record Climbing (o : Order) (i k : ℕ) (parent : List (Option ℕ)) (ancest
   pub roots : (m : ℕ) → m < i → slice_index ancestor m ≡ m → slice_index_or parent m None ≡ None
   pub marked : (m : ℕ) → m < i → slice_index ancestor m ≡ i → (r : ℕ) → r < i → Over o.graph o.rows m r →
       (slice_index_or parent r None ≢ None) ⊎ ((m < k) × Over o.graph o.rows k r)
+
+-- row i can climb from its earlier neighbour j
+pub record StartsClimb (o : Order) (j i : ℕ) (parent : List (Option ℕ)) (ancestor : List ℕ) : Type 0 where
+  pub laws : IsGraph o.graph
+  pub place : i < length o.rows
+  pub earlier : j < i
+  pub edge : o.graph.edge (slice_index o.rows j) (slice_index o.rows i) ≡ true
+  pub climbing : Climbing o i i parent ancestor
 
 -- the links between two rows: none leads to row i or behind it
 pub record Ready (o : Order) (i : ℕ) (parent : List (Option ℕ)) (ancestor : List ℕ) : Type 0 where

@@ -1,5 +1,5 @@
 -- What is asked where a column is planned and closed: the columns before it stand, and their children are in lists.
-use Rattle.std.specs.Prelude.{ℕ, ℤ, ◌≡◌, ◌<◌, ◌≤◌, ◌+◌, ◌-◌, List, [], Option, MatchOption, map, take, length}
+use Rattle.std.specs.Prelude.{ℕ, ℤ, ◌≡◌, ◌<◌, ◌≤◌, ◌+◌, ◌-◌, List, [], Option, MatchOption, map, pos, take, length}
 use Rattle.std.specs.Prelude.{slice_index, slice_range}
 use Rattle.std.specs.List.Sorted.{IsStrictlyIncreasing}
 use Rattle.amd_model.specs.Factor.{IsColumn}
@@ -105,3 +105,17 @@ pub record CanFinish {N : Type 0} (value : N → ℤ) (o : Order) (k : ℕ) (pla
   pub columns : HoldBefore o k ptr (naturals (map value (take (slice_index ptr k) rows)))
   pub parents : TellFirst o k ptr (naturals (map value (take (slice_index ptr k) rows))) parent
   pub links : LinkChildren o k link
+
+-- column k can be added behind those before it, by its later neighbours; each place is a number of the type
+pub record CanAdd (fits : ℤ → Type 0) (o : Order) (k : ℕ) (neighbours room : List ℕ) : Type 0 where
+  pub laws : IsGraph o.graph
+  pub place : k < length o.rows
+  pub fit : (j : ℕ) → j < length o.rows → fits (pos j)
+  pub later : AreLater o k neighbours
+  pub long : length room ≡ length o.rows
+
+-- the numbers end with the columns so far, within the room, for which there is the capacity
+pub record IsFull (end long room capacity : ℕ) : Type 0 where
+  pub full : end ≡ long
+  pub within : long ≤ room
+  pub capacity_is : room ≤ capacity

@@ -8,8 +8,10 @@ ghost use Rattle.amd_model.specs.Graph.{IsGraph};
 ghost use Rattle.amd_factor.specs.Columns.{FactorSizes, HoldFactor, PassesRoom};
 ghost use Rattle.amd_factor.specs.Gathering.{LinkChildren, MarksTell};
 ghost use Rattle.amd_factor.specs.Orders.{Order};
-ghost use Rattle.amd_factor.specs.Neighbours.{AreLater, HasLater};
+ghost use Rattle.amd_factor.specs.Neighbours.{HasLater};
 ghost use Rattle.amd_factor.specs.Numbers.{FillsFront};
+ghost use Rattle.amd_factor.specs.Planning.{CanAdd, IsFull};
+ghost use Rattle.amd_factor.specs.Premises.{CanWriteFactor};
 
 use crate::column::{Marked, finish_column, plan_behind};
 use amd_types::index::Index;
@@ -45,16 +47,10 @@ fn add_column<N: Index, A: Allocator>(
     room: usize,
 ) -> Option<Marked>
     ghost o: { Order }
-    requires laws { IsGraph o.graph }
-    requires place { k < length o.rows }
-    requires fits { (j : ℕ) → j < length o.rows → N.fits (pos j) }
-    requires neighbours { AreLater o k neighbours.now }
+    requires column { CanAdd N.fits o k neighbours.now fresh.old }
     requires filled { FillsFront N.value o k ptr.old rows.old.items parent.old link.old marked.column marked.stamp
         mark.old }
-    requires fresh { length fresh.old ≡ length o.rows }
-    requires full { slice_index ptr.old k ≡ length rows.old.items }
-    requires within { length rows.old.items ≤ room }
-    requires capacity { room ≤ vec_capacity rows.old }
+    requires full { IsFull (slice_index ptr.old k) (length rows.old.items) room (vec_capacity rows.old) }
     ensures filled { MatchOption result (PassesRoom o.graph o.rows room)
         (λ now. FillsFront N.value o (k + 1) ptr.new rows.new.items parent.new link.new now.column now.stamp mark.new) }
     ensures full { MatchOption result (Unit {0}) (λ now. slice_index ptr.new (k + 1) ≡ length rows.new.items) }
@@ -115,12 +111,9 @@ pub fn fill<N: Index, A: Allocator>(
     fresh: &mut [usize],
 ) -> Option<usize>
     ghost o: { Order }
-    requires laws { IsGraph o.graph }
-    requires fits { (j : ℕ) → j < length o.rows → N.fits (pos j) }
-    requires later { HasLater o starts.now later.now }
+    requires lists { CanWriteFactor o N.fits starts.now later.now }
     requires sizes { FactorSizes o ptr.old parent.old mark.old link.old fresh.old }
-    requires empty { rows.old.items ≡ [] }
-    requires capacity { room ≤ vec_capacity rows.old }
+    requires room { (rows.old.items ≡ []) × (room ≤ vec_capacity rows.old) }
     ensures factor { MatchOption result (PassesRoom o.graph o.rows room)
         (λ total. (total ≡ length rows.new.items) × (entries : List ℕ) ×
         (map N.value rows.new.items ≡ map pos entries) × HoldFactor o.graph o.rows ptr.new entries parent.new) }
@@ -153,12 +146,8 @@ fn add_column_into<N: Index>(
     fresh: &mut [usize],
 ) -> Option<Marked>
     ghost o: { Order }
-    requires laws { IsGraph o.graph }
-    requires place { k < length o.rows }
-    requires fits { (j : ℕ) → j < length o.rows → N.fits (pos j) }
-    requires neighbours { AreLater o k neighbours.now }
+    requires column { CanAdd N.fits o k neighbours.now fresh.old }
     requires filled { FillsFront N.value o k ptr.old rows.old parent.old link.old marked.column marked.stamp mark.old }
-    requires fresh { length fresh.old ≡ length o.rows }
     ensures filled { MatchOption result (PassesRoom o.graph o.rows (length rows.old))
         (λ now. FillsFront N.value o (k + 1) ptr.new rows.new parent.new link.new now.column now.stamp mark.new) }
     ensures rest { MatchOption result (Unit {0}) (λ now. (slice_index ptr.old k ≤ slice_index ptr.new (k + 1)) ×

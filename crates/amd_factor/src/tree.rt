@@ -6,17 +6,13 @@ ghost use Rattle.amd_model.specs.Graph.{IsGraph};
 ghost use Rattle.amd_factor.specs.Neighbours.{AreEarlier, HasEarlier};
 ghost use Rattle.amd_factor.specs.Orders.{Order};
 ghost use Rattle.amd_factor.specs.Walks.{TellParents};
-ghost use Rattle.amd_factor.specs.Ancestors.{Climbing, IsDone};
+ghost use Rattle.amd_factor.specs.Ancestors.{StartsClimb, Climbing, IsDone};
 
 /// Climbs from the earlier neighbour `j` of row `i` to the root of its tree, which row `i` becomes the parent of. Each
 /// place on the way is linked to row `i`.
 fn climb(j: usize, i: usize, parent: &mut [Option<usize>], ancestor: &mut [usize])
     ghost o: { Order }
-    requires laws { IsGraph o.graph }
-    requires place { i < length o.rows }
-    requires earlier { j < i }
-    requires edge { o.graph.edge (slice_index o.rows j) (slice_index o.rows i) ≡ true }
-    requires climbing { Climbing o i i parent.old ancestor.old }
+    requires { StartsClimb o j i parent.old ancestor.old }
     ensures climbing { Climbing o i i parent.new ancestor.new }
     ensures done { IsDone o i parent.new j }
     ensures kept { (m : ℕ) → IsDone o i parent.old m → IsDone o i parent.new m }

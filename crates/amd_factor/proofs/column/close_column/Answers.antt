@@ -1,5 +1,6 @@
 use Rattle.std.proofs.Common.{ℕ, ℤ, List, ◌≡◌, ◌<◌, ◌≤◌, ◌∙◌, ap, arith, length, map, refl, sym}
 use Rattle.std.specs.Prelude.{◌^◌, Some, slice_index, slice_range}
+use Rattle.std.proofs.lemmas.Grind.{common_steps}
 use Rattle.amd_model.specs.Factor.{IsColumn}
 use Rattle.amd_factor.specs.Columns.{first_of}
 use Rattle.amd_factor.specs.Orders.{Order}
@@ -40,7 +41,7 @@ place_at-first-requires-clause-small g c =
     parent_small g.o c.args.k (naturals (map g.N.Index.value c.args.rows.now)) (slice_index c.args.ptr.now c.args.k) c.args.end
     (below (slice_index c.args.ptr.now c.args.k) c.args.end c.requires.1.range c.if-begin-end.false)
     (stands_within g.N.Index.value c.args.rows.now c.args.end c.requires.1.within)
-    c.requires.1.column (length c.args.parent.now) c.requires.1.parents.room c.well_formed.1.1.1.1.0.0
+    c.requires.1.column (length c.args.parent.now) c.requires.1.parents.room (grind (arith, common_steps))
 
 pub link_child-requires : goal.link_child-requires
 link_child-requires g c = (

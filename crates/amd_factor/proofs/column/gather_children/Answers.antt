@@ -16,7 +16,8 @@ gather-count-requires g c κs within =
     let value = g.N.Index.value in
     let from = c.inherited-from.result.0 in let to = c.inherited-from.result.1 in
     let is : IsChild g.c c.in-Some.child = subst (LeadsTo g.c.order g.c.place) c.in-Some.is c.children.invariant.leads in
-    let has = (c.inherited-from.ensures.takes g.c (naturals (map value c.args.columns.rows.now)) c.requires.1.columns.stand is).inherits.1 in (
+    let stand = c.requires.1.columns.stand in let rows = naturals (map value c.args.columns.rows.now) in
+    let has = (c.inherited-from.ensures.takes g.c rows stand is).inherits.1 in (
       within,
       (
         are_range value c.args.columns.rows.now from to c.requires.1.columns.numbers,
@@ -36,7 +37,8 @@ children-preserved g c =
     let previous : IsLastChild g.c.order g.c.place child (slice_index_or c.args.columns.link.now child None) =
     c.requires.1.columns.links.previous child g.c.place is.entry.0 is in
     let leads' = leads g.c.order g.c.place child (slice_index_or c.args.columns.link.now child None) previous in
-    let past : (m : ℕ) → IsChild g.c m → IsAhead c.children.next m → (m ≡ child) ⊎ IsAhead (slice_index_or c.args.columns.link.now child None) m =
+    let past : (m : ℕ) → IsChild g.c m → IsAhead c.children.next m →
+    (m ≡ child) ⊎ IsAhead (slice_index_or c.args.columns.link.now child None) m =
     (λ m p x. elim (cases_eq m child) [
       | inl q ↦ inl q
       | inr ne ↦ inr (ahead_past g.c.order g.c.place child m (slice_index_or c.args.columns.link.now child None) previous p

@@ -19,16 +19,10 @@ fill-requires g c κs inside =
       (
         inside,
         (
-          c.requires.1.0,
+          record { laws = c.requires.1.0; most = λ j l. (let room = h.room in omega (arith, l, room)); later_are = h },
           (
-            (λ j l. let room = h.room in omega (arith, l, room)),
-            (
-              h,
-              (
-                (rw (ptr, parent, mark, link, fresh) c.in_ok-lists.ensures),
-                (c.in_ok-rows.ensures.items, (let e = c.in_ok-rows.ensures.exact in omega (arith, e))),
-              ),
-            ),
+            (rw (ptr, parent, mark, link, fresh) c.in_ok-lists.ensures),
+            (c.in_ok-rows.ensures.items, (let e = c.in_ok-rows.ensures.exact in omega (arith, e))),
           ),
         ),
       ),

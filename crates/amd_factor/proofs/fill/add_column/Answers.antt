@@ -23,11 +23,11 @@ module _ {N : Type 0} (value : N → ℤ) (o : Order) (k : ℕ) (ptr : List ℕ)
 
 pub plan_behind-plan-requires : goal.plan_behind-plan-requires
 plan_behind-plan-requires g c κs inside =
-    let q = c.requires.1.1 in let front = q.1.1.1.1.0 in let full = q.1.1.1.1.1.1.0 in
+    let q = c.requires.1.1 in let can = q.0 in let front = q.1.0 in let full = q.1.1.full in
     let value = g.N.Index.value in let ptr = c.args.ptr.now in let items = c.args.rows.now.items in (
       inside,
       (
-        record { laws = q.0; place = q.1.0; later = q.1.1.1.0; marks = front.filled.marks; long = q.1.1.1.1.1.0 },
+        record { laws = can.laws; place = can.place; later = can.later; marks = front.filled.marks; long = can.long },
         record {
           numbers = numbers_now value g.o c.args.k ptr items c.deref.result.now full c.deref.ensures.value front.numbers;
           links = front.filled.links;
@@ -38,13 +38,13 @@ plan_behind-plan-requires g c κs inside =
 
 pub returns-then-room-begin-clause-filled : goal.returns-then-room-begin-clause-filled
 returns-then-room-begin-clause-filled g c =
-    let full = c.requires.1.1.1.1.1.1.1.1.0 in let plan = c.plan_behind-plan.result in
+    let q = c.requires.1.1 in let can = q.0 in let full = q.1.1.full in let plan = c.plan_behind-plan.result in
     let columns = columns_now g.N.Index.value g.o c.args.k c.args.ptr.now c.args.rows.now.items c.deref.result.now full
-    c.deref.ensures.value c.requires.1.1.1.1.1.1.0.filled.columns in
+    c.deref.ensures.value q.1.0.filled.columns in
     let count = length-take-le plan.count c.plan_behind-plan.new.fresh c.plan_behind-plan.ensures.count in
-    let begin = c.len-begin.ensures in let more = c.if-room-begin.true in let within = c.requires.1.1.1.1.1.1.1.1.1.0 in
-    passes g.o c.requires.1.1.0 c.args.k c.args.ptr.now (naturals (map g.N.Index.value c.deref.result.now))
-    (take plan.count c.plan_behind-plan.new.fresh) plan.from plan.to c.args.room c.requires.1.1.1.0 columns
+    let begin = c.len-begin.ensures in let more = c.if-room-begin.true in let within = q.1.1.within in
+    passes g.o can.laws c.args.k c.args.ptr.now (naturals (map g.N.Index.value c.deref.result.now))
+    (take plan.count c.plan_behind-plan.new.fresh) plan.from plan.to c.args.room can.place columns
     c.plan_behind-plan.ensures.plans (omega (arith, count, begin, more, within, full))
 
 pub returns-clause-within : goal.returns-clause-within

@@ -6,22 +6,19 @@ pub add_column-requires : goal.add_column-requires
 add_column-requires g c κs inside =
     let q = c.requires.1.1 in
     let i = c.columns.invariant in let r = i.filled.filled.parents.room in let t = c.columns-test.true in
-    let kept = i.capacity in let given = q.1.1.1.1.1 in (
+    let kept = i.capacity in let given = q.1.1.1 in (
       inside.0,
       (
         inside.1,
         (
-          q.0,
-          (
-            omega (arith, r, t),
-            (
-              q.1.0,
-              (
-                q.1.1.0.each c.columns.k (omega (arith, r, t)),
-                (i.filled, (c.columns.auto.fresh ∙ q.1.1.1.0.fresh, (i.full, (i.within, omega (arith, kept, given))))),
-              ),
-            ),
-          ),
+          record {
+            laws = q.0.laws;
+            place = omega (arith, r, t);
+            fit = q.0.most;
+            later = q.0.later_are.each c.columns.k (omega (arith, r, t));
+            long = c.columns.auto.fresh ∙ q.1.0.fresh;
+          },
+          (i.filled, record { full = i.full; within = i.within; capacity_is = omega (arith, kept, given) }),
         ),
       ),
     )
@@ -32,8 +29,8 @@ returns-clause-factor g c =
     let i = c.columns.invariant in
     let r = i.filled.filled.parents.room in let t = c.columns-test.false in
     let end = c.columns.auto.k-end in
-    let from = q.1.1.1.0.parents in
+    let from = q.1.0.parents in
     let all : c.columns.k ≡ length g.o.rows = at_end c.columns.k (length c.args.parent.now) (length g.o.rows) t end from in
     let places : c.columns.k ≡ length c.columns.parent = all ∙ sym r in
-    list_written {N = g.row.N.Denot} g.N.Index.value g.o q.0 c.columns.k (length c.columns.parent) c.columns.ptr c.columns.rows.items
+    list_written {N = g.row.N.Denot} g.N.Index.value g.o q.0.laws c.columns.k (length c.columns.parent) c.columns.ptr c.columns.rows.items
     c.columns.parent c.columns.link c.columns.marked.column c.columns.marked.stamp c.columns.mark i.filled all places i.full

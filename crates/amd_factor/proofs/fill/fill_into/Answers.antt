@@ -9,17 +9,14 @@ add_column_into-requires g c κs inside =
     let i = c.columns.invariant in let r = i.filled.filled.parents.room in let t = c.columns-test.true in (
       inside,
       (
-        q.1.0,
-        (
-          omega (arith, r, t),
-          (
-            q.1.1.0,
-            (
-              q.1.1.1.each c.columns.k (omega (arith, r, t)),
-              (i.filled, c.columns.auto.fresh ∙ q.0.fresh),
-            ),
-          ),
-        ),
+        record {
+          laws = q.1.0;
+          place = omega (arith, r, t);
+          fit = q.1.1.0;
+          later = q.1.1.1.each c.columns.k (omega (arith, r, t));
+          long = c.columns.auto.fresh ∙ q.0.fresh;
+        },
+        i.filled,
       ),
     )
 

@@ -4,9 +4,9 @@ use Rattle.amd_factor.proofs.tree.climb.Goals as goal
 
 pub up-init : goal.up-init
 up-init g c = record {
-  climbing = begin g.o c.requires.0 c.args.i c.requires.1.0 c.args.j c.requires.1.1.0 c.requires.1.1.1.0 c.args.parent.now
+  climbing = begin g.o c.requires.laws c.args.i c.requires.place c.args.j c.requires.earlier c.requires.edge c.args.parent.now
       c.args.ancestor.now
-      c.requires.1.1.1.1;
+      c.requires.climbing;
   waits = λ r l h. inr h;
   kept = λ m h. h;
 }
@@ -14,12 +14,12 @@ up-init g c = record {
 pub up-preserved-then-next-k : goal.up-preserved-then-next-k
 up-preserved-then-next-k g c =
     record {
-      climbing = ended g.o c.requires.0 c.args.i c.requires.1.0 c.up.k c.up.parent c.up.ancestor c.up.invariant.climbing c.up-test.true
+      climbing = ended g.o c.requires.laws c.args.i c.requires.place c.up.k c.up.parent c.up.ancestor c.up.invariant.climbing c.up-test.true
           c.if-next-k.true;
-      waits = λ r l h. ends g.o c.requires.0 c.args.i c.requires.1.0 c.up.k c.up.parent c.up.ancestor c.up.invariant.climbing c.up-test.true
+      waits = λ r l h. ends g.o c.requires.laws c.args.i c.requires.place c.up.k c.up.parent c.up.ancestor c.up.invariant.climbing c.up-test.true
           c.if-next-k.true
           r l (c.up.invariant.waits r l h);
-      kept = λ m h. done-more g.o c.requires.0 c.args.i c.requires.1.0 c.up.k c.up.parent c.up.ancestor c.up.invariant.climbing
+      kept = λ m h. done-more g.o c.requires.laws c.args.i c.requires.place c.up.k c.up.parent c.up.ancestor c.up.invariant.climbing
           c.up-test.true
           c.if-next-k.true m (c.up.invariant.kept m h);
     }
@@ -27,14 +27,14 @@ up-preserved-then-next-k g c =
 pub up-preserved : goal.up-preserved
 up-preserved g c =
     record {
-      climbing = onward g.o c.requires.0 c.args.i c.requires.1.0 c.up.k c.up.parent c.up.ancestor c.up.invariant.climbing c.up-test.true
+      climbing = onward g.o c.requires.laws c.args.i c.requires.place c.up.k c.up.parent c.up.ancestor c.up.invariant.climbing c.up-test.true
           c.if-next-k.false;
-      waits = λ r l h. still g.o c.requires.0 c.args.i c.requires.1.0 c.up.k c.up.parent c.up.ancestor c.up.invariant.climbing
+      waits = λ r l h. still g.o c.requires.laws c.args.i c.requires.place c.up.k c.up.parent c.up.ancestor c.up.invariant.climbing
           c.up-test.true
           c.if-next-k.false r l (c.up.invariant.waits r l h);
       kept = c.up.invariant.kept;
     }
 
 pub returns-clause-done : goal.returns-clause-done
-returns-clause-done g c = λ r l h. done-end g.o c.requires.0 c.args.i c.requires.1.0 c.up.k c.up.parent c.up-test.false r l
+returns-clause-done g c = λ r l h. done-end g.o c.requires.laws c.args.i c.requires.place c.up.k c.up.parent c.up-test.false r l
     (c.up.invariant.waits r l h)

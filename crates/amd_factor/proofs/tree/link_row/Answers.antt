@@ -11,7 +11,7 @@ earlier-init g c = record { climbing = c.requires.1.1.1; done = λ s l. absurd (
 pub climb-requires : goal.climb-requires
 climb-requires g c =
     let e = neighbour g.o c.args.i c.args.earlier.now c.earlier.j-index c.requires.1.1.0 c.earlier-test.true in
-    (c.requires.0, (c.requires.1.0, (e.0, (e.1, c.earlier.invariant.climbing))))
+    record { laws = c.requires.0; place = c.requires.1.0; earlier = e.0; edge = e.1; climbing = c.earlier.invariant.climbing }
 
 pub earlier-preserved : goal.earlier-preserved
 earlier-preserved g c = record {
