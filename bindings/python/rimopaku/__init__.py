@@ -341,7 +341,7 @@ def counts(
 ) -> Counts:
     """Returns how many entries each column of the factor has below its diagonal, and the elimination tree.
 
-    The arguments and errors are those of ``analyze``. No entry is written, and it takes little memory.
+    The arguments and errors are those of ``analyze``. The memory that it takes does not grow with the factor.
 
     >>> import scipy.sparse as sp
     >>> cycle = sp.csc_matrix([[1, 1, 0, 1], [1, 1, 1, 0], [0, 1, 1, 1], [1, 0, 1, 1]])

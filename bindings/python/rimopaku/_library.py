@@ -160,7 +160,7 @@ def columns(matrix: Columns, p: Numbers, room: int) -> Tuple[Numbers, Numbers, N
 
 
 def counts(matrix: Columns, p: Numbers) -> Tuple[Numbers, Numbers]:
-    """The numbers of entries of the columns of that factor, and their parents; no entry is written."""
+    """The numbers of entries of the columns of that factor, and their parents, without the entries."""
     kind = matrix.a_p.dtype
     sizes, parent = np.empty(matrix.n, kind), np.empty(matrix.n, kind)
     _call("counts", matrix, p, sizes, parent, Needs())

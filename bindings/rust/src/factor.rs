@@ -205,8 +205,8 @@ fn counts_in<I: PrimInt, T: Word>(matrix: Matrix<I>, p: &[I]) -> Result<Counts<I
     }
 }
 
-/// Returns how many entries each column of the factor in the order `p` has, and what the factor needs. No entry is
-/// written: the call takes memory for the matrix and its rows, whatever the factor needs.
+/// Returns how many entries each column of the factor in the order `p` has, and what the factor needs. The
+/// call takes memory for the matrix and its rows, whatever the factor needs.
 ///
 /// # Errors
 ///

@@ -138,8 +138,8 @@ pub extern "C" fn rimopaku_columns_i32(
 /// 0.
 ///
 /// The number of entries of each column is written into `sizes`, and the parents into `parent`, with -1 for none. Each
-/// of the two has `n` places. What the factor needs is written into `needs`; its figures saturate. No entry is written,
-/// and the memory that is taken does not grow with the factor. See `include/rimopaku.h` for what a caller must uphold.
+/// of the two has `n` places. What the factor needs is written into `needs`; its figures saturate. The memory
+/// that is taken does not grow with the factor. See `include/rimopaku.h` for what a caller must uphold.
 ///
 /// # Errors
 ///

@@ -2,10 +2,10 @@
 //! tree.
 //!
 //! [`columns`] takes the pattern of a square matrix by columns and any order of its rows; [`columns_into`] writes the
-//! entries into numbers of the caller. [`counts`] counts the entries of the columns without writing them.
-//! [`needs::need_of`] sums what a factor needs. A [`FactorWorkspace`] is memory that is taken once: its calls write the
-//! same counts and columns, and ask for none. [`supernodes`] takes what `columns` takes but a room, and returns the
-//! columns by supernodes; [`expand`] makes these columns from them.
+//! entries into numbers of the caller. [`counts`] counts the entries of the columns, in memory that does not grow with
+//! them. [`needs::need_of`] sums what a factor needs. A [`FactorWorkspace`] is memory that is taken once: its calls
+//! write the same counts and columns, and ask for none. [`supernodes`] takes what `columns` takes but a room, and
+//! returns the columns by supernodes; [`expand`] makes these columns from them.
 //!
 //! No call here makes an order: the crate `amd_symbolic` has those that do.
 //!
@@ -19,7 +19,7 @@
 //!   taken, and `fill` writes.
 //! - `tree`, `ranks`, `meeting`, `sweep`, `sizes`: how many entries the columns have, in slices: the elimination tree,
 //!   its postorder, and a sweep over all arcs.
-//! - `needs`, `counted`, `counting`: what a factor needs; [`counts`].
+//! - `needs`, `counted`, `sharing`, `counting`: what a factor needs; [`counts`], by columns that share their entries.
 //! - `partition`, `below`, `rows_below`, `supernodal`: [`supernodes`]: the places are cut into supernodes by the counts,
 //!   and the rows climb through these; [`supernode_partition`] and [`write_rows`] do the two apart.
 //! - `sizing`, `expanding`: [`supernode_sizes`]: how much room they need; [`expand`]: their columns.
