@@ -1,6 +1,6 @@
 -- Columns that share entries: one with nothing new has those of a child where they stand.
 use Rattle.std.specs.Prelude.{ℕ, ℤ, ◌≡◌, ◌<◌, ◌≤◌, ◌^◌, List, Option, None, map, length, slice_index, slice_index_or}
-use Rattle.std.specs.Prelude.{slice_range}
+use Rattle.std.specs.Prelude.{slice_range, take}
 use Rattle.amd_model.specs.Factor.{IsColumn}
 use Rattle.amd_model.specs.Graph.{IsGraph}
 use Rattle.amd_types.specs.Naturals.{naturals}
@@ -10,6 +10,7 @@ use Rattle.amd_factor.specs.Neighbours.{HasLater}
 use Rattle.amd_factor.specs.Numbers.{AreNonNegative, Plans}
 use Rattle.amd_factor.specs.Orders.{Order}
 use Rattle.amd_factor.specs.declared.column.Plan.{Plan}
+use Rattle.amd_factor.specs.declared.sharing.Placed.{Placed}
 use Rattle.amd_factor.specs.declared.sharing.SharedLists.{SharedLists}
 
 -- the parents of the columns before place k are the first of the entries that stand for them
@@ -37,6 +38,12 @@ pub record IsPlanned {N : Type 0} (value : N → ℤ) (o : Order) (k : ℕ) (pla
     pub plans : Plans o k (naturals (map value rows)) plan.from plan.to fresh
     pub numbers : AreNonNegative (map value rows)
     pub small : length o.rows < 2 ^ 64
+
+-- the columns then have the first numbers, which are not negative: at least as many as before
+pub record IsPlaced {N : Type 0} (value : N → ℤ) (used : ℕ) (placed : Placed) (rows : List N) : Type 0 where
+  pub more : used ≤ placed.used
+  pub within : placed.used ≤ length rows
+  pub numbers : AreNonNegative (map value (take placed.used rows))
 
 -- the lists have a place for each row
 pub record HasPlaces {A : Type 0} (o : Order) (l : SharedLists A) : Type 0 where

@@ -1,9 +1,9 @@
 // The columns of a factor, in which one with nothing new shares the entries of a child: they are not written again. So
-// the columns can be counted in room that does not grow with the factor, as long as few of them have something new.
-// Source: Sherman 1975 (compressed subscripts); George and Liu 1981.
+// the columns can be counted in room that does not grow with the factor, as long as few of them have something new. The
+// rows are numbers of 32 bits. Source: Sherman 1975 (compressed subscripts); George and Liu 1981.
 
-ghost use Rattle.std.specs.Prelude.{ℕ, ◌≡◌, ◌<◌, ◌≤◌, ◌+◌, ◌-◌, true, [], None, length, map, pos, slice_index, take, IfOk};
-ghost use Rattle.std.specs.Prelude.{MatchOption};
+ghost use Rattle.std.specs.Prelude.{ℕ, ◌≡◌, ◌<◌, ◌≤◌, ◌+◌, ◌-◌, true, [], None, length, map, pos, slice_index, take};
+ghost use Rattle.std.specs.Prelude.{IfOk, MatchOption};
 ghost use Rattle.std.specs.Vec.{vec_capacity};
 ghost use Rattle.amd_model.specs.Graph.{IsGraph};
 ghost use Rattle.amd_types.specs.Naturals.{naturals};
@@ -13,7 +13,7 @@ ghost use Rattle.amd_factor.specs.Neighbours.{HasLater};
 ghost use Rattle.amd_factor.specs.Numbers.{AreNonNegative, Plans};
 ghost use Rattle.amd_factor.specs.Orders.{Order};
 ghost use Rattle.amd_factor.specs.Planning.{CanPlan};
-ghost use Rattle.amd_factor.specs.Sharing.{CanShare, CanStand, HasPlaces, IsPlanned, KeepsColumns, Share};
+ghost use Rattle.amd_factor.specs.Sharing.{CanShare, CanStand, HasPlaces, IsPlanned, IsPlaced, KeepsColumns, Share};
 ghost use Rattle.amd_factor.specs.Sharing.{StandsFrom};
 
 use crate::children::link_child;
@@ -28,6 +28,9 @@ use std::alloc::{AllocError, Allocator};
 
 // How many numbers there is room for, for each arc and each row.
 const ROWS: usize = 8;
+
+// How many zeros are appended at once, where there is room for them: half of what a cache of the first level holds.
+const ZEROS: usize = 4096;
 
 /// The lists in which columns share their entries, each with a place for each column.
 #[derive(Drop)]
@@ -105,35 +108,66 @@ fn plan_shared<N: Index, A: Allocator>(
     )
 }
 
-/// Where the entries of a planned column stand, from which place on and before which: if nothing is new, those that it
-/// takes over; else they are written behind all others. None where there is no room.
+/// Where a column stands, from place `begin` on and before `end`, and how many numbers the columns then have.
+#[derive(Clone, Copy)]
+struct Placed {
+    begin: usize,
+    end: usize,
+    used: usize,
+}
+
+/// Appends zeros to numbers until there are `long` of them, and more at once, so that few calls do it.
+fn lengthen<N: Index, A: Allocator>(long: usize, room: usize, rows: &mut Vec<N, A>)
+    requires room { (long ≤ room) × (length rows.old.items ≤ room) × (room ≤ vec_capacity rows.old) }
+    ensures long { (long ≤ length rows.new.items) × (length rows.new.items ≤ room) }
+    ensures kept { take (length rows.old.items) rows.new.items ≡ rows.old.items }
+    ensures capacity { vec_capacity rows.new ≡ vec_capacity rows.old }
+{
+    let now = rows.len();
+    if now < long {
+        let zeros = (long - now).max(ZEROS).min(room - now);
+        replace_with(rows, zeros, with_zeros);
+    }
+}
+
+/// Where the entries of a planned column stand: if nothing is new, those that it takes over; else they are written
+/// behind the numbers of the columns before it. None where there is no room.
 fn place_column<N: Index, A: Allocator>(
     plan: Plan,
     fresh: &[usize],
+    used: usize,
     rows: &mut Vec<N, A>,
     room: usize,
-) -> Option<(usize, usize)>
-    requires planned { (o : Order) × (k : ℕ) × IsPlanned N.value o k plan fresh.now rows.old.items ×
+) -> Option<Placed>
+    requires planned { (o : Order) × (k : ℕ) × IsPlanned N.value o k plan fresh.now (take used rows.old.items) ×
         ((j : ℕ) → j < length o.rows → N.fits (pos j)) }
-    requires room { room ≤ vec_capacity rows.old }
-    ensures stands { MatchOption result (Unit {0}) (λ s. (o : Order) (k : ℕ) →
-        IsPlanned N.value o k plan fresh.now rows.old.items → StandsFrom N.value o k s.0 s.1 rows.new.items) }
-    ensures kept { take (length rows.old.items) rows.new.items ≡ rows.old.items }
-    ensures numbers { AreNonNegative (map N.value rows.new.items) }
+    requires used { used ≤ length rows.old.items }
+    requires room { (length rows.old.items ≤ room) × (room ≤ vec_capacity rows.old) }
+    ensures placed { MatchOption result (Unit {0}) (λ p. IsPlaced N.value used p rows.new.items) }
+    ensures stands { MatchOption result (Unit {0}) (λ p. (o : Order) (k : ℕ) →
+        IsPlanned N.value o k plan fresh.now (take used rows.old.items) →
+        StandsFrom N.value o k p.begin p.end (take p.used rows.new.items)) }
+    ensures kept { take used rows.new.items ≡ take used rows.old.items }
+    ensures room { length rows.new.items ≤ room }
     ensures capacity { vec_capacity rows.new ≡ vec_capacity rows.old }
 {
+    let begin = plan.from;
+    let end = plan.to;
     if fresh.is_empty() {
-        return Some((plan.from, plan.to));
+        return Some(Placed { begin, end, used });
     }
-    let begin = rows.len();
-    let size = plan.to - plan.from + fresh.len();
-    if room < begin || room - begin < size {
+    let size = end - begin + fresh.len();
+    if room - used < size {
         return None;
     }
-    replace_with(rows, size, with_zeros);
-    let (done, free) = rows.split_at_mut(begin);
-    write_merged(&done[plan.from..plan.to], fresh, free);
-    Some((begin, begin + size))
+    lengthen(used + size, room, rows);
+    let (done, free) = rows.split_at_mut(used);
+    write_merged(&done[begin..end], fresh, &mut free[..size]);
+    Some(Placed {
+        begin: used,
+        end: used + size,
+        used: used + size,
+    })
 }
 
 /// Says where column `k` stands: from place `begin` on, before `end`. Its first entry is its parent.
@@ -186,7 +220,7 @@ fn share_columns<N: Index, A: Allocator>(
     requires fits { (j : ℕ) → j < length o.rows → N.fits (pos j) }
     requires columns { CanShare o starts.now later.now lists.old }
     requires room { (rows.old.items ≡ []) × (room ≤ vec_capacity rows.old) }
-    ensures shared { result ≡ true → Share N.value o (length o.rows) lists.new rows.new.items }
+    ensures shared { result ≡ true → (used : ℕ) × Share N.value o (length o.rows) lists.new (take used rows.new.items) }
     ensures places { HasPlaces o lists.new }
 {
     let mut marked = Marked {
@@ -194,13 +228,15 @@ fn share_columns<N: Index, A: Allocator>(
         stamp: 0,
     };
     let mut again = 0;
+    let mut used = 0;
     'columns: for k in 0..lists.parent.len() {
         let neighbours = &later[starts[k]..starts[k + 1]];
-        let plan = plan_shared(k, neighbours, marked, lists, rows);
-        let Some((begin, end)) = place_column(plan, &lists.fresh[..plan.count], rows, room) else {
+        let plan = plan_shared(k, neighbours, marked, lists, &rows[..used]);
+        let Some(placed) = place_column(plan, &lists.fresh[..plan.count], used, rows, room) else {
             return false;
         };
-        stand_column(k, begin, end, rows, lists);
+        used = placed.used;
+        stand_column(k, placed.begin, placed.end, &rows[..used], lists);
         marked = plan.marked;
         again = marked_again(again, k, plan);
         if again > room {
@@ -228,8 +264,8 @@ fn shared_room(columns: usize, arcs: usize) -> usize {
 }
 
 /// Counts the entries of the columns of a factor and sums up what it needs, by the lists of later neighbours: the
-/// columns are made, and share their entries. None where there is no room for all of them, or more work than that. All
-/// memory is taken before the first column.
+/// columns are made, and share their entries. None where there is no room for all of them, or more work than that, or
+/// where a row is no number of 32 bits. All memory is taken before the first column.
 ///
 /// # Errors
 ///
@@ -246,9 +282,12 @@ pub fn shared_counts<A: Allocator + Copy>(
         (λ c. TellCounts o.graph o.rows c.sizes.items c.parent.items c.need)) }
 {
     let columns = starts.len() - 1;
+    if columns > i32::MAX as usize {
+        return Ok(None);
+    }
     let room = shared_room(columns, later.len());
     let mut lists = shared_lists(alloc, columns)?;
-    let mut rows: Vec<usize, A> = Vec::with_capacity(alloc, room)?;
+    let mut rows: Vec<i32, A> = Vec::with_capacity(alloc, room)?;
     if !share_columns(starts, later, room, &mut lists, &mut rows) {
         return Ok(None);
     }

@@ -4,6 +4,7 @@ use Rattle.std.proofs.Common.{pos, set, take, take_all, drop, []}
 use Rattle.std.specs.Prelude.{slice_index, slice_index_or, slice_range, Option, None}
 use Rattle.std.proofs.lemmas.Bool.{cases_eq}
 use Rattle.std.proofs.lemmas.List.{
+  append_assoc,
   get_or-map,
   get_or-set_other,
   get_or-set_same,
@@ -13,6 +14,8 @@ use Rattle.std.proofs.lemmas.List.{
   length-set,
   length-take,
   same_lists,
+  take-append-le,
+  take-take,
   take_at,
 }
 use Rattle.std.proofs.lemmas.List.Edits.{length-between}
@@ -36,10 +39,14 @@ use Rattle.amd_factor.proofs.Factors.PlaceNumbers.{are_append, counts_append, co
 use Rattle.amd_factor.proofs.Factors.Standing.{merged_column}
 use Rattle.amd_factor.proofs.Factors.Tails.{range_last, range_same}
 
--- the first two of three lists
-pub first_two : {N : Type 0} (n : ℕ) (xs ys zs : List N) → n ≡ length xs + length ys → xs ++ ys ≡ take n (xs ++ ys ++ zs)
-first_two n xs ys zs e =
-    sym (take_at (xs ++ ys) zs n (let l = length-append xs ys in omega (arith, l, e)))
+-- two lists, in front of all that follows them
+pub written_front : {N : Type 0} (n most : ℕ) (xs ys rest behind : List N) → n ≡ length xs + length ys → n ≤ most →
+    take n (take most (xs ++ (ys ++ rest) ++ behind)) ≡ xs ++ ys
+written_front n most xs ys rest behind e low =
+    let both : n ≡ length (xs ++ ys) = (let l = length-append xs ys in omega (arith, l, e)) in
+    take-take n most (xs ++ (ys ++ rest) ++ behind) low ∙ ap (λ zs. take n (zs ++ behind)) (sym (append_assoc xs ys rest))
+    ∙ take-append-le n (xs ++ ys ++ rest) behind (let l = length-append (xs ++ ys) rest in omega (arith, l, both))
+    ∙ take_at (xs ++ ys) rest n (sym both)
 
 module _ {N : Type 0} (value : N → ℤ) (o : Order) (k : ℕ) (rows : List N) (from to : ℕ) (fresh : List ℕ)
     (plans : Plans o k (naturals (map value rows)) from to fresh) where

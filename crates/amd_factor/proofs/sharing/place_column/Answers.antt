@@ -1,33 +1,41 @@
-use Rattle.std.proofs.Common.{ℕ, ◌≡◌, ◌+◌, ◌-◌, ◌++◌, ◌∙◌, ap, arith, inl, inr, length, map, pos, subst, sym, take, drop}
+use Rattle.std.proofs.Common.{ℕ, ◌≡◌, ◌≤◌, ◌+◌, ◌-◌, ◌++◌, ◌∙◌, ap, arith, inl, inr, length, List, map, pos, subst, sym, take}
 use Rattle.std.specs.Prelude.{Contains, slice_index, slice_range}
 use Rattle.std.proofs.lemmas.Bool.{eqb-true}
 use Rattle.std.proofs.lemmas.Grind.{common_steps}
+use Rattle.std.proofs.lemmas.List.{length-take-le, take-take}
 use Rattle.std.proofs.lemmas.List.Elements.{Contains-get_or}
 use Rattle.amd_types.specs.Naturals.{naturals}
 use Rattle.amd_factor.specs.Merging.{merged}
 use Rattle.amd_factor.specs.Numbers.{AreNonNegative, Plans}
 use Rattle.amd_factor.specs.Sharing.{StandsFrom}
 use Rattle.amd_factor.proofs.Factors.PlaceNumbers.{are_range, counts_range, place_of}
-use Rattle.amd_factor.proofs.Factors.Sharing.{first_two, numbers_behind, stands_behind, stands_shared}
+use Rattle.amd_factor.proofs.Factors.Sharing.{numbers_behind, stands_behind, stands_shared, written_front}
 use Rattle.amd_factor.proofs.sharing.place_column.Goals as goal
+
+-- the first numbers of a list that was made longer
+same_front : {N : Type 0} (used : ℕ) (rows longer done : List N) → used ≤ length rows → take (length rows) longer ≡ rows →
+    done ≡ take used longer → done ≡ take used rows
+same_front used rows longer done low kept is = is ∙ sym (take-take used (length rows) longer low) ∙ ap (take used) kept
 
 pub returns-then-is_empty-clause-stands : goal.returns-then-is_empty-clause-stands
 returns-then-is_empty-clause-stands g c =
     let empty = c.is_empty.ensures in let t = c.if-is_empty.true in λ o k planned.
-    stands_shared g.N.Index.value o k c.args.rows.now.items c.args.plan.from c.args.plan.to c.args.fresh.now planned.plans
-    (eqb-true (length c.args.fresh.now) 0 (sym empty ∙ t))
+    stands_shared g.N.Index.value o k (take c.args.used c.args.rows.now.items) c.args.plan.from c.args.plan.to c.args.fresh.now
+    planned.plans (eqb-true (length c.args.fresh.now) 0 (sym empty ∙ t))
 
 pub write_merged-requires-clause-numbers : goal.write_merged-requires-clause-numbers
 write_merged-requires-clause-numbers g c =
     let done = c.split_at_mut-done.result.0.now in
-    let is : done ≡ c.args.rows.now.items = grind (arith, common_steps) in
+    let is = same_front c.args.used c.args.rows.now.items c.lengthen.new.rows.items done c.requires.used c.lengthen.ensures.kept
+    (grind (arith, common_steps)) in
     are_range g.N.Index.value done c.args.plan.from c.args.plan.to
     (subst (λ ys. AreNonNegative (map g.N.Index.value ys)) (sym is) c.requires.planned.2.numbers)
 
 pub write_merged-requires-clause-small : goal.write_merged-requires-clause-small
 write_merged-requires-clause-small g c =
     let value = g.N.Index.value in let done = c.split_at_mut-done.result.0.now in
-    let is : done ≡ c.args.rows.now.items = grind (arith, common_steps) in
+    let is = same_front c.args.used c.args.rows.now.items c.lengthen.new.rows.items done c.requires.used c.lengthen.ensures.kept
+    (grind (arith, common_steps)) in
     let o = c.requires.planned.0 in let k = c.requires.planned.1 in let planned = c.requires.planned.2 in
     let from = c.args.plan.from in let to = c.args.plan.to in
     let plans = subst (λ ys. Plans o k (naturals (map value ys)) from to c.args.fresh.now) (sym is) planned.plans in λ x l. (
@@ -42,31 +50,38 @@ write_merged-requires-clause-fits g c = λ k l. (
     let entry = (c.requires.planned.2.plans.completes.members x).0 (inr (Contains-get_or c.args.fresh.now k 0 l)) in
     c.requires.planned.3 x entry.1)
 
+pub returns-clause-placed : goal.returns-clause-placed
+returns-clause-placed g c =
+    let value = g.N.Index.value in let done = c.split_at_mut-done.result.0.now in let first = take c.args.used c.args.rows.now.items in
+    let is = same_front c.args.used c.args.rows.now.items c.lengthen.new.rows.items done c.requires.used c.lengthen.ensures.kept
+    (grind (arith, common_steps)) in
+    let from = c.args.plan.from in let to = c.args.plan.to in let fresh = c.args.fresh.now in let out = c.write_merged.new.out in
+    let n = c.args.used + (to - from + length fresh) in let planned = c.requires.planned.2 in
+    let long : n ≡ length done + length out = grind (arith, common_steps) in
+    let low : n ≤ c.lengthen.new.rows.len = grind (arith, common_steps) in
+    let front = written_front n c.lengthen.new.rows.len done out _ _ long low in record {
+      more = omega arith;
+      within = grind (arith, common_steps);
+      numbers = subst (λ xs. AreNonNegative (map value xs)) (ap (λ xs. xs ++ out) (sym is) ∙ sym front)
+          (numbers_behind value c.requires.planned.0 c.requires.planned.1 first from to fresh planned.plans out
+          (c.write_merged.ensures ∙ ap (λ zs. map pos (merged zs fresh)) (counts_range value done from to)
+          ∙ ap (λ ys. map pos (merged (slice_range (naturals (map value ys)) from to) fresh)) is) planned.numbers);
+    }
+
 pub returns-clause-stands : goal.returns-clause-stands
 returns-clause-stands g c =
-    let value = g.N.Index.value in let done = c.split_at_mut-done.result.0.now in let rows = c.args.rows.now.items in
-    let is : done ≡ rows = grind (arith, common_steps) in
+    let value = g.N.Index.value in let done = c.split_at_mut-done.result.0.now in let first = take c.args.used c.args.rows.now.items in
+    let is = same_front c.args.used c.args.rows.now.items c.lengthen.new.rows.items done c.requires.used c.lengthen.ensures.kept
+    (grind (arith, common_steps)) in
     let from = c.args.plan.from in let to = c.args.plan.to in let fresh = c.args.fresh.now in let out = c.write_merged.new.out in
-    let written : map value out ≡ map pos (merged (slice_range (naturals (map value rows)) from to) fresh) =
+    let n = c.args.used + (to - from + length fresh) in
+    let written : map value out ≡ map pos (merged (slice_range (naturals (map value first)) from to) fresh) =
     c.write_merged.ensures ∙ ap (λ zs. map pos (merged zs fresh)) (counts_range value done from to)
     ∙ ap (λ ys. map pos (merged (slice_range (naturals (map value ys)) from to) fresh)) is in
-    let begin : c.len-begin.result ≡ length rows = (let e = c.len-begin.ensures in omega (arith, e)) in
-    let long : c.replace_with.new.dest.len ≡ length done + length out = grind (arith, common_steps) in
-    let items = c.replace_with.new.dest.items in let rest = drop (length (done ++ out)) items in
-    let all = take c.replace_with.new.dest.len (done ++ out ++ rest) in
-    let whole : rows ++ out ≡ all = ap (λ xs. xs ++ out) (sym is) ∙ first_two c.replace_with.new.dest.len done out rest long in
-    λ o k planned. subst (λ b. StandsFrom value o k b (b + (to - from + length fresh)) all) (sym begin)
-    (subst (StandsFrom value o k (length rows) (length rows + (to - from + length fresh))) whole
-    (stands_behind value o k rows from to fresh planned.plans out written))
-
-pub returns-clause-numbers : goal.returns-clause-numbers
-returns-clause-numbers g c =
-    let value = g.N.Index.value in let done = c.split_at_mut-done.result.0.now in let rows = c.args.rows.now.items in
-    let is : done ≡ rows = grind (arith, common_steps) in
-    let from = c.args.plan.from in let to = c.args.plan.to in let fresh = c.args.fresh.now in let out = c.write_merged.new.out in
-    let planned = c.requires.planned.2 in
-    let long : c.replace_with.new.dest.len ≡ length done + length out = grind (arith, common_steps) in
-    subst (λ xs. AreNonNegative (map value xs)) (ap (λ xs. xs ++ out) (sym is) ∙ first_two c.replace_with.new.dest.len done out _ long)
-    (numbers_behind value c.requires.planned.0 c.requires.planned.1 rows from to fresh planned.plans out
-    (c.write_merged.ensures ∙ ap (λ zs. map pos (merged zs fresh)) (counts_range value done from to)
-    ∙ ap (λ ys. map pos (merged (slice_range (naturals (map value ys)) from to) fresh)) is) planned.numbers)
+    let begin : length first ≡ c.args.used = length-take-le c.args.used c.args.rows.now.items c.requires.used in
+    let long : n ≡ length done + length out = grind (arith, common_steps) in
+    let low : n ≤ c.lengthen.new.rows.len = grind (arith, common_steps) in
+    let front = written_front n c.lengthen.new.rows.len done out _ _ long low in
+    λ o k planned. subst (StandsFrom value o k c.args.used n) (ap (λ xs. xs ++ out) (sym is) ∙ sym front)
+    (subst (λ b. StandsFrom value o k b (b + (to - from + length fresh)) (first ++ out)) begin
+    (stands_behind value o k first from to fresh planned.plans out written))

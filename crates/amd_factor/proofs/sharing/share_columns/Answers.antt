@@ -1,11 +1,18 @@
-use Rattle.std.proofs.Common.{ℕ, ◌≡◌, ◌<◌, ◌∙◌, arith, length, map, subst, sym, take}
+use Rattle.std.proofs.Common.{ℕ, List, ◌≡◌, ◌<◌, ◌≤◌, ◌∙◌, ap, arith, length, map, subst, sym, take}
 use Rattle.std.specs.Prelude.{◌^◌}
 use Rattle.std.proofs.lemmas.Grind.{common_steps}
+use Rattle.std.proofs.lemmas.List.{length-take-le, take-take}
 use Rattle.amd_types.specs.Naturals.{naturals}
 use Rattle.amd_factor.specs.Numbers.{Plans}
 use Rattle.amd_factor.specs.Sharing.{IsPlanned, Share, StandsFrom}
 use Rattle.amd_factor.proofs.Factors.Sharing.{places_kept, share_kept, share_longer}
 use Rattle.amd_factor.proofs.sharing.share_columns.Goals as goal
+
+-- the numbers of the columns so far are the first of those that were written
+still_first : {N : Type 0} (used more : ℕ) (rows written : List N) → used ≤ length rows → used ≤ more →
+    take used written ≡ take used rows → take (length (take used rows)) (take more written) ≡ take used rows
+still_first used more rows written low rises kept =
+    ap (λ n. take n (take more written)) (length-take-le used rows low) ∙ take-take used more written rises ∙ kept
 
 pub plan_shared-plan-requires : goal.plan_shared-plan-requires
 plan_shared-plan-requires g c κs inside =
@@ -22,7 +29,8 @@ plan_shared-plan-requires g c κs inside =
             marks = i.marks;
             long = i.places.fresh;
           },
-          subst (Share g.N.Index.value g.o c.columns.k c.columns.lists) (sym c.deref.ensures.value) i.columns,
+          subst (λ xs. Share g.N.Index.value g.o c.columns.k c.columns.lists (take c.columns.used xs)) (sym c.deref.ensures.value)
+              i.columns,
         ),
       ),
     )
@@ -32,12 +40,13 @@ stand_column-requires g c κs inside =
     let q = c.requires.1.1.1 in let i = c.columns.invariant in let value = g.N.Index.value in
     let low : c.columns.k < length g.o.rows = (let t = c.columns-test.true in let p = q.0.places.parents in omega (arith, t, p)) in
     let small : length g.o.rows < 2 ^ 64 = grind (arith, common_steps) in
-    let plan = c.plan_shared-plan.result in let lists = c.plan_shared-plan.new.lists in let rows = c.columns.rows.items in
+    let plan = c.plan_shared-plan.result in let lists = c.plan_shared-plan.new.lists in let used = c.columns.used in
+    let rows = take used c.columns.rows.items in let placed = c.in-Some.placed in let is = c.in-Some.ensures.placed in
     let fresh = take plan.count c.deref-in-columns.result.now in
     let planned : IsPlanned value g.o c.columns.k plan fresh rows = record {
       plans = subst (λ ys. Plans g.o c.columns.k (naturals (map value rows)) plan.from plan.to (take plan.count ys))
           (sym c.deref-in-columns.ensures.value)
-          (subst (λ xs. Plans g.o c.columns.k (naturals (map value xs)) plan.from plan.to (take plan.count lists.fresh.items))
+          (subst (λ xs. Plans g.o c.columns.k (naturals (map value (take used xs))) plan.from plan.to (take plan.count lists.fresh.items))
           c.deref.ensures.value c.plan_shared-plan.ensures.plans);
       numbers = i.columns.numbers;
       small = small;
@@ -53,10 +62,11 @@ stand_column-requires g c κs inside =
           small = small;
           places = places_kept g.o c.columns.lists lists kept i.places c.plan_shared-plan.ensures.marks.room
               (c.plan_shared-plan.ensures.room ∙ i.places.fresh);
-          columns = subst (Share value g.o c.columns.k lists) (sym after) (share_longer value g.o c.columns.k lists rows written
-              (share_kept value g.o c.columns.k c.columns.lists lists rows kept i.columns) c.place_column.ensures.kept
-              c.place_column.ensures.numbers);
-          stands = subst (StandsFrom value g.o c.columns.k c.in-Some.begin c.in-Some.end) (sym after)
+          columns = subst (λ xs. Share value g.o c.columns.k lists (take placed.used xs)) (sym after)
+              (share_longer value g.o c.columns.k lists rows (take placed.used written)
+              (share_kept value g.o c.columns.k c.columns.lists lists rows kept i.columns)
+              (still_first used placed.used c.columns.rows.items written i.used is.more c.place_column.ensures.kept) is.numbers);
+          stands = subst (λ xs. StandsFrom value g.o c.columns.k placed.begin placed.end (take placed.used xs)) (sym after)
               (c.in-Some.ensures.stands g.o c.columns.k planned);
         },
       ),

@@ -1,4 +1,4 @@
-use Rattle.std.proofs.Common.{◌≡◌}
+use Rattle.std.proofs.Common.{◌≡◌, ◌≤◌, length, take}
 use Rattle.std.specs.Vec.{vec_capacity}
 use Rattle.amd_factor.specs.Gathering.{MarksTell}
 use Rattle.amd_factor.specs.Sharing.{HasPlaces, Share}
@@ -12,7 +12,9 @@ ghost-stand_column g a = g.o
 
 abbrev pub invariant-columns : goal.invariant-columns
 invariant-columns g l = record {
-  columns : Share g.N.Index.value g.o l.k l.lists l.rows.items;
+  columns : Share g.N.Index.value g.o l.k l.lists (take l.used l.rows.items);
+  used : l.used ≤ length l.rows.items;
+  room : length l.rows.items ≤ l.fn.room;
   places : HasPlaces g.o l.lists;
   marks : MarksTell g.o l.k l.marked.column l.marked.stamp l.lists.mark.items;
   capacity : vec_capacity l.rows ≡ vec_capacity l.fn.rows;

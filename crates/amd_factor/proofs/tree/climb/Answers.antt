@@ -16,9 +16,8 @@ up-preserved-then-next-k g c =
     record {
       climbing = ended g.o c.requires.laws c.args.i c.requires.place c.up.k c.up.parent c.up.ancestor c.up.invariant.climbing c.up-test.true
           c.if-next-k.true;
-      waits = λ r l h. ends g.o c.requires.laws c.args.i c.requires.place c.up.k c.up.parent c.up.ancestor c.up.invariant.climbing c.up-test.true
-          c.if-next-k.true
-          r l (c.up.invariant.waits r l h);
+      waits = λ r l h. ends g.o c.requires.laws c.args.i c.requires.place c.up.k c.up.parent c.up.ancestor c.up.invariant.climbing
+          c.up-test.true c.if-next-k.true r l (c.up.invariant.waits r l h);
       kept = λ m h. done-more g.o c.requires.laws c.args.i c.requires.place c.up.k c.up.parent c.up.ancestor c.up.invariant.climbing
           c.up-test.true
           c.if-next-k.true m (c.up.invariant.kept m h);
@@ -27,8 +26,8 @@ up-preserved-then-next-k g c =
 pub up-preserved : goal.up-preserved
 up-preserved g c =
     record {
-      climbing = onward g.o c.requires.laws c.args.i c.requires.place c.up.k c.up.parent c.up.ancestor c.up.invariant.climbing c.up-test.true
-          c.if-next-k.false;
+      climbing = onward g.o c.requires.laws c.args.i c.requires.place c.up.k c.up.parent c.up.ancestor c.up.invariant.climbing
+          c.up-test.true c.if-next-k.false;
       waits = λ r l h. still g.o c.requires.laws c.args.i c.requires.place c.up.k c.up.parent c.up.ancestor c.up.invariant.climbing
           c.up-test.true
           c.if-next-k.false r l (c.up.invariant.waits r l h);
