@@ -4,6 +4,7 @@ use Rattle.std.specs.Option.{is_some}
 use Rattle.amd_types.specs.Naturals.{naturals}
 use Rattle.amd_factor.specs.Places.{ArePlaces}
 use Rattle.amd_factor.specs.declared.needs.Need.{Need}
+use Rattle.amd_market.specs.declared.matrices.Matrix.{Matrix}
 use Rattle.amd_report.specs.declared.drawing.Panel.{Panel}
 use Rattle.amd_report.specs.declared.grids.Grid.{Grid}
 use Rattle.amd_report.specs.Grids.{IsSquareFor, ShowsPlaces, entry_places, lines_for}
@@ -35,12 +36,12 @@ pub record IsPanel (A : Type 0) (n : ℕ) (ap ai p : List ℕ) (mirrored : Bool)
   pub counted : panel.fill ≡ need.lnz - edges
 
 -- the panels that are told are that of the matrix as its rows stand, and that of the order p
-pub record DrawsMatrix (A : Type 0) (n : ℕ) (ap ai p : List ℕ) (symmetric : Bool) (edges : ℕ) (drawn : Drawn)
+pub record DrawsMatrix {A : Type 0} (m : Matrix A) (p : List ℕ) (symmetric : Bool) (edges : ℕ) (drawn : Drawn)
     (old new : Option (List ℕ)) : Type 0 where
   pub before : Panel A
-  pub is_before : IsPanel A n ap ai (standing_rows n) symmetric edges before
+  pub is_before : IsPanel A m.n m.a_p.items m.a_i.items (standing_rows m.n) symmetric edges before
   pub after : Panel A
-  pub is_after : IsPanel A n ap ai p true edges after
-  pub tells : TellsPanels (lines_for n) before.kinds.items after.kinds.items old new
+  pub is_after : IsPanel A m.n m.a_p.items m.a_i.items p true edges after
+  pub tells : TellsPanels (lines_for m.n) before.kinds.items after.kinds.items old new
   pub drawn_before : drawn.before ≡ before.has_fill
   pub drawn_after : drawn.after ≡ after.has_fill

@@ -100,8 +100,8 @@ fn draw_form<W: Write, A: Allocator + Copy>(
 ) -> Result<Drawn, Cause>
     requires { IsInput (pos matrix.now.n) (pos matrix.now.n) (map pos matrix.now.a_p.items)
         (map pos matrix.now.a_i.items) }
-    ensures { IfOk result (λ drawn. DrawsMatrix A matrix.now.n matrix.now.a_p.items matrix.now.a_i.items p.now
-        source.now.symmetric source.now.edges drawn (W.contents out.old) (W.contents out.new)) }
+    ensures { IfOk result (λ drawn. DrawsMatrix matrix.now p.now source.now.symmetric source.now.edges drawn
+        (W.contents out.old) (W.contents out.new)) }
 {
     let standing = standing_order(alloc, matrix.n)?;
     let (before, side, step) = form_panel(alloc, matrix, &standing, source.symmetric, source)?;
@@ -137,8 +137,8 @@ pub fn write_picture<W: Write, A: Allocator + Copy>(
     source: &Source<'_>,
     out: &mut W,
 ) -> Result<Drawn, Cause>
-    ensures { IfOk result (λ drawn. DrawsMatrix A matrix.now.n matrix.now.a_p.items matrix.now.a_i.items p.now
-        source.now.symmetric source.now.edges drawn (W.contents out.old) (W.contents out.new)) }
+    ensures { IfOk result (λ drawn. DrawsMatrix matrix.now p.now source.now.symmetric source.now.edges drawn
+        (W.contents out.old) (W.contents out.new)) }
 {
     match valid(matrix.n, matrix.n, &matrix.a_p, &matrix.a_i) {
         Status::OK => draw_form(alloc, matrix, p, source, out),
