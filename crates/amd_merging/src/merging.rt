@@ -11,8 +11,7 @@ ghost use Rattle.amd_words.specs.Words.{flip_of, is_place, num, rows, size_of, w
 ghost use Rattle.amd_lists.specs.Chains.{Chain};
 ghost use Rattle.amd_lists.specs.Lengths.{row_count};
 ghost use Rattle.amd_lists.specs.Spans.{IsSpan};
-ghost use Rattle.amd_merging.specs.Classes.{classes_of};
-ghost use Rattle.amd_merging.specs.Reading.{lists_read};
+ghost use Rattle.amd_merging.specs.Reading.{KeepsCounts, classes_with, lists_read};
 ghost use Rattle.amd_merging.specs.Effects.{AddsInside, FindsAlike, MergesClasses, MergesOne};
 ghost use Rattle.amd_merging.specs.Merging.{Finds, HasNone, HasSome, IsRenewed, as_long, bucket, bucket_of};
 ghost use Rattle.amd_merging.specs.Merging.{is_near, looks};
@@ -254,49 +253,81 @@ fn push<U: Unsigned>(hash: &mut [Cell<U>], sides: &mut [Sides<U>], i: usize, key
     put_cell(hash, key, i);
 }
 
+/// The sizes of classes and the counters of rows, which merging writes.
+#[derive(Drop)]
+pub struct Counts<'a, 'b, S: Signed, U: Unsigned> {
+    /// The number of rows of each class, negative in the front.
+    pub nv: &'a mut [Word<S>],
+    /// The counter of each row, by which it is marked.
+    pub w: &'b mut [Cell<U>],
+}
+
+/// A class of a front, for which one alike is sought.
+#[derive(Drop)]
+struct Sought {
+    /// The number of words of the list of the front.
+    count: usize,
+    /// The class.
+    class: usize,
+    /// A number above each counter.
+    flag: usize,
+}
+
 /// Merges a class of the front into one of its bucket that keeps the same elements and variables, or, if there is none,
-/// puts it into the bucket. The list of the front has `count` words. Returns the next flag, which rises by 1 only where
-/// the list of `i` was spread for comparison.
+/// puts it into the bucket. Returns the next flag, which rises by 1 only where the list of the class was spread for
+/// comparison.
 fn merge_one<S: Signed, P: Signed, U: Unsigned>(
     iw: &[Word<S>],
     pe: &mut [Word<P>],
     e_len: &mut [Word<P>],
     len: &[Cell<U>],
-    nv: &mut [Word<S>],
-    w: &mut [Cell<U>],
+    counts: &mut Counts<'_, '_, S, U>,
     hash: &mut [Cell<U>],
     sides: &mut [Sides<U>],
-    count: usize,
-    i: usize,
-    flag: usize,
+    sought: Sought,
 ) -> usize
-    requires { CanMergeOne S.MOST P.MOST U.MOST count i flag
-        (classes_of iw.now pe.old e_len.old nv.old len.now w.old hash.old sides.old) }
-    ensures { MergesOne count i flag (classes_of iw.now pe.old e_len.old nv.old len.now w.old hash.old sides.old)
-        (classes_of iw.now pe.new e_len.new nv.new len.now w.new hash.new sides.new) result }
+    requires { CanMergeOne S.MOST P.MOST U.MOST sought.count sought.class sought.flag
+        (classes_with iw.now pe.old e_len.old len.now counts.old hash.old sides.old) }
+    ensures merges { MergesOne sought.count sought.class sought.flag
+        (classes_with iw.now pe.old e_len.old len.now counts.old hash.old sides.old)
+        (classes_with iw.now pe.new e_len.new len.now counts.new hash.new sides.new) result }
+    ensures loans { KeepsCounts counts.old counts.new }
 {
-    let key = bucket_at(sides, i, count);
+    let i = sought.class;
+    let key = bucket_at(sides, i, sought.count);
     let head = cell_at(hash, key);
     if !is_compared(e_len, len, sides, head, i) {
         push(hash, sides, i, key);
-        return flag;
+        return sought.flag;
     }
     let lists = Read { iw, pe, e_len, len };
-    let found = find(&lists, w, sides, head, i, flag);
+    let found = find(&lists, counts.w, sides, head, i, sought.flag);
     if found < row_count(sides) {
-        merge(pe, e_len, nv, i, found);
+        merge(pe, e_len, counts.nv, i, found);
     } else {
         push(hash, sides, i, key);
     }
-    flag + 1
+    sought.flag + 1
 }
 
 /// Whether a row is a class.
-fn is_class<S: Signed>(nv: &[Word<S>], i: usize) -> bool
-    requires { i < length nv.now }
-    ensures { result ≡ nat_lt 0 (size_of nv.now i) }
+fn is_class<S: Signed>(nv: &mut [Word<S>], i: usize) -> bool
+    requires { i < length nv.old }
+    ensures class { result ≡ nat_lt 0 (size_of nv.old i) }
+    ensures same { nv.new ≡ nv.old }
 {
     word_at(nv, i) != 0
+}
+
+/// The list of a front whose classes are merged.
+#[derive(Drop)]
+pub struct Members {
+    /// Where it starts.
+    pub from: usize,
+    /// The number of its words.
+    pub count: usize,
+    /// A number above each counter.
+    pub flag: usize,
 }
 
 /// Merges the classes of a new element that keep the same elements and variables, from the last one of its list to the
@@ -308,21 +339,20 @@ pub fn merge_front<S: Signed, P: Signed, U: Unsigned>(
     pe: &mut [Word<P>],
     e_len: &mut [Word<P>],
     len: &mut [Cell<U>],
-    nv: &mut [Word<S>],
-    w: &mut [Cell<U>],
+    counts: &mut Counts<'_, '_, S, U>,
     hash: &mut [Cell<U>],
     sides: &mut [Sides<U>],
-    from: usize,
-    count: usize,
-    flag: usize,
+    front: Members,
 ) -> usize
-    requires { CanMergeFront S.MOST P.MOST U.MOST from count flag
-        (classes_of iw.old pe.old e_len.old nv.old len.old w.old hash.old sides.old) }
-    ensures merges { MergesClasses from count flag
-        (classes_of iw.old pe.old e_len.old nv.old len.old w.old hash.old sides.old)
-        (classes_of iw.new pe.new e_len.new nv.new len.new w.new hash.new sides.new) result }
+    requires { CanMergeFront S.MOST P.MOST U.MOST front.from front.count front.flag
+        (classes_with iw.old pe.old e_len.old len.old counts.old hash.old sides.old) }
+    ensures merges { MergesClasses front.from front.count front.flag
+        (classes_with iw.old pe.old e_len.old len.old counts.old hash.old sides.old)
+        (classes_with iw.new pe.new e_len.new len.new counts.new hash.new sides.new) result }
     ensures same { (iw.new ≡ iw.old) × (len.new ≡ len.old) }
+    ensures loans { KeepsCounts counts.old counts.new }
 {
+    let Members { from, count, flag } = front;
     if count < 2 {
         return flag;
     }
@@ -331,8 +361,13 @@ pub fn merge_front<S: Signed, P: Signed, U: Unsigned>(
     'classes: while left > 0 {
         left -= 1;
         let i = named(iw, from + left);
-        if is_class(nv, i) {
-            now = merge_one(iw, pe, e_len, len, nv, w, hash, sides, count, i, now);
+        if is_class(counts.nv, i) {
+            let sought = Sought {
+                count,
+                class: i,
+                flag: now,
+            };
+            now = merge_one(iw, pe, e_len, len, counts, hash, sides, sought);
         }
     }
     now

@@ -20,7 +20,7 @@ use amd_fronts::turning::turn;
 use amd_lists::lent::list_lent;
 use amd_lists::work::Work;
 use amd_merging::closing::close;
-use amd_merging::merging::merge_front;
+use amd_merging::merging::{Counts, Members, merge_front};
 use amd_merging::restoring::{Front, restore};
 use amd_types::amd::Control;
 use amd_words::{Signed, Unsigned};
@@ -64,9 +64,20 @@ pub fn merge_alike<S: Signed, P: Signed, U: Unsigned>(
     let risen = work.flag + work.most;
     let flag = renew_flag(work.w, risen);
     let (from, count) = list_lent(work.pe, work.len, me);
+    let front = Members { from, count, flag };
+    let mut counts = Counts {
+        nv: work.nv,
+        w: work.w,
+    };
     work.flag = merge_front(
-        work.iw, work.pe, work.e_len, work.len, work.nv, work.w, work.hash, work.sides, from,
-        count, flag,
+        work.iw,
+        work.pe,
+        work.e_len,
+        work.len,
+        &mut counts,
+        work.hash,
+        work.sides,
+        front,
     );
 }
 

@@ -13,6 +13,6 @@ zero_test (pos (suc n)) f = ap not (ne_eqb (of_z w64 (pos (suc n))) 0 (λ e. abs
 zero_test (negsuc n) f = ap not (ne_eqb (of_z w64 (negsuc n)) 0 (λ e. absurd (omega (arith, ints, e, f))))
     ∙ sym (lt-ltb 0 (suc n) (omega arith))
 
-pub returns : goal.returns
-returns g c = let z : ℤ = c.word_at.result in let f : FitsSigned w64 z = search rules in zero_test z f
+pub returns-clause-class : goal.returns-clause-class
+returns-clause-class g c = let z : ℤ = c.word_at.result in let f : FitsSigned w64 z = search rules in zero_test z f
     ∙ ap (λ y. nat_lt 0 (rows_in y)) c.word_at.ensures.is

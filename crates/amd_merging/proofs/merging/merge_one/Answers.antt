@@ -107,11 +107,11 @@ is_compared-requires g c =
     }
 
 -- a class that is not near is not alike
-pub returns-then-not-is_compared : goal.returns-then-not-is_compared
-returns-then-not-is_compared g c =
-    let next = nexts c.args.sides.now in let last = lasts c.args.sides.now in let i : ℕ = c.args.i in
+pub returns-then-not-is_compared-clause-merges : goal.returns-then-not-is_compared-clause-merges
+returns-then-not-is_compared-clause-merges g c =
+    let next = nexts c.args.sides.now in let last = lasts c.args.sides.now in let i : ℕ = c.args.sought.class in
     let iw : List ℤ = c.args.iw.now in let pe : List ℤ = c.args.pe.now in let e_len : List ℤ = c.args.e_len.now in
-    let len : List ℕ = c.args.len.now in let head = num c.args.hash.now (bucket_of c.args.count last i) in
+    let len : List ℕ = c.args.len.now in let head = num c.args.hash.now (bucket_of c.args.sought.count last i) in
     let key_is = c.bucket_at-key.ensures in
     let head_is : c.cell_at-head.result ≡ head = c.cell_at-head.ensures.is ∙ ap (num c.args.hash.now) key_is in
     let none : HasNone (is_near e_len len last i) (bucket next head) =
@@ -131,9 +131,9 @@ returns-then-not-is_compared g c =
         ],
         record {
           heads = c.push.ensures.heads
-              ∙ ap (λ k. set c.args.hash.now k c.args.i) key_is;
+              ∙ ap (λ k. set c.args.hash.now k c.args.sought.class) key_is;
           nexts = c.push.ensures.links
-              ∙ ap (λ k. set next c.args.i (num c.args.hash.now k)) key_is;
+              ∙ ap (λ k. set next c.args.sought.class (num c.args.hash.now k)) key_is;
           links = refl;
           lists = refl;
           sizes = refl;
@@ -143,77 +143,89 @@ returns-then-not-is_compared g c =
           (l.0, l.1, l.2, l.3, l.4, c.push.auto.hash ∙ l.5, nexts_same _ _ c.push.auto.sides, lasts_same _ _ c.push.auto.sides ∙ l.7));
       keys = c.push.ensures.keys;
       spreads = inl (none, refl, refl);
-      rises = (le_refl c.args.flag, le-add_right c.args.flag 1);
+      rises = (le_refl c.args.sought.flag, le-add_right c.args.sought.flag 1);
       under = c.requires.under;
       zeros = λ x. refl;
     }
 
-pub returns : goal.returns
-returns g c = record {
-  settles = (let next = (nexts c.args.sides.now) in let key_is = c.bucket_at-key.ensures in
-      let head_is : c.cell_at-head.result ≡ num c.args.hash.now (bucket_of c.args.count (lasts c.args.sides.now) c.args.i)
-      = c.cell_at-head.ensures.is ∙ ap (num c.args.hash.now) key_is in
-      elim c.if-found-row_count.branch [
-        | then-found-row_count w ↦ elim c.find-found.ensures.found [
-          | inl h ↦ inl (
-            c.find-found.result,
-            subst (λ k. has (bucket next k) c.find-found.result ≡ true) head_is h.1,
-            h.2,
-            record {
-              links = w.pe-is ∙ w.merge.ensures.links;
-              lists = w.e_len-is ∙ w.merge.ensures.lists;
-              sizes = λ x. ap (λ l. size_of l x) w.nv-is ∙ w.merge.ensures.adds.sizes x;
-              front = λ x. ap (λ l. in_front l x) w.nv-is ∙ w.merge.ensures.adds.front x;
-              heads = w.hash-is;
-              nexts = ap nexts w.sides-is;
-            },
-          )
-          | inr h ↦ absurd (lt_irrefl _ (lt_of_lt_of_le w.if-found-row_count.true (le_of_eq (c.row_count.ensures ∙ sym h.0))))
-        ]
-        | else-found-row_count w ↦ elim c.find-found.ensures.found [
-          | inl h ↦ absurd (lt_irrefl _ (lt_of_lt_of_le h.0 (le_trans (le_of_eq (sym c.row_count.ensures)) w.if-found-row_count.false)))
-          | inr h ↦ inr (
-            (λ x m. h.1 x (subst (λ k. has (bucket next k) x ≡ true) (sym head_is) m)),
-            record {
-              heads = w.hash-is ∙ w.push-else-found-row_count.ensures.heads ∙ ap (λ k. set c.args.hash.now k c.args.i) key_is;
-              nexts = ap nexts w.sides-is ∙ w.push-else-found-row_count.ensures.links
-                  ∙ ap (λ k. set next c.args.i (num c.args.hash.now k)) key_is;
-              links = w.pe-is;
-              lists = w.e_len-is;
-              sizes = w.nv-is;
-            },
-          )
-        ]
-      ]);
-  lengths = (let a = c.if-found-row_count.auto in let l = c.requires.lengths in (
-    a.pe ∙ l.0,
-    a.e_len ∙ l.1,
-    a.nv ∙ l.2,
-    l.3,
-    c.find-found.ensures.long ∙ l.4,
-    a.hash ∙ l.5,
-    nexts_same _ _ a.sides ∙ l.6,
-    lasts_same _ _ a.sides ∙ l.7,
-  ));
-  keys = (elim c.if-found-row_count.branch [
-    | then-found-row_count w ↦ ap lasts w.sides-is
-    | else-found-row_count w ↦ ap lasts w.sides-is ∙ w.push-else-found-row_count.ensures.keys
-  ]);
-  rises = ((le-add_right c.args.flag 1, le_refl (c.args.flag + 1)));
-  spreads = (let head_is = c.cell_at-head.ensures.is ∙ ap (num c.args.hash.now) c.bucket_at-key.ensures in
-      inr (
-        subst (λ k. HasSome (is_near c.args.e_len.now c.args.len.now (lasts c.args.sides.now) c.args.i)
-            (bucket (nexts c.args.sides.now) k)) head_is (c.is_compared.ensures.some c.if-not-is_compared.false),
-        refl,
-        c.find-found.ensures.marked,
+pub returns-clause-merges : goal.returns-clause-merges
+returns-clause-merges g c =
+    let marks : c.if-found-row_count.counts.w.now ≡ c.find-found.new.w = elim c.if-found-row_count.branch [
+      | then-found-row_count w ↦ ap (λ t. t.w.now) w.counts-is
+      | else-found-row_count w ↦ ap (λ t. t.w.now) w.counts-is
+    ] in
+    let long : length c.if-found-row_count.counts.nv.now ≡ length c.args.counts.now.nv.now = elim c.if-found-row_count.branch [
+      | then-found-row_count w ↦ ap (λ t. length t.nv.now) w.counts-is ∙ w.merge.ensures.adds.long
+      | else-found-row_count w ↦ ap (λ t. length t.nv.now) w.counts-is
+    ] in record {
+      settles = (let next = (nexts c.args.sides.now) in let key_is = c.bucket_at-key.ensures in
+          let head_is : c.cell_at-head.result
+          ≡ num c.args.hash.now (bucket_of c.args.sought.count (lasts c.args.sides.now) c.args.sought.class)
+          = c.cell_at-head.ensures.is ∙ ap (num c.args.hash.now) key_is in
+          elim c.if-found-row_count.branch [
+            | then-found-row_count w ↦ elim c.find-found.ensures.found [
+              | inl h ↦ inl (
+                c.find-found.result,
+                subst (λ k. has (bucket next k) c.find-found.result ≡ true) head_is h.1,
+                h.2,
+                record {
+                  links = w.pe-is ∙ w.merge.ensures.links;
+                  lists = w.e_len-is ∙ w.merge.ensures.lists;
+                  sizes = λ x. ap (λ t. size_of t.nv.now x) w.counts-is ∙ w.merge.ensures.adds.sizes x;
+                  front = λ x. ap (λ t. in_front t.nv.now x) w.counts-is ∙ w.merge.ensures.adds.front x;
+                  heads = w.hash-is;
+                  nexts = ap nexts w.sides-is;
+                },
+              )
+              | inr h ↦ absurd (lt_irrefl _ (lt_of_lt_of_le w.if-found-row_count.true (le_of_eq (c.row_count.ensures ∙ sym h.0))))
+            ]
+            | else-found-row_count w ↦ elim c.find-found.ensures.found [
+              | inl h ↦ absurd (lt_irrefl _ (lt_of_lt_of_le h.0 (le_trans (le_of_eq (sym c.row_count.ensures)) w.if-found-row_count.false)))
+              | inr h ↦ inr (
+                (λ x m. h.1 x (subst (λ k. has (bucket next k) x ≡ true) (sym head_is) m)),
+                record {
+                  heads = w.hash-is ∙ w.push-else-found-row_count.ensures.heads
+                      ∙ ap (λ k. set c.args.hash.now k c.args.sought.class) key_is;
+                  nexts = ap nexts w.sides-is ∙ w.push-else-found-row_count.ensures.links
+                      ∙ ap (λ k. set next c.args.sought.class (num c.args.hash.now k)) key_is;
+                  links = w.pe-is;
+                  lists = w.e_len-is;
+                  sizes = ap (λ t. t.nv.now) w.counts-is;
+                },
+              )
+            ]
+          ]);
+      lengths = (let a = c.if-found-row_count.auto in let l = c.requires.lengths in (
+        a.pe ∙ l.0,
+        a.e_len ∙ l.1,
+        long ∙ l.2,
+        l.3,
+        ap length marks ∙ c.find-found.ensures.long ∙ l.4,
+        a.hash ∙ l.5,
+        nexts_same _ _ a.sides ∙ l.6,
+        lasts_same _ _ a.sides ∙ l.7,
       ));
-  under = (λ x.
-      let m = c.find-found.ensures.marked x in
-      let b = marked_below (has (words_of c.args.iw.now c.args.pe.now c.args.len.now c.args.i) x) c.args.flag (num c.args.w.now x)
-      (c.requires.under x) in
-      omega (arith, m, b));
-  zeros = (λ x.
-      ap (λ k. k == 0) (c.find-found.ensures.marked x)
-      ∙ marked_zero (has (words_of c.args.iw.now c.args.pe.now c.args.len.now c.args.i) x) c.args.flag (num c.args.w.now x)
-      (c.requires.ready.standing x) (c.requires.under x));
-}
+      keys = (elim c.if-found-row_count.branch [
+        | then-found-row_count w ↦ ap lasts w.sides-is
+        | else-found-row_count w ↦ ap lasts w.sides-is ∙ w.push-else-found-row_count.ensures.keys
+      ]);
+      rises = ((le-add_right c.args.sought.flag 1, le_refl (c.args.sought.flag + 1)));
+      spreads = (let head_is = c.cell_at-head.ensures.is ∙ ap (num c.args.hash.now) c.bucket_at-key.ensures in
+          inr (
+            subst (λ k. HasSome (is_near c.args.e_len.now c.args.len.now (lasts c.args.sides.now) c.args.sought.class)
+                (bucket (nexts c.args.sides.now) k)) head_is (c.is_compared.ensures.some c.if-not-is_compared.false),
+            refl,
+            λ x. ap (λ t. num t x) marks ∙ c.find-found.ensures.marked x,
+          ));
+      under = (λ x.
+          let m = ap (λ t. num t x) marks ∙ c.find-found.ensures.marked x in
+          let b = marked_below (has (words_of c.args.iw.now c.args.pe.now c.args.len.now c.args.sought.class) x) c.args.sought.flag
+          (num c.args.counts.now.w.now x)
+          (c.requires.under x) in
+          omega (arith, m, b));
+      zeros = (λ x.
+          ap (λ k. k == 0) (ap (λ t. num t x) marks ∙ c.find-found.ensures.marked x)
+          ∙ marked_zero (has (words_of c.args.iw.now c.args.pe.now c.args.len.now c.args.sought.class) x) c.args.sought.flag
+          (num c.args.counts.now.w.now x)
+          (c.requires.ready.standing x) (c.requires.under x));
+    }

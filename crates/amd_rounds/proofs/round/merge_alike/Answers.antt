@@ -4,6 +4,7 @@ use Rattle.std.proofs.Common.{◌+◌}
 use Rattle.amd_words.specs.Words.{classes, num, start}
 use Rattle.amd_merging.specs.Premises.{CanMergeFront}
 use Rattle.amd_merging.specs.Classes.{classes_of}
+use Rattle.amd_merging.specs.Reading.{classes_with}
 use Rattle.amd_merging.specs.Effects.{MergesClasses}
 use Rattle.amd_lists.specs.Sizes.{bucket_count}
 use Rattle.amd_merging.specs.Merging.{AreRenewed}
@@ -49,10 +50,15 @@ pub returns : goal.returns
 returns g c =
     let p = c.args.work.now in let v = c.merge_front-work.new in let at = c.list_lent-from.ensures.list in
     let was = c.list_lent-from.ensures.same in let kept = c.merge_front-work.ensures.same in
-    let told : MergesClasses (start p.pe.now c.args.me) (num p.len.now c.args.me) c.renew_flag-flag.result
-    (classes_of p.iw.now p.pe.now p.e_len.now p.nv.now p.len.now c.renew_flag-flag.new.w p.hash.now p.sides.now)
-    (classes_of v.iw v.pe v.e_len v.nv v.len v.w v.hash v.sides) c.merge_front-work.result
+    let lent = c.merge_front-work.ensures.loans in let nv = c.work-4-1.given in let w = c.work-3-1.given in
+    let from = start p.pe.now c.args.me in let count = num p.len.now c.args.me in
+    let before = classes_of p.iw.now p.pe.now p.e_len.now p.nv.now p.len.now c.renew_flag-flag.new.w p.hash.now p.sides.now in
+    let merged : MergesClasses from count c.renew_flag-flag.result before
+    (classes_with v.iw v.pe v.e_len v.len v.counts v.hash v.sides) c.merge_front-work.result
     = rw (at.0, at.1, was.0, was.1) at c.merge_front-work.ensures.merges in
+    let told : MergesClasses from count c.renew_flag-flag.result before
+    (classes_of v.iw v.pe v.e_len nv.0 v.len w.0 v.hash v.sides) c.merge_front-work.result
+    = rw (nv.1 (sym lent.0), w.1 (sym lent.1)) merged in
     let same : (v.iw ≡ p.iw.now) × (v.len ≡ p.len.now) = (kept.0, kept.1 ∙ was.1) in let s = c.requires.sized in
     let l = told.lengths in let m = told.merges.merged in
     record {
