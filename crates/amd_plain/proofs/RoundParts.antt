@@ -17,7 +17,7 @@ use Rattle.amd_round_laws.specs.Views.{View}
 use Rattle.amd_round_laws.specs.Rounds as views
 use Rattle.amd_plain.specs.Views.{num, some_at, list_at, Below, lists_of, plain_view}
 use Rattle.amd_plain.specs.Buckets.{live_in, last_buckets}
-use Rattle.amd_plain.specs.Rounds.{plain_mass, plain_bound}
+use Rattle.amd_plain.specs.Rounds.{counts_of, plain_counts, plain_mass, plain_bound}
 use Rattle.amd_plain.specs.Keeps.{IsPlainSized, PlainStands, IsPlainRound}
 use Rattle.amd_plain.specs.Parts.{MakesPlainElement, MergesPlainClasses, RenewsClasses}
 use Rattle.amd_plain.specs.declared.work.PlainWork.{PlainWork}
@@ -265,8 +265,8 @@ module _ {A : Type 0} (g : Graph) (dense : ℕ → Bool) (aggressive : Bool) (w 
             block = block;
             least = w1.least;
             front_is = m.front_is;
-            absorbed = subst (λ p. views.Absorbed aggressive c front (num w.size.items) (num w.block.items) (num w.front.items)
-                (lists_of w.lists) (lists_of w1.lists) (some_at w.parent.items) p (num w1.scratch.beyond.items))
+            absorbed = subst (λ p. views.Absorbed aggressive c front
+                (counts_of (plain_counts w.size.items w.block.items w.front.items)) (lists_of w.lists) (lists_of w1.lists) (some_at w.parent.items) p (num w1.scratch.beyond.items))
                 (sym (ap (λ p. some_at p.items) parent_same)) m.absorbed.classes;
             rest_is = k.rest_is;
             border_is = border_is;

@@ -6,7 +6,7 @@ use Rattle.amd_model.specs.Figures.{cut, front_sum, entries, ldl_steps, lu_steps
 use Rattle.amd_model.specs.Quotient.{has, last_that, turned}
 use Rattle.amd_plain.specs.Views.{num, some_at, list_at, plain_live}
 use Rattle.amd_plain.specs.Buckets.{Chosen}
-use Rattle.amd_plain.specs.Rounds.{firsts, plain_mass, plain_alike, PlainAbsorbed, plain_bound}
+use Rattle.amd_plain.specs.Rounds.{firsts, plain_mass, plain_alike, plain_counts, PlainAbsorbed, plain_bound}
 use Rattle.amd_plain.specs.Keeps.{IsPlainSized}
 use Rattle.amd_plain.specs.declared.work.PlainWork.{PlainWork}
 
@@ -29,9 +29,8 @@ pub record MakesPlainElement {A : Type 0} (aggressive : Bool) (c : ℕ) (front :
   pub chosen : Chosen w.size.items w.bound.items w.placed.items v.placed.items w.least v.least c
   pub front_is : front ≡ firsts (λ x. x == c) (flat_map (λ e. plain_live w.size.items (list_at w.lists.members.items e))
       (list_at w.lists.elements.items c) ++ plain_live w.size.items (list_at w.lists.variables.items c))
-  pub absorbed : PlainAbsorbed aggressive c front w.size.items w.block.items w.front.items w.lists v.lists w.parent.items
-      v.parent.items
-      v.scratch.beyond.items
+  pub absorbed : PlainAbsorbed aggressive c front (plain_counts w.size.items w.block.items w.front.items) w.lists v.lists
+      w.parent.items v.parent.items v.scratch.beyond.items
   pub rows : KeepsRows w v
   pub elements : KeepsElements w v
   pub sized : IsPlainSized (length w.size.items) v

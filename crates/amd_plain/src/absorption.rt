@@ -7,7 +7,7 @@ ghost use Rattle.std.specs.Prelude.{◌≡◌, ◌<◌, ◌^◌, ◌&&◌, ◌-�
 ghost use Rattle.std.specs.Prelude.{false, filter, length, sum_by, OnOk, IfOk};
 ghost use Rattle.amd_model.specs.Quotient.{has, Once};
 ghost use Rattle.amd_plain.specs.Views.{num, mark_at, some_at, list_at, Below, ListsBelow};
-ghost use Rattle.amd_plain.specs.Rounds.{plain_mass, less, plain_rows_left, PlainAbsorbed};
+ghost use Rattle.amd_plain.specs.Rounds.{plain_counts, plain_mass, less, plain_rows_left, PlainAbsorbed};
 ghost use Rattle.amd_plain.specs.Keeps.{AreSized, IsIdle, IsMarked};
 
 use crate::marks::{clear_all, touched_by};
@@ -199,8 +199,9 @@ pub fn absorb<A: Allocator + Copy>(
     requires once { Once front.now }
     requires parent { length parent.old.items ≡ length counts.now.size.now }
     requires marked { IsMarked (length counts.now.size.now) pivot front.now scratch.old }
-    ensures absorbed { OnOk result (PlainAbsorbed aggressive pivot front.now counts.now.size.now counts.now.block.now
-        counts.now.whole.now lists.old lists.new parent.old.items parent.new.items scratch.new.beyond.items) }
+    ensures absorbed { OnOk result (PlainAbsorbed aggressive pivot front.now
+        (plain_counts counts.now.size.now counts.now.block.now counts.now.whole.now) lists.old lists.new
+        parent.old.items parent.new.items scratch.new.beyond.items) }
     ensures lists { OnOk result (AreSized (length counts.now.size.now) lists.new) }
     ensures parent { OnOk result (length parent.new.items ≡ length counts.now.size.now) }
     ensures idle { OnOk result (IsIdle (length counts.now.size.now) scratch.new) }

@@ -4,7 +4,7 @@ use Rattle.std.specs.Prelude.{flat_map, sum_by}
 use Rattle.amd_model.specs.Figures.{cut, front_sum, entries, ldl_steps, lu_steps}
 use Rattle.amd_model.specs.Quotient.{has, last_that, turned}
 use Rattle.amd_round_laws.specs.Rounds.{firsts, keeps_nothing, alike_in, Absorbed, IsApart, bound_by_lists}
-use Rattle.amd_round_laws.specs.Views.{View, ClassLists, live_of}
+use Rattle.amd_round_laws.specs.Views.{View, ClassLists, counts_of, live_of}
 
 pub record Rounding (aggressive : Bool) (w v : View) : Type 0 where
   -- the pivot, its front, the classes that are left of it, and their representatives
@@ -22,7 +22,7 @@ pub record Rounding (aggressive : Bool) (w v : View) : Type 0 where
   pub least : ℕ
   pub front_is : front ≡ firsts (λ x. x == c) (flat_map (λ e. live_of w.size (w.members e)) (w.lists.elements c)
       ++ live_of w.size (w.lists.variables c))
-  pub absorbed : Absorbed aggressive c front w.size w.block w.front w.lists kept w.parent v.parent beyond
+  pub absorbed : Absorbed aggressive c front (counts_of w) w.lists kept w.parent v.parent beyond
   pub rest_is : rest ≡ filter (λ i. not (keeps_nothing kept.elements kept.variables i)) front
   pub border_is : border ≡ sum_by w.size rest
   pub block_is : block ≡ w.size c + (sum_by w.size front - border)

@@ -32,6 +32,15 @@ pub record View : Type 0 where
   pub n_dense : ℕ
   pub figures : Figures
 
+-- the number of rows of each class, of the block of each element, and of its block and border
+pub record RowCounts : Type 0 where
+  pub size : ℕ → ℕ
+  pub block : ℕ → ℕ
+  pub whole : ℕ → ℕ
+
+abbrev pub counts_of : View → RowCounts
+counts_of w = record { size = w.size; block = w.block; whole = w.front }
+
 -- the numbers of a list that name a class: what has no row is none
 abbrev pub live_of : (ℕ → ℕ) → List ℕ → List ℕ
 live_of size xs = filter (λ j. nat_lt 0 (size j)) xs

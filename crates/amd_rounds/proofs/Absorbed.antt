@@ -7,6 +7,7 @@ use Rattle.amd_model.specs.Graph.{Graph}
 use Rattle.amd_model.specs.State.{State}
 use Rattle.amd_model.specs.Quotient.{QuotientGraph, has}
 use Rattle.amd_model.proofs.Counting.Below.{clash}
+use Rattle.amd_round_laws.specs.Views.{counts_of}
 use Rattle.amd_round_laws.specs.Rounds.{Absorbed}
 use Rattle.amd_round_laws.proofs.Lists.Named.{filter_named}
 use Rattle.amd_words.specs.Words.{num, word, is_place, size_of, flip_of}
@@ -139,7 +140,7 @@ module _ {g : Graph} {dense : ℕ → Bool} {nzaat : ℕ} {aggressive : Bool} {p
   ]
 
   -- the absorption that the laws of a round speak of
-  pub absorbed : Absorbed aggressive r.c (front r) (size_of p.nv) (view_of p).block (view_of p).front (view_of p).lists (kept_lists r)
+  pub absorbed : Absorbed aggressive r.c (front r) (counts_of (view_of p)) (view_of p).lists (kept_lists r)
       (view_of p).parent (view_of r.p3).parent (λ e. num r.p3.w e - r.p3.flag)
   absorbed = record {
     touched = touched r;

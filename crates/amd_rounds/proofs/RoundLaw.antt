@@ -14,6 +14,7 @@ use Rattle.amd_model.proofs.Counting.Below.{clash}
 use Rattle.amd_model.proofs.Listings.Words.{has_filter as filter_gives}
 use Rattle.amd_types.specs.declared.figures.Figures.{Figures}
 use Rattle.amd_round_laws.specs.Keeps as views
+use Rattle.amd_round_laws.specs.Views.{counts_of}
 use Rattle.amd_round_laws.specs.Rounds.{Absorbed, bound_by_lists}
 use Rattle.amd_round_laws.proofs.Lists.Named.{sum_named}
 use Rattle.amd_round_laws.proofs.Rounding.{Rounding}
@@ -56,7 +57,7 @@ module _ {g : Graph} {dense : ℕ → Bool} {nzaat : ℕ} {aggressive : Bool} {p
 
   -- ---- the absorption, with the parents after the round
 
-  pub absorbed_after : Absorbed aggressive r.c (front r) (size_of p.nv) (view_of p).block (view_of p).front (view_of p).lists (kept_lists r)
+  pub absorbed_after : Absorbed aggressive r.c (front r) (counts_of (view_of p)) (view_of p).lists (kept_lists r)
       (view_of p).parent (view_of v).parent beyond
   absorbed_after = record {
     touched = (absorbed r).touched;

@@ -17,7 +17,7 @@ use Rattle.amd_round_laws.specs.Views.{live_of}
 use Rattle.amd_round_laws.specs.Rounds.{firsts, Absorbed}
 use Rattle.amd_round_laws.specs.Keeps.{Keeps}
 use Rattle.amd_round_laws.specs.Views.{ClassLists}
-use Rattle.amd_round_laws.specs.Views.{View}
+use Rattle.amd_round_laws.specs.Views.{View, counts_of}
 use Rattle.amd_model.proofs.Quotient.Outside.{border_parts}
 use Rattle.amd_model.proofs.Counting.Below.{clash}
 use Rattle.amd_round_laws.proofs.Lists.Named.{filter_named, filter_both, sum_named, flat_same, none_sum, named_sum, not_empty}
@@ -86,7 +86,7 @@ module _ (g : Graph) (s : State) (t : QuotientGraph) (fits : Fits g t s) (w : Vi
 
   -- ---- after an absorption
   module _ (aggressive : Bool) (new : ClassLists) (before after : ℕ → Option ℕ) (beyond : ℕ → ℕ)
-      (a : Absorbed aggressive c (gathered t c) w.size w.block w.front w.lists new before after beyond)
+      (a : Absorbed aggressive c (gathered t c) (counts_of w) w.lists new before after beyond)
       (laws : IsGraph g) (sound : IsSound g s) (borders : (e : ℕ) → stands g s e ≡ true →
       w.front e - w.block e ≡ count_below g.size (s.border e)) where
     own_is : (e : ℕ) → has (w.lists.elements c) e ≡ has (t.elements c) e

@@ -15,7 +15,7 @@ use Rattle.amd_model.proofs.Counting.Below.{count_most, clash}
 use Rattle.amd_model.proofs.States.Words.{block_from, stands_gives}
 use Rattle.amd_model.proofs.Listings.Words.{filter_has, has_filter as filter_gives}
 use Rattle.amd_model.proofs.Quotient.Round.Rows.{front_small, placed_small}
-use Rattle.amd_round_laws.specs.Views.{ClassLists, View, live_of}
+use Rattle.amd_round_laws.specs.Views.{ClassLists, View, counts_of, live_of}
 use Rattle.amd_round_laws.specs.Rounds.{firsts, keeps_nothing, alike_in, Absorbed}
 use Rattle.amd_round_laws.specs.Keeps.{ViewStands}
 use Rattle.amd_round_laws.proofs.Lists.Named.{filter_named, sum_named, named_sum, sum_part}
@@ -66,9 +66,9 @@ module _ (g : Graph) (dense : ℕ → Bool) (aggressive : Bool) (w : View) (t : 
 
   -- what its classes keep after the absorption
   module _ (kept : ClassLists) (after : ℕ → Option ℕ) (beyond : ℕ → ℕ)
-      (m : Absorbed aggressive c front w.size w.block w.front w.lists kept w.parent after beyond) where
+      (m : Absorbed aggressive c front (counts_of w) w.lists kept w.parent after beyond) where
     abbrev Took : List ℕ → Type 0
-    Took xs = Absorbed aggressive c xs w.size w.block w.front w.lists kept w.parent after beyond
+    Took xs = Absorbed aggressive c xs (counts_of w) w.lists kept w.parent after beyond
 
     absorbed : Took (gathered t c)
     absorbed = subst (λ xs. Took xs) front_is m
@@ -185,7 +185,7 @@ module _ (g : Graph) (dense : ℕ → Bool) (aggressive : Bool) (w v : View) (t 
     (r : Rounding aggressive w v) (placed : has t.placed r.c ≡ true) (lowest : r.least ≡ t.bound r.c)
     (is_pivot : r.c ≡ pivot t.bound t.placed)
     (least : (d : ℕ) → has t.placed d ≡ true → t.bound r.c ≤ t.bound d) where
-  took : Absorbed aggressive r.c (gathered t r.c) w.size w.block w.front w.lists r.kept w.parent v.parent r.beyond
+  took : Absorbed aggressive r.c (gathered t r.c) (counts_of w) w.lists r.kept w.parent v.parent r.beyond
   took = absorbed g dense aggressive w t s st r.c placed least r.front r.front_is r.kept v.parent r.beyond r.absorbed
 
   pub found : Found aggressive w v t r

@@ -2,7 +2,7 @@ use Rattle.std.proofs.Common.{rules, ℕ, List, ◌≡◌, ◌<◌, ◌∙◌, a
 use Rattle.std.specs.Prelude.{flat_map, ◌++◌, ◌==◌}
 use Rattle.amd_plain.specs.Views.{list_at, plain_live, ListsBelow}
 use Rattle.amd_plain.specs.Buckets.{Chosen}
-use Rattle.amd_plain.specs.Rounds.{firsts, PlainAbsorbed}
+use Rattle.amd_plain.specs.Rounds.{firsts, plain_counts, PlainAbsorbed}
 use Rattle.amd_plain.specs.Keeps.{IsIdle}
 use Rattle.amd_plain.specs.declared.work.PlainLists.{PlainLists}
 use Rattle.amd_plain.proofs.FrontLists.{pivot_below, front_below, front_once, front_other}
@@ -106,20 +106,21 @@ returns g c =
     let chosen = subst (λ b. Chosen c.deref.result.now b w.placed.items c.choose-pivot.new.lists.items w.least c.choose-pivot.new.least p)
     c.deref-2.ensures.value c.choose-pivot.ensures.chosen in
     let list : front ≡ gathered c.deref-3.result.now w.lists p = c.in_ok-front.ensures.list in
-    let absorbed = subst (λ f. PlainAbsorbed c.args.aggressive p f c.deref-5.result.now c.deref-6.result.now c.deref-7.result.now w.lists
+    let absorbed = subst (λ f. PlainAbsorbed c.args.aggressive p f
+    (plain_counts c.deref-5.result.now c.deref-6.result.now c.deref-7.result.now) w.lists
     c.absorb.new.lists w.parent.items c.absorb.new.parent.items c.absorb.new.scratch.beyond.items) c.deref-4.ensures.value
     c.in_ok-absorb.ensures.absorbed in
-    let of_blocks = subst (λ b. PlainAbsorbed c.args.aggressive p front c.deref-5.result.now b c.deref-7.result.now w.lists
+    let of_blocks = subst (λ b. PlainAbsorbed c.args.aggressive p front (plain_counts c.deref-5.result.now b c.deref-7.result.now) w.lists
     c.absorb.new.lists
     w.parent.items c.absorb.new.parent.items c.absorb.new.scratch.beyond.items) c.deref-6.ensures.value absorbed in
-    let of_fronts = subst (λ f. PlainAbsorbed c.args.aggressive p front c.deref-5.result.now w.block.items f w.lists c.absorb.new.lists
+    let of_fronts = subst (λ f. PlainAbsorbed c.args.aggressive p front (plain_counts c.deref-5.result.now w.block.items f) w.lists c.absorb.new.lists
     w.parent.items c.absorb.new.parent.items c.absorb.new.scratch.beyond.items) c.deref-7.ensures.value of_blocks in
     record {
       makes = record {
         chosen = subst (λ s. Chosen s w.bound.items w.placed.items c.choose-pivot.new.lists.items w.least c.choose-pivot.new.least p)
             c.deref.ensures.value chosen;
         front_is = list ∙ ap (λ s. gathered s w.lists p) c.deref-3.ensures.value;
-        absorbed = subst (λ s. PlainAbsorbed c.args.aggressive p front s w.block.items w.front.items w.lists c.absorb.new.lists
+        absorbed = subst (λ s. PlainAbsorbed c.args.aggressive p front (plain_counts s w.block.items w.front.items) w.lists c.absorb.new.lists
             w.parent.items
             c.absorb.new.parent.items c.absorb.new.scratch.beyond.items) c.deref-5.ensures.value of_fronts;
         rows = record { size = refl; bound = refl; link = refl; live = refl };
