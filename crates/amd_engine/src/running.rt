@@ -8,7 +8,7 @@ ghost use Rattle.amd_model.specs.Graph.{Graph};
 ghost use Rattle.amd_model.specs.Input.Held.{HasMarks};
 ghost use Rattle.amd_model.specs.Quotient.{QuotientGraph};
 ghost use Rattle.amd_model.specs.State.{State};
-ghost use Rattle.amd_rounds.specs.Keeps.{AreRounds, Stands};
+ghost use Rattle.amd_rounds.specs.Keeps.{AreRoundsWithin, Stands};
 ghost use Rattle.amd_lists.specs.Sizes.{AreWideEnough, IsNarrow};
 ghost use Rattle.amd_lists.specs.Workspaces.{KeepsLoans, workspace_of};
 ghost use Rattle.amd_engine.specs.InPlace.{AreOver, CanRun, KeepsRows, RunsInPlace, StandsAtStart, first_sums};
@@ -119,14 +119,7 @@ fn eliminate_up_to<S: Signed, P: Signed, U: Unsigned>(
     requires wide { IsNarrow S.MOST P.MOST U.MOST (length work.old.nv.now) (workspace_of work.old) }
     requires stands { (g : Graph) × (dense : ℕ → Bool) × (nzaat : ℕ) × (t : QuotientGraph) × (s : State) ×
         Stands g dense nzaat (workspace_of work.old) t s }
-    ensures rounds { AreRounds control.now.aggressive (workspace_of work.old) (workspace_of work.new) }
-    ensures end { 0 < work.new.live → (length work.old.iw.now < room) ×
-        (length work.old.iw.now < work.new.free + work.new.live) }
-    ensures fewer { 0 < work.old.live → work.old.free + work.old.live ≤ length work.old.iw.now →
-        work.new.live < work.old.live }
-    ensures unpacked { length work.old.iw.now < room → work.new.n_cmp_a ≡ work.old.n_cmp_a }
-    ensures long { (length work.new.iw.now ≡ length work.old.iw.now) ×
-        (length work.new.nv.now ≡ length work.old.nv.now) }
+    ensures rounds { AreRoundsWithin control.now.aggressive room (workspace_of work.old) (workspace_of work.new) }
     ensures loans { KeepsLoans work.old work.new }
 {
     if work.iw.len() < room {
@@ -148,12 +141,8 @@ fn advance<S: Signed, P: Signed, U: Unsigned>(
     requires wide { IsNarrow S.MOST P.MOST U.MOST (length rows.old.nv.now) (workspace_in iw.old rows.old numbers) }
     requires stands { (g : Graph) × (dense : ℕ → Bool) × (nzaat : ℕ) × (t : QuotientGraph) × (s : State) ×
         Stands g dense nzaat (workspace_in iw.old rows.old numbers) t s }
-    ensures rounds { AreRounds control.now.aggressive (workspace_in iw.old rows.old numbers)
+    ensures rounds { AreRoundsWithin control.now.aggressive room (workspace_in iw.old rows.old numbers)
         (workspace_in iw.new rows.new result) }
-    ensures end { 0 < result.live → (length iw.old < room) × (length iw.old < result.free + result.live) }
-    ensures fewer { 0 < numbers.live → numbers.free + numbers.live ≤ length iw.old → result.live < numbers.live }
-    ensures unpacked { length iw.old < room → result.n_cmp_a ≡ numbers.n_cmp_a }
-    ensures long { (length iw.new ≡ length iw.old) × (length rows.new.nv.now ≡ length rows.old.nv.now) }
     ensures loans { KeepsRows rows.old rows.new }
 {
     let mut work = Work {

@@ -1,5 +1,5 @@
 -- A workspace keeps the lists of an elimination, and stands for a state of it.
-use Rattle.std.specs.Prelude.{ℕ, Bool, true, false, List, ◌≡◌, ◌⊎◌, ◌≤◌, ◌+◌, ◌==◌, ◌&&◌, not, cond, max, nat_lt}
+use Rattle.std.specs.Prelude.{ℕ, Bool, true, false, List, ◌≡◌, ◌⊎◌, ◌<◌, ◌≤◌, ◌+◌, ◌==◌, ◌&&◌, not, cond, max, nat_lt}
 use Rattle.std.specs.Prelude.{length, filter, reverse}
 use Rattle.amd_model.specs.Graph.{Graph}
 use Rattle.amd_model.specs.State.{State, live, is_class, stands}
@@ -67,6 +67,15 @@ AreRounds aggressive old new = (g : Graph) (dense : ℕ → Bool) (nzaat : ℕ) 
     Stands g dense nzaat old t s →
     (u : QuotientGraph) × ((states : List State) × Follows g aggressive t s states u ×
     Stands g dense nzaat new u (last_state s states))
+
+-- rounds until no row is live; or, where the workspace has fewer than so many words, and so may grow, until fewer words than
+-- rows are live are free: they pack no list
+pub record AreRoundsWithin (aggressive : Bool) (room : ℕ) (old new : Workspace) : Type 0 where
+  pub rounds : AreRounds aggressive old new
+  pub end : 0 < new.live → (length old.iw < room) × (length old.iw < new.free + new.live)
+  pub fewer : 0 < old.live → old.free + old.live ≤ length old.iw → new.live < old.live
+  pub unpacked : length old.iw < room → new.n_cmp_a ≡ old.n_cmp_a
+  pub long : (length new.iw ≡ length old.iw) × (length new.nv ≡ length old.nv)
 
 -- no row is live in any state that the workspace stands for
 abbrev pub NoRowIsLive : Workspace → Type 0

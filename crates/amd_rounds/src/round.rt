@@ -8,7 +8,7 @@ ghost use Rattle.amd_model.specs.Graph.{Graph};
 ghost use Rattle.amd_model.specs.Quotient.{QuotientGraph};
 ghost use Rattle.amd_model.specs.State.{State};
 ghost use Rattle.amd_words.specs.Words.{is_place, num, start, word};
-ghost use Rattle.amd_rounds.specs.Keeps.{AreRounds, IsRound, NoRowIsLive, RaisesFlagInRound, Stands};
+ghost use Rattle.amd_rounds.specs.Keeps.{AreRounds, AreRoundsWithin, IsRound, NoRowIsLive, RaisesFlagInRound, Stands};
 ghost use Rattle.amd_lists.specs.Sizes.{IsNarrow, IsSized};
 ghost use Rattle.amd_rounds.specs.Parts.{EndsFront, MergesFront, RaisesFlag, TurnsOver};
 ghost use Rattle.amd_rounds.specs.Premises.{CanEnd, CanMerge, CanTurn};
@@ -181,15 +181,8 @@ pub fn eliminate_within<S: Signed, P: Signed, U: Unsigned>(
     requires wide { IsNarrow S.MOST P.MOST U.MOST (length work.old.nv.now) (workspace_of work.old) }
     requires stands { (g : Graph) × (dense : ℕ → Bool) × (nzaat : ℕ) × (t : QuotientGraph) × (s : State) ×
         Stands g dense nzaat (workspace_of work.old) t s }
-    ensures rounds { AreRounds control.now.aggressive (workspace_of work.old) (workspace_of work.new) }
-    ensures end { 0 < work.new.live → (length work.old.iw.now < room) ×
-        (length work.old.iw.now < work.new.free + work.new.live) }
-    ensures fewer { 0 < work.old.live → work.old.free + work.old.live ≤ length work.old.iw.now →
-        work.new.live < work.old.live }
+    ensures rounds { AreRoundsWithin control.now.aggressive room (workspace_of work.old) (workspace_of work.new) }
     ensures packs { work.new.n_cmp_a ≤ length work.new.nv.now }
-    ensures unpacked { length work.old.iw.now < room → work.new.n_cmp_a ≡ work.old.n_cmp_a }
-    ensures long { (length work.new.iw.now ≡ length work.old.iw.now) ×
-        (length work.new.nv.now ≡ length work.old.nv.now) }
     ensures loans { KeepsLoans work.old work.new }
 {
     'rounds: while is_due(work.live, work.free, work.iw.len(), room) {

@@ -34,22 +34,22 @@ advance-last-requires-clause-stands g c =
 none : (g : Over) (c : After-advance-last g) → c.advance-last.result.live ≡ 0
 none g c = elim (cases_eq c.advance-last.result.live 0) [
   | inl zero ↦ zero
-  | inr ne ↦ absurd (let e = c.advance-last.ensures.end (omega (arith, ne)) in omega (arith, e))
+  | inr ne ↦ absurd (let e = c.advance-last.ensures.rounds.end (omega (arith, ne)) in omega (arith, e))
 ]
 
 pub returns-clause-runs : goal.returns-clause-runs
 returns-clause-runs g c =
     let at = goal.at.returns-clause-runs g c in
-    runs_in_place _ _ _ _ _ _ _ _ _ _ (starts g at.After-start-first) c.advance-last.ensures.rounds
+    runs_in_place _ _ _ _ _ _ _ _ _ _ (starts g at.After-start-first) c.advance-last.ensures.rounds.rounds
     (none_live _ (none g at.After-advance-last))
 
 pub returns-clause-packs : goal.returns-clause-packs
 returns-clause-packs g c =
     let at = goal.at.returns-clause-packs g c in let w = c.requires.can.graph in
-    packs_few _ _ _ _ _ _ _ _ c.advance-last.new.rows _ (starts g at.After-start-first) c.advance-last.ensures.rounds w.0 w.1 w.2
+    packs_few _ _ _ _ _ _ _ _ c.advance-last.new.rows _ (starts g at.After-start-first) c.advance-last.ensures.rounds.rounds w.0 w.1 w.2
 
 pub returns-clause-over : goal.returns-clause-over
 returns-clause-over g c =
     let at = goal.at.returns-clause-over g c in let w = c.requires.can.graph in
-    are_over _ _ _ _ _ _ _ _ _ _ (starts g at.After-start-first) c.advance-last.ensures.rounds
+    are_over _ _ _ _ _ _ _ _ _ _ (starts g at.After-start-first) c.advance-last.ensures.rounds.rounds
     (none_live _ (none g at.After-advance-last)) w.0 w.1 w.2

@@ -1,4 +1,5 @@
-use Rattle.std.proofs.Common.{ℕ, ◌≡◌, ◌<◌, ◌+◌, ap, arith, drop, length, refl, sym, ◌∙◌}
+use Rattle.std.proofs.Common.{ℕ, ◌≡◌, ◌<◌, ◌+◌, ap, arith, drop, inl, inr, length, refl, sym, ◌∙◌}
+use Rattle.std.proofs.lemmas.Bool.{cases_eq}
 use Rattle.std.proofs.lemmas.List.{take_at, length-append}
 use Rattle.std.specs.Option.{option_copied}
 use Rattle.amd_model.specs.Run.{last_state}
@@ -72,9 +73,9 @@ grown_short count grown old more room short long sum = omega (arith, short, long
 pub growths-preserved : goal.growths-preserved
 growths-preserved g c =
     let i = c.growths.invariant in let more = c.grow.ensures.words in let new = c.advance-numbers.new in
-    let iw = c.grow.new.iw in let long = c.advance-numbers.ensures.long.0 ∙ ap length c.deref_mut.ensures.value in
+    let iw = c.grow.new.iw in let long = c.advance-numbers.ensures.rounds.long.0 ∙ ap length c.deref_mut.ensures.value in
     let iw_is = take_at new.iw (drop (length new.iw) iw.items) iw.len (long ∙ sym iw.ok.0) in
-    let rounds = rw (c.deref_mut.ensures.value, more.1) at c.advance-numbers.ensures.rounds in
+    let rounds = rw (c.deref_mut.ensures.value, more.1) at c.advance-numbers.ensures.rounds.rounds in
     rw iw_is (record {
       rounds = (i.rounds.0, i.rounds.1, rounds_then (rounds_grown more.0 i.rounds.2) rounds);
       room = (
@@ -82,7 +83,7 @@ growths-preserved g c =
         let a = i.room.1 in let b = c.grow.ensures.capacity in omega (arith, a, b),
       );
       unpacked = λ short.
-          c.advance-numbers.ensures.unpacked (lent_short _ _ _ c.args.room short long (ap length c.deref_mut.ensures.value))
+          c.advance-numbers.ensures.rounds.unpacked (lent_short _ _ _ c.args.room short long (ap length c.deref_mut.ensures.value))
           ∙ i.unpacked (grown_short _ _ _ _ c.args.room short long (ap length more.1 ∙ length-append c.growths.iw.items more.0));
       capacity = c.grow.ensures.capacity ∙ i.capacity;
       loans = keeps_rows c.args.rows.now c.growths.rows new.rows i.loans c.advance-numbers.ensures.loans;
@@ -105,3 +106,12 @@ returns-clause-over g c =
 
 pub returns-clause-capacity : goal.returns-clause-capacity
 returns-clause-capacity g c = c.growths.invariant.capacity
+
+pub growths-smaller : goal.growths-smaller
+growths-smaller g c =
+    let rounds = c.advance-numbers.ensures.rounds in let live = c.growths-test.true in let lent = ap length c.deref_mut.ensures.value in
+    elim (cases_eq c.advance-numbers.result.live 0) [
+      | inl zero ↦ omega (arith, zero, live)
+      | inr ne ↦ let short = rounds.end (omega (arith, ne)) in let due = c.grow.ensures.due (omega (arith, short, lent)) in
+          rounds.fewer (omega (arith, live)) (omega (arith, due, lent))
+    ]

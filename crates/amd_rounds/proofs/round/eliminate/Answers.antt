@@ -10,7 +10,7 @@ use Rattle.amd_rounds.proofs.round.eliminate.Goals as goal
 none : (g : Over) (c : After-eliminate_within g) → c.eliminate_within.new.work.live ≡ 0
 none g c = elim (cases_eq c.eliminate_within.new.work.live 0) [
   | inl zero ↦ zero
-  | inr ne ↦ absurd (let e = c.eliminate_within.ensures.end (omega (arith, ne)) in omega (arith, e))
+  | inr ne ↦ absurd (let e = c.eliminate_within.ensures.rounds.end (omega (arith, ne)) in omega (arith, e))
 ]
 
 pub returns-clause-end : goal.returns-clause-end
@@ -19,3 +19,9 @@ returns-clause-end g c = none_live (workspace_of c.eliminate_within.new.work) (n
 
 pub returns-clause-none : goal.returns-clause-none
 returns-clause-none g c = none g (goal.at.returns-clause-none g c).After-eliminate_within
+
+pub returns-clause-rounds : goal.returns-clause-rounds
+returns-clause-rounds g c = c.eliminate_within.ensures.rounds.rounds
+
+pub returns-clause-long : goal.returns-clause-long
+returns-clause-long g c = c.eliminate_within.ensures.rounds.long

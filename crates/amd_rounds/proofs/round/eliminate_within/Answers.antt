@@ -42,7 +42,17 @@ rounds-preserved g c =
     }
 
 pub returns-clause-rounds : goal.returns-clause-rounds
-returns-clause-rounds g c = c.rounds.invariant.rounds
+returns-clause-rounds g c =
+    let i = c.rounds.invariant in let over = c.is_due.ensures.no c.rounds-test.false in let words = i.long.0 in record {
+      rounds = i.rounds;
+      end = λ left. let few = over left in (omega (arith, few, words), omega (arith, few, words));
+      fewer = λ left room. elim i.fewer [
+        | inl same ↦ absurd (let was = rw same at over in let few = was left in omega (arith, few, room))
+        | inr less ↦ less
+      ];
+      unpacked = i.unpacked;
+      long = i.long;
+    }
 
 pub returns-clause-packs : goal.returns-clause-packs
 returns-clause-packs g c = let w = c.rounds.invariant.stands in let a = w.5.laid.packs in let b = w.5.laid.sized.nv in omega (arith, a, b)
