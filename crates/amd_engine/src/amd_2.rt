@@ -189,65 +189,6 @@ fn write_counts<I: Index>(words: &[Word<isize>], numbers: &mut [I])
     }
 }
 
-/// As `amd_2`, where `iwlen` is the length of `iw`. `amd_2` calls it.
-///
-/// # Errors
-///
-/// `OutOfMemory` where a request was refused. What `info` then holds is not said.
-fn eliminate_numbers<I: Index, A: Allocator + Copy>(
-    alloc: A,
-    n: I,
-    pe: &mut [isize],
-    iw: &mut [isize],
-    len: &mut [usize],
-    pfree: usize,
-    control: &Control,
-    info: &mut Info,
-) -> Result<(Vec<I, A>, Vec<I, A>, Vec<I, A>, Vec<isize, A>), Status>
-    requires fits { I.fits (I.value n) }
-    requires size { I.value n ≡ pos (length len.old) }
-    requires some { 0 < length len.old }
-    requires laid { IsLaidOut (length len.old) iw.old pe.old len.old pfree }
-    requires graph { (g : Graph) × (lists : ℕ → List ℕ) × LaysGraph g lists iw.old pe.old len.old }
-    requires room { pfree + length len.old ≤ length iw.old }
-    ensures orders { IfOk result (λ a. (g : Graph) (lists : ℕ → List ℕ) → LaysGraph g lists iw.old pe.old len.old →
-        AnswersInPlace g lists None (length len.old) control.now (record {
-          p = map I.value a.2.items;
-          q = map I.value a.1.items;
-          nv = map I.value a.0.items;
-          e_len = a.3.items;
-          pe = pe.new;
-        }) info.old info.new) }
-    ensures compactions { OnOk result (info.new.n_cmp_a ≤ length len.old) }
-    ensures refused { IfErr result (λ e. e ≡ Status.OutOfMemory) }
-{
-    let size = len.len();
-    let mut nv = room_for(alloc, size)?;
-    let mut e_len = numbers_for(alloc, size)?;
-    let mut links = words(alloc, size, 0)?;
-    copy_raised(pe, &mut links);
-    raise(iw);
-    let choice = Choice {
-        control,
-        hold: None,
-        flag: 2,
-    };
-    let (blocks, p_inv, p, fronts) = amd_2_from(
-        alloc,
-        n,
-        &mut links,
-        lend_words(iw),
-        lend_cells(len),
-        pfree,
-        &choice,
-        info,
-    )?;
-    write_counts(&blocks, &mut nv);
-    write_words(&fronts, &mut e_len);
-    write_words(&links, pe);
-    Ok((nv, p_inv, p, e_len))
-}
-
 /// Eliminates the rows of a workspace in which the lists of the neighbours are laid, and lists them.
 ///
 /// `pe` and `len` have `n` places, at least one, and `iw` has `iwlen` words. The list of row `i` has `len[i]` words
@@ -294,5 +235,29 @@ pub fn amd_2<I: PrimInt, A: Allocator + Copy>(
     ensures compactions { OnOk result (info.new.n_cmp_a ≤ length len.old) }
     ensures refused { IfErr result (λ e. e ≡ Status.OutOfMemory) }
 {
-    eliminate_numbers(alloc, n, pe, iw, len, pfree, control, info)
+    let size = len.len();
+    let mut nv = room_for(alloc, size)?;
+    let mut e_len = numbers_for(alloc, size)?;
+    let mut links = words(alloc, size, 0)?;
+    copy_raised(pe, &mut links);
+    raise(iw);
+    let choice = Choice {
+        control,
+        hold: None,
+        flag: 2,
+    };
+    let (blocks, p_inv, p, fronts) = amd_2_from(
+        alloc,
+        n,
+        &mut links,
+        lend_words(iw),
+        lend_cells(len),
+        pfree,
+        &choice,
+        info,
+    )?;
+    write_counts(&blocks, &mut nv);
+    write_words(&fronts, &mut e_len);
+    write_words(&links, pe);
+    Ok((nv, p_inv, p, e_len))
 }

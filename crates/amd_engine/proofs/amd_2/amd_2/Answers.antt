@@ -7,9 +7,9 @@ use Rattle.amd_words.specs.Words.{word, is_place}
 use Rattle.amd_engine.specs.InPlace.{LaysGraph}
 use Rattle.amd_engine.proofs.EndingLaw.{laid_same}
 use Rattle.amd_engine.proofs.RaisedLists.{laid_raised, lays_over, count_told, count_placed, answers_same}
-use Rattle.amd_engine.proofs.amd_2.eliminate_numbers.Given.{Over}
-use Rattle.amd_engine.proofs.amd_2.eliminate_numbers.Goals.{After-lend_cells, After-deref-3}
-use Rattle.amd_engine.proofs.amd_2.eliminate_numbers.Goals as goal
+use Rattle.amd_engine.proofs.amd_2.amd_2.Given.{Over}
+use Rattle.amd_engine.proofs.amd_2.amd_2.Goals.{After-lend_cells, After-deref-3}
+use Rattle.amd_engine.proofs.amd_2.amd_2.Goals as goal
 
 -- the starts are, in words, the numbers raised
 starts_raised : (g : Over) (c : After-lend_cells g) → c.deref_mut-2.result.now ≡ map raised c.args.pe.now
@@ -46,7 +46,8 @@ pub amd_2_from-requires-clause-room : goal.amd_2_from-requires-clause-room
 amd_2_from-requires-clause-room g c =
     let size = ap length c.lend_cells.ensures.value in let room = c.requires.room in
     let words = ap length (c.lend_words.ensures.value ∙ c.raise.ensures.raised) ∙ length-map c.args.iw.now raised in
-    omega (arith, size, room, words)
+    let all = c.requires.words in
+    omega (arith, size, room, words, all)
 
 pub amd_2_from-requires-clause-laid : goal.amd_2_from-requires-clause-laid
 amd_2_from-requires-clause-laid g c =
@@ -84,9 +85,10 @@ write_counts-requires-clause-fits g c = λ k small.
     let is = c.deref.ensures.value in let all = told.long.0 in let here = ap length is in
     let m = count_told w.0 _ _ _ told k (omega (arith, small, here, all)) in
     let size = c.requires.size in let rows = w.2.neighbours.size in let few = m.2 in
-    subst g.I.Index.fits (sym (ap (λ xs. word xs k) is ∙ m.1))
-    (g.met.I.Index.between (pos 0) (pos m.0) (g.I.Index.value c.args.n) g.met.I.Index.zero_fits c.requires.fits (omega (arith, ints))
-    (omega (arith, ints, few, size, rows)))
+    let exact = g.met.I.Integral.exact_law in
+    subst g.I.Number.fits (sym (ap (λ xs. word xs k) is ∙ m.1))
+    (g.I.Number.between_law (pos 0) (pos m.0) (g.I.Number.value c.args.n) exact (g.met.I.Zero.zero_fits_law exact) c.requires.fits
+    (omega (arith, ints)) (omega (arith, ints, few, size, rows)))
 
 pub write_words-requires : goal.write_words-requires
 write_words-requires g c =
@@ -122,7 +124,7 @@ write_words-requires-2 g c =
 pub returns-clause-orders : goal.returns-clause-orders
 returns-clause-orders g c = λ graph lists lays.
     let at = goal.at.returns-clause-orders g c in
-    let value = g.I.Index.value in
+    let value = g.I.Number.value in
     let counts = c.write_counts.new.numbers in let words = c.write_words.new.numbers in
     let nv = c.in_ok-nv.nv in let e_len = c.in_ok-e_len.e_len in
     let answer = c.in_ok-blocks.ensures.orders graph lists (laid_words g at.After-lend_cells graph lists lays) in
