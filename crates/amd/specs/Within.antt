@@ -1,8 +1,9 @@
 -- A workspace: memory that is taken once, for all matrices with at most so many rows and entries, and what a call over it
 -- answers.
 use Rattle.std.specs.Prelude.{◌≡◌, ◌≢◌, ◌≤◌, ◌<◌, ◌+◌, ◌*◌, ◌/◌, ◌^◌, ℕ, ℤ, pos, Bool, true, false, Option, None}
-use Rattle.std.specs.Prelude.{Some, List, length}
+use Rattle.std.specs.Prelude.{Some, List, length, map}
 use Rattle.std.specs.Prelude.{slice_index, unsigned_abs}
+use Rattle.std.specs.Option.{option_copied}
 use Rattle.amd_model.specs.Input.Columns.{IsColumnForm, IsSorted}
 use Rattle.amd_model.specs.Input.Held.{HasMarks}
 use Rattle.amd_model.specs.Input.Pattern.{is_pair}
@@ -11,11 +12,14 @@ use Rattle.amd_types.specs.Naturals.{naturals}
 use Rattle.amd_input.specs.Degrees.{AreDegrees}
 use Rattle.amd_workspace.specs.Lists.{HasRoom}
 use Rattle.amd_workspace.specs.declared.lists.Memory.{Memory}
-use Rattle.amd.specs.Answers.{IsInputHolding}
+use Rattle.amd.specs.Answers.{IsInputHolding, OrdersMatrix}
+use Rattle.amd_types.specs.declared.amd.Info.{Info}
 use Rattle.amd_types.specs.declared.amd.Status.{Status}
 use Rattle.amd_types.specs.declared.amd.Status.TheVariants.{OK, Invalid, OkButJumbled, OutOfMemory}
 use Rattle.amd.specs.declared.refusal.Refusal.{Refusal}
 use Rattle.amd.specs.declared.refusal.Refusal.TheVariants as refusal
+use Rattle.amd.specs.declared.request.Matrix.{Matrix}
+use Rattle.amd.specs.declared.request.Request.{Request}
 
 -- whether a matrix of this status is jumbled, where it is a column form
 abbrev pub jumbled_by : Status → Option Bool
@@ -37,6 +41,17 @@ pub record IsGiven (hold : Option (List Bool)) (jumbled : Bool) (ap ai : List �
   pub form : IsColumnForm (pos n) n ap ai
   pub sorted : jumbled ≡ false → IsSorted n ap ai
   pub marks : HasMarks hold n
+
+-- this matrix is given, in numbers of these values
+abbrev pub IsGivenBy : {I : Type 0} → (I → ℤ) → Matrix I → Request → ℕ → ℕ → Type 0
+IsGivenBy value matrix request =
+    IsGiven (option_copied request.hold) matrix.jumbled (map value matrix.a_p.now) (map value matrix.a_i.now)
+
+-- it is ordered as it is asked for: n rows, which come in this order p with the inverse q, and the record
+abbrev pub OrdersGiven : {I : Type 0} → (I → ℤ) → Matrix I → Request → ℕ → List ℤ → List ℤ → Info → Type 0
+OrdersGiven value matrix request n =
+    let ap = map value matrix.a_p.now in let ai = map value matrix.a_i.now in
+    OrdersMatrix (option_copied request.hold) n request.control.now (pairs_by matrix.jumbled n ap ai) ap ai
 
 -- the degrees of a matrix with n rows are counted: so many words hold its lists, and their sum, with a fifth more and n
 -- words, is at most the greatest `isize`

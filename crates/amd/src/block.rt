@@ -10,7 +10,7 @@ ghost use Rattle.amd.specs.Workspaces.{IsMadeFor};
 use crate::entrance::jumbled_of;
 use crate::lent::{fours, is_narrow, workspace_bytes};
 use crate::refusal::Refusal;
-use crate::request::Request;
+use crate::request::{Matrix, Request};
 use crate::widths::WorkspaceIn;
 use crate::workspace::{Widths, valid_rows};
 use amd_lent::{Lodged, Piece};
@@ -89,6 +89,6 @@ pub fn order_in_block<I: PrimInt>(
     };
     info.status = status;
     let request = Request { control, hold };
-    widths.order(a_p, a_i, jumbled, &request, p, p_inv, &mut info);
+    widths.order(&Matrix { a_p, a_i, jumbled }, &request, p, p_inv, &mut info);
     Ok(info)
 }

@@ -8,7 +8,7 @@ ghost use Rattle.amd.specs.Within.{IsIntoRefusal};
 
 use crate::entrance::jumbled_of;
 use crate::once::order_once;
-use crate::request::Request;
+use crate::request::{Matrix, Request};
 use crate::workspace::valid_rows;
 use amd_types::amd::{Control, Info, Status};
 use num_traits::PrimInt;
@@ -55,7 +55,7 @@ pub fn order_into<I: PrimInt, A: Allocator + Copy>(
         unreachable!()
     };
     let request = Request { control, hold };
-    let mut info = order_once(alloc, a_p, a_i, jumbled, &request, p, p_inv)?;
+    let mut info = order_once(alloc, &Matrix { a_p, a_i, jumbled }, &request, p, p_inv)?;
     info.status = status;
     Ok(info)
 }

@@ -25,7 +25,7 @@ ghost use Rattle.amd.specs.Answers.{IsOrdering, IsOrderingHolding, IsRefusal, Is
 
 use crate::entrance::{class_of, jumbled_of};
 use crate::once::order_once;
-use crate::request::Request;
+use crate::request::{Matrix, Request};
 use amd_engine::fresh::room_for;
 pub use amd_input::{aat, preprocess, valid};
 pub use amd_lent::{Lodged, Piece};
@@ -79,7 +79,13 @@ pub fn order_marked<I: PrimInt, A: Allocator + Copy>(
     let mut p = room_for(alloc, count)?;
     let mut p_inv = room_for(alloc, count)?;
     let request = Request { control, hold };
-    let mut info = order_once(alloc, a_p, a_i, jumbled, &request, &mut p, &mut p_inv)?;
+    let mut info = order_once(
+        alloc,
+        &Matrix { a_p, a_i, jumbled },
+        &request,
+        &mut p,
+        &mut p_inv,
+    )?;
     info.status = status;
     Ok((p, p_inv, info))
 }

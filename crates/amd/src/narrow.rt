@@ -11,11 +11,11 @@ ghost use Rattle.amd_lists.specs.Sizes.{AreWideEnough};
 ghost use Rattle.amd_types.specs.Naturals.{naturals};
 ghost use Rattle.amd_workspace.specs.Lists.{HasRoomBeside};
 ghost use Rattle.amd.specs.Answers.{IsOrderingHolding, OrdersMatrix};
-ghost use Rattle.amd.specs.Within.{IsGiven, IsIntoRefusal, pairs_by};
+ghost use Rattle.amd.specs.Within.{IsGiven, IsGivenBy, IsIntoRefusal, OrdersGiven};
 
 use crate::entrance::jumbled_of;
 use crate::once::{most_words, order_once};
-use crate::request::Request;
+use crate::request::{Matrix, Request};
 use crate::within::count_degrees;
 use crate::workspace::valid_rows;
 use amd_engine::amd_1::{ask_for_most, holds, order_within_lent};
@@ -73,26 +73,23 @@ fn order_counted<J: Index, A: Allocator + Copy>(
 /// A refused request for memory. `p` and `p_inv` are then as before.
 fn order_in<A: Allocator + Copy>(
     alloc: A,
-    a_p: &[i32],
-    a_i: &[i32],
-    jumbled: bool,
+    matrix: &Matrix<'_, i32>,
     request: &Request<'_>,
     p: &mut [i32],
     p_inv: &mut [i32],
 ) -> Result<Info, AllocError>
-    requires given { IsGiven (option_copied request.now.hold) jumbled (values a_p.now) (values a_i.now)
-        (length p.old) (length p_inv.old) }
+    requires given { IsGivenBy (λ x. x) matrix.now request.now (length p.old) (length p_inv.old) }
     requires narrow { AreWideEnough 2147483647 2147483647 4294967295 (length p.old)
-        (2 * slice_index (naturals (values a_p.now)) (length p.old)
-        + 2 * slice_index (naturals (values a_p.now)) (length p.old) / 5 + length p.old) }
-    ensures orders { IfOk result (OrdersMatrix (option_copied request.now.hold) (length p.old)
-        request.now.control.now (pairs_by jumbled (length p.old) (values a_p.now) (values a_i.now))
-        (values a_p.now) (values a_i.now) (values p.new) (values p_inv.new)) }
+        (2 * slice_index (naturals (values matrix.now.a_p.now)) (length p.old)
+        + 2 * slice_index (naturals (values matrix.now.a_p.now)) (length p.old) / 5 + length p.old) }
+    ensures orders { IfOk result (OrdersGiven (λ x. x) matrix.now request.now (length p.old) (values p.new)
+        (values p_inv.new)) }
     ensures kept { IfErr result (λ e. (p.new ≡ p.old) × (p_inv.new ≡ p_inv.old)) }
 {
     let size = p.len();
     let mut memory = Memory::beside(alloc, size, 0)?;
-    if !jumbled {
+    let (a_p, a_i) = (matrix.a_p, matrix.a_i);
+    if !matrix.jumbled {
         return order_counted(alloc, &mut memory, a_p, a_i, request, p, p_inv);
     }
     let (c_p, c_i): (Vec<i32, A>, Vec<i32, A>) = row_form_with(
@@ -113,31 +110,27 @@ fn order_in<A: Allocator + Copy>(
 /// As `order_once`. `p` and `p_inv` are then as before.
 fn order_lending<A: Allocator + Copy>(
     alloc: A,
-    a_p: &[i32],
-    a_i: &[i32],
-    jumbled: bool,
+    matrix: &Matrix<'_, i32>,
     request: &Request<'_>,
     p: &mut [i32],
     p_inv: &mut [i32],
 ) -> Result<Info, AllocError>
-    requires given { IsGiven (option_copied request.now.hold) jumbled (values a_p.now) (values a_i.now)
-        (length p.old) (length p_inv.old) }
+    requires given { IsGivenBy (λ x. x) matrix.now request.now (length p.old) (length p_inv.old) }
     requires fits { length p.old < 2 ^ 31 }
-    ensures orders { IfOk result (OrdersMatrix (option_copied request.now.hold) (length p.old)
-        request.now.control.now (pairs_by jumbled (length p.old) (values a_p.now) (values a_i.now))
-        (values a_p.now) (values a_i.now) (values p.new) (values p_inv.new)) }
+    ensures orders { IfOk result (OrdersGiven (λ x. x) matrix.now request.now (length p.old) (values p.new)
+        (values p_inv.new)) }
     ensures kept { IfErr result (λ e. (p.new ≡ p.old) × (p_inv.new ≡ p_inv.old)) }
 {
     let size = p.len();
-    let entries = count_at(a_p, size);
+    let entries = count_at(matrix.a_p, size);
     let Some(most) = most_words(size, entries) else {
         return Err(AllocError);
     };
     if !holds::<i32, i32, u32>(size, most, 2) {
-        return order_once(alloc, a_p, a_i, jumbled, request, p, p_inv);
+        return order_once(alloc, matrix, request, p, p_inv);
     }
     ask_for_most(alloc, size, 8, entries + entries / 5 + size)?;
-    order_in(alloc, a_p, a_i, jumbled, request, p, p_inv)
+    order_in(alloc, matrix, request, p, p_inv)
 }
 
 /// Orders the rows of a square matrix as [`crate::order_into`] does. It asks for one list less where words of 32 bits
@@ -174,7 +167,7 @@ pub fn order_into_narrow<A: Allocator + Copy>(
         unreachable!()
     };
     let request = Request { control, hold };
-    let mut info = order_lending(alloc, a_p, a_i, jumbled, &request, p, p_inv)?;
+    let mut info = order_lending(alloc, &Matrix { a_p, a_i, jumbled }, &request, p, p_inv)?;
     info.status = status;
     Ok(info)
 }

@@ -9,9 +9,9 @@ ghost use Rattle.amd_lists.specs.Sizes.{AreWideEnough};
 ghost use Rattle.amd_types.specs.Naturals.{naturals};
 ghost use Rattle.amd_workspace.specs.Lists.{HasRoom};
 ghost use Rattle.amd.specs.Answers.{OrdersMatrix};
-ghost use Rattle.amd.specs.Within.{IsGiven, pairs_by};
+ghost use Rattle.amd.specs.Within.{IsGiven, IsGivenBy, OrdersGiven};
 
-use crate::request::Request;
+use crate::request::{Matrix, Request};
 use crate::within::{count_degrees, order_sorted};
 use amd_engine::amd_1::{ask_for_most, holds};
 use amd_input::preprocess::row_form_with;
@@ -76,29 +76,26 @@ fn order_counted<I: Index, J: Index, S: Signed, P: Signed, U: Unsigned, A: Alloc
 /// A refused request for memory. `p` and `p_inv` are then as before.
 fn order_in<I: Index, J: Index, S: Signed, P: Signed, U: Unsigned, A: Allocator + Copy>(
     alloc: A,
-    a_p: &[I],
-    a_i: &[I],
-    jumbled: bool,
+    matrix: &Matrix<'_, I>,
     request: &Request<'_>,
     p: &mut [I],
     p_inv: &mut [I],
 ) -> Result<Info, AllocError>
-    requires given { IsGiven (option_copied request.now.hold) jumbled (map I.value a_p.now) (map I.value a_i.now)
-        (length p.old) (length p_inv.old) }
-    requires fits { (k : ℕ) → k < length p.old → I.fits (pos k) }
+    requires given { IsGivenBy I.value matrix.now request.now (length p.old) (length p_inv.old) }
     requires narrow { AreWideEnough S.MOST P.MOST U.MOST (length p.old)
-        (2 * slice_index (naturals (map I.value a_p.now)) (length p.old)
-        + 2 * slice_index (naturals (map I.value a_p.now)) (length p.old) / 5 + length p.old) }
-    requires few { 2 * slice_index (naturals (map I.value a_p.now)) (length p.old)
-        + 2 * slice_index (naturals (map I.value a_p.now)) (length p.old) / 5 + length p.old < 2 ^ 63 }
-    ensures orders { IfOk result (OrdersMatrix (option_copied request.now.hold) (length p.old)
-        request.now.control.now (pairs_by jumbled (length p.old) (map I.value a_p.now) (map I.value a_i.now))
-        (map I.value a_p.now) (map I.value a_i.now) (map I.value p.new) (map I.value p_inv.new)) }
+        (2 * slice_index (naturals (map I.value matrix.now.a_p.now)) (length p.old)
+        + 2 * slice_index (naturals (map I.value matrix.now.a_p.now)) (length p.old) / 5 + length p.old) }
+    requires few { 2 * slice_index (naturals (map I.value matrix.now.a_p.now)) (length p.old)
+        + 2 * slice_index (naturals (map I.value matrix.now.a_p.now)) (length p.old) / 5 + length p.old < 2 ^ 63 }
+    requires fits { (k : ℕ) → k < length p.old → I.fits (pos k) }
+    ensures orders { IfOk result (OrdersGiven I.value matrix.now request.now (length p.old) (map I.value p.new)
+        (map I.value p_inv.new)) }
     ensures kept { IfErr result (λ e. (p.new ≡ p.old) × (p_inv.new ≡ p_inv.old)) }
 {
     let size = p.len();
     let mut memory: Memory<S, P, U, A> = Memory::with_room(alloc, size, 0)?;
-    if !jumbled {
+    let (a_p, a_i) = (matrix.a_p, matrix.a_i);
+    if !matrix.jumbled {
         return order_counted(alloc, &mut memory, a_p, a_i, request, p, p_inv);
     }
     if from_count::<J>(size).is_none() {
@@ -125,42 +122,34 @@ fn order_in<I: Index, J: Index, S: Signed, P: Signed, U: Unsigned, A: Allocator 
 /// rows. `p` and `p_inv` are then as before.
 pub fn order_once<I: Index, A: Allocator + Copy>(
     alloc: A,
-    a_p: &[I],
-    a_i: &[I],
-    jumbled: bool,
+    matrix: &Matrix<'_, I>,
     request: &Request<'_>,
     p: &mut [I],
     p_inv: &mut [I],
 ) -> Result<Info, AllocError>
-    requires given { IsGiven (option_copied request.now.hold) jumbled (map I.value a_p.now) (map I.value a_i.now)
-        (length p.old) (length p_inv.old) }
+    requires given { IsGivenBy I.value matrix.now request.now (length p.old) (length p_inv.old) }
     requires fits { (k : ℕ) → k < length p.old → I.fits (pos k) }
-    ensures orders { IfOk result (OrdersMatrix (option_copied request.now.hold) (length p.old)
-        request.now.control.now (pairs_by jumbled (length p.old) (map I.value a_p.now) (map I.value a_i.now))
-        (map I.value a_p.now) (map I.value a_i.now) (map I.value p.new) (map I.value p_inv.new)) }
+    ensures orders { IfOk result (OrdersGiven I.value matrix.now request.now (length p.old) (map I.value p.new)
+        (map I.value p_inv.new)) }
     ensures kept { IfErr result (λ e. (p.new ≡ p.old) × (p_inv.new ≡ p_inv.old)) }
 {
     let size = p.len();
-    let entries = count_at(a_p, size);
+    let entries = count_at(matrix.a_p, size);
     let Some(most) = most_words(size, entries) else {
         return Err(AllocError);
     };
     ask_for_most(alloc, size, 9, entries + entries / 5 + size)?;
     if holds::<i32, i32, u32>(size, most, 2) {
-        return order_in::<I, i32, i32, i32, u32, A>(alloc, a_p, a_i, jumbled, request, p, p_inv);
+        return order_in::<I, i32, i32, i32, u32, A>(alloc, matrix, request, p, p_inv);
     }
     if holds::<i32, isize, u32>(size, most, 2) {
-        return order_in::<I, i32, i32, isize, u32, A>(alloc, a_p, a_i, jumbled, request, p, p_inv);
+        return order_in::<I, i32, i32, isize, u32, A>(alloc, matrix, request, p, p_inv);
     }
     if holds::<i32, isize, usize>(size, most, 2) {
-        return order_in::<I, isize, i32, isize, usize, A>(
-            alloc, a_p, a_i, jumbled, request, p, p_inv,
-        );
+        return order_in::<I, isize, i32, isize, usize, A>(alloc, matrix, request, p, p_inv);
     }
     if holds::<isize, isize, usize>(size, most, 2) {
-        return order_in::<I, isize, isize, isize, usize, A>(
-            alloc, a_p, a_i, jumbled, request, p, p_inv,
-        );
+        return order_in::<I, isize, isize, isize, usize, A>(alloc, matrix, request, p, p_inv);
     }
     Err(AllocError)
 }

@@ -12,9 +12,9 @@ ghost use Rattle.amd_types.specs.Naturals.{naturals};
 ghost use Rattle.amd_workspace.specs.Lists.{HasRoom};
 ghost use Rattle.amd.specs.Answers.{OrdersMatrix};
 ghost use Rattle.amd.specs.Blocks.{words_in, workspace_words};
-ghost use Rattle.amd.specs.Within.{IsGiven, IsSized, list_words, pairs_by};
+ghost use Rattle.amd.specs.Within.{IsGiven, IsGivenBy, IsSized, OrdersGiven, list_words};
 
-use crate::request::Request;
+use crate::request::{Matrix, Request};
 use crate::within::{count_degrees, order_sorted};
 use amd_input::preprocess::transpose_within;
 use amd_lists::work::bucket_count;
@@ -136,28 +136,25 @@ impl<J: Index, S: Signed, P: Signed, U: Unsigned, A: Allocator + Copy> Workspace
     /// into `info`, of which the status stays. The numbers of the transpose hold the rows and the entries.
     pub fn order<I: Index>(
         &mut self,
-        a_p: &[I],
-        a_i: &[I],
-        jumbled: bool,
+        matrix: &Matrix<'_, I>,
         request: &Request<'_>,
         p: &mut [I],
         p_inv: &mut [I],
         info: &mut Info,
     )
-        requires given { IsGiven (option_copied request.now.hold) jumbled (map I.value a_p.now) (map I.value a_i.now)
-            (length p.old) (length p_inv.old) }
-        requires fits { (k : ℕ) → k < length p.old → I.fits (pos k) }
         requires inside { (length p.old ≤ self.old.rows) ×
-            (slice_index (naturals (map I.value a_p.now)) (length p.old) ≤ self.old.entries) }
+            (slice_index (naturals (map I.value matrix.now.a_p.now)) (length p.old) ≤ self.old.entries) }
+        requires given { IsGivenBy I.value matrix.now request.now (length p.old) (length p_inv.old) }
+        requires fits { (k : ℕ) → k < length p.old → I.fits (pos k) }
         requires names { J.fits (pos self.old.rows) × J.fits (pos self.old.entries) }
-        ensures orders { OrdersMatrix (option_copied request.now.hold) (length p.old) request.now.control.now
-            (pairs_by jumbled (length p.old) (map I.value a_p.now) (map I.value a_i.now))
-            (map I.value a_p.now) (map I.value a_i.now) (map I.value p.new) (map I.value p_inv.new) info.new }
+        ensures orders { OrdersGiven I.value matrix.now request.now (length p.old) (map I.value p.new)
+            (map I.value p_inv.new) info.new }
         ensures status { info.new.status ≡ info.old.status }
         ensures made { (self.new.rows ≡ self.old.rows) × (self.new.entries ≡ self.old.entries) }
     {
         let words = 2 * self.entries + self.rows;
-        if !jumbled {
+        let (a_p, a_i) = (matrix.a_p, matrix.a_i);
+        if !matrix.jumbled {
             order_columns(&mut self.memory, words, a_p, a_i, request, p, p_inv, info);
             return;
         }

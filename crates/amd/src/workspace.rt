@@ -2,21 +2,21 @@
 // of a workspace no call asks for any, and so nothing but the input is a reason to refuse. Source: AMD user guide;
 // Amestoy, Davis and Duff 1996 and 2004.
 
-ghost use Rattle.std.specs.Prelude.{◌≡◌, ◌≢◌, ◌≤◌, ◌<◌, ◌+◌, ◌*◌, ◌/◌, ◌^◌, ℕ, Some, None, false, pos, map, length};
+ghost use Rattle.std.specs.Prelude.{◌≡◌, ◌≢◌, ◌≤◌, ◌<◌, ◌+◌, ◌*◌, ◌/◌, ◌^◌, ℕ, Some, None, pos, map, length};
 ghost use Rattle.std.specs.Prelude.{slice_index, IfOk, IfErr, IfSome, IsSome, MatchOption, ◌↔◌};
 ghost use Rattle.std.specs.Option.{option_copied};
 ghost use Rattle.amd_model.specs.Input.Held.{HasMarks};
 ghost use Rattle.amd_types.specs.Naturals.{naturals};
 ghost use Rattle.amd_types.specs.Statuses.{IsStatusOf};
-ghost use Rattle.amd.specs.Answers.{IsOrdering, IsOrderingHolding, OrdersMatrix};
+ghost use Rattle.amd.specs.Answers.{IsOrdering, IsOrderingHolding};
 ghost use Rattle.amd.specs.Blocks.{workspace_bytes, workspace_words};
-ghost use Rattle.amd.specs.Within.{FitsIn, IsCall, IsGiven, IsWithinRefusal, pairs_by};
+ghost use Rattle.amd.specs.Within.{FitsIn, IsCall, IsGivenBy, IsWithinRefusal, OrdersGiven};
 ghost use Rattle.amd.specs.Workspaces.{IsMadeFor, entries_of, rows_of, words_of};
 
 use crate::entrance::{class_of, jumbled_of};
 use crate::once::most_words;
 use crate::refusal::Refusal;
-use crate::request::Request;
+use crate::request::{Matrix, Request};
 use crate::widths::WorkspaceIn;
 use amd_engine::amd_1::holds;
 use amd_lent::{Lodged, Piece};
@@ -151,30 +151,26 @@ impl<A: Allocator + Copy> Widths<A> {
     /// Orders a matrix that fits, as [`WorkspaceIn::order`] does.
     pub fn order<I: Index>(
         &mut self,
-        a_p: &[I],
-        a_i: &[I],
-        jumbled: bool,
+        matrix: &Matrix<'_, I>,
         request: &Request<'_>,
         p: &mut [I],
         p_inv: &mut [I],
         info: &mut Info,
     )
-        requires given { IsGiven (option_copied request.now.hold) jumbled (map I.value a_p.now) (map I.value a_i.now)
-            (length p.old) (length p_inv.old) }
-        requires fits { (k : ℕ) → k < length p.old → I.fits (pos k) }
         requires inside { (length p.old ≤ rows_of self.old) ×
-            (slice_index (naturals (map I.value a_p.now)) (length p.old) ≤ entries_of self.old) }
-        ensures orders { OrdersMatrix (option_copied request.now.hold) (length p.old) request.now.control.now
-            (pairs_by jumbled (length p.old) (map I.value a_p.now) (map I.value a_i.now))
-            (map I.value a_p.now) (map I.value a_i.now) (map I.value p.new) (map I.value p_inv.new) info.new }
+            (slice_index (naturals (map I.value matrix.now.a_p.now)) (length p.old) ≤ entries_of self.old) }
+        requires given { IsGivenBy I.value matrix.now request.now (length p.old) (length p_inv.old) }
+        requires fits { (k : ℕ) → k < length p.old → I.fits (pos k) }
+        ensures orders { OrdersGiven I.value matrix.now request.now (length p.old) (map I.value p.new)
+            (map I.value p_inv.new) info.new }
         ensures status { info.new.status ≡ info.old.status }
         ensures made { IsMadeFor (rows_of self.old) (entries_of self.old) self.new }
     {
         match self {
-            Widths::Narrow(lists) => lists.order(a_p, a_i, jumbled, request, p, p_inv, info),
-            Widths::Places(lists) => lists.order(a_p, a_i, jumbled, request, p, p_inv, info),
-            Widths::Words(lists) => lists.order(a_p, a_i, jumbled, request, p, p_inv, info),
-            Widths::Wide(lists) => lists.order(a_p, a_i, jumbled, request, p, p_inv, info),
+            Widths::Narrow(lists) => lists.order(matrix, request, p, p_inv, info),
+            Widths::Places(lists) => lists.order(matrix, request, p, p_inv, info),
+            Widths::Words(lists) => lists.order(matrix, request, p, p_inv, info),
+            Widths::Wide(lists) => lists.order(matrix, request, p, p_inv, info),
         }
     }
 }
@@ -254,8 +250,7 @@ impl<A: Allocator + Copy> Workspace<A> {
         };
         info.status = status;
         let request = Request { control, hold };
-        self.widths
-            .order(a_p, a_i, jumbled, &request, p, p_inv, &mut info);
+        self.widths.order(&Matrix { a_p, a_i, jumbled }, &request, p, p_inv, &mut info);
         Ok(info)
     }
 

@@ -9,8 +9,8 @@ use Rattle.amd.proofs.narrow.order_in.Goals.{After-deref-2}
 use Rattle.amd.proofs.narrow.order_in.Goals as goal
 
 -- the transpose, as it is lent
-clean : (g : Over) (c : After-deref-2 g) → IsCleanForm (length c.args.p.now) (values c.args.a_p.now) (values c.args.a_i.now)
-    (values c.deref.result.now) (values c.deref-2.result.now)
+clean : (g : Over) (c : After-deref-2 g) → IsCleanForm (length c.args.p.now) (values c.args.matrix.now.a_p.now)
+    (values c.args.matrix.now.a_i.now) (values c.deref.result.now) (values c.deref-2.result.now)
 clean g c = rw (c.deref.ensures.value, c.deref-2.ensures.value) c.in_ok-c_p.ensures.clean
 
 pub order_counted-requires-2-clause-given : goal.order_counted-requires-2-clause-given
@@ -26,8 +26,8 @@ order_counted-requires-2-clause-given g c =
 pub returns-clause-orders : goal.returns-clause-orders
 returns-clause-orders g c =
     let n = length c.args.p.now in let new = c.order_counted-2.new in
-    let a_p : List ℤ = values c.args.a_p.now in let a_i : List ℤ = values c.args.a_i.now in
+    let a_p : List ℤ = values c.args.matrix.now.a_p.now in let a_i : List ℤ = values c.args.matrix.now.a_i.now in
     let b_p : List ℤ = values c.deref.result.now in let b_i : List ℤ = values c.deref-2.result.now in
-    rw c.if-not-jumbled.false (ok_gives c.order_counted-2.result (λ info ordered.
+    rw c.if-not-matrix.false (ok_gives c.order_counted-2.result (λ info ordered.
     orders_turned (option_copied c.args.request.now.hold) n c.args.request.now.control.now a_p a_i b_p b_i (values new.p)
     (values new.p_inv) info (clean g (goal.at.returns-clause-orders g c).After-deref-2) ordered) c.order_counted-2.ensures.orders)

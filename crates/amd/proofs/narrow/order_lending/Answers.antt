@@ -3,5 +3,6 @@ use Rattle.amd_edges.proofs.Forms.{pointer_read}
 use Rattle.amd.proofs.narrow.order_lending.Goals as goal
 
 pub count_at-entries-requires-clause-fits : goal.count_at-entries-requires-clause-fits
-count_at-entries-requires-clause-fits g c = (pointer_read (λ x. x) c.args.a_p.now c.args.a_i.now (length c.args.p.now)
-    c.requires.given.form (length c.args.p.now) (omega arith) (omega (arith, c.well_formed))).1
+count_at-entries-requires-clause-fits g c = let m = c.args.matrix.now in
+    (pointer_read (λ x. x) m.a_p.now m.a_i.now (length c.args.p.now) c.requires.given.form (length c.args.p.now) (omega arith)
+    (omega (arith, c.well_formed))).1

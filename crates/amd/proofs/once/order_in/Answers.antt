@@ -8,8 +8,8 @@ use Rattle.amd.proofs.once.order_in.Goals.{After-deref-2}
 use Rattle.amd.proofs.once.order_in.Goals as goal
 
 -- the transpose, as it is lent
-clean : (g : Over) (c : After-deref-2 g) → IsCleanForm (length c.args.p.now) (map g.I.Index.value c.args.a_p.now) (map g.I.Index.value
-    c.args.a_i.now)
+clean : (g : Over) (c : After-deref-2 g) → IsCleanForm (length c.args.p.now) (map g.I.Index.value c.args.matrix.now.a_p.now)
+    (map g.I.Index.value c.args.matrix.now.a_i.now)
     (map g.J.Index.value c.deref.result.now) (map g.J.Index.value c.deref-2.result.now)
 clean g c = rw (c.deref.ensures.value, c.deref-2.ensures.value) c.in_ok-c_p.ensures.clean
 
@@ -30,8 +30,8 @@ order_counted-requires-2-clause-given g c =
 pub returns-clause-orders : goal.returns-clause-orders
 returns-clause-orders g c =
     let value = g.I.Index.value in let n = length c.args.p.now in let new = c.order_counted-2.new in
-    let a_p : List ℤ = map value c.args.a_p.now in let a_i : List ℤ = map value c.args.a_i.now in
+    let a_p : List ℤ = map value c.args.matrix.now.a_p.now in let a_i : List ℤ = map value c.args.matrix.now.a_i.now in
     let b_p : List ℤ = map g.J.Index.value c.deref.result.now in let b_i : List ℤ = map g.J.Index.value c.deref-2.result.now in
-    rw c.if-not-jumbled.false (ok_gives c.order_counted-2.result (λ info ordered.
+    rw c.if-not-matrix.false (ok_gives c.order_counted-2.result (λ info ordered.
     orders_turned (option_copied c.args.request.now.hold) n c.args.request.now.control.now a_p a_i b_p b_i (map value new.p)
     (map value new.p_inv) info (clean g (goal.at.returns-clause-orders g c).After-deref-2) ordered) c.order_counted-2.ensures.orders)

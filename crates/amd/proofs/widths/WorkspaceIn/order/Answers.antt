@@ -11,8 +11,8 @@ use Rattle.amd.proofs.widths.WorkspaceIn.order.Goals.{After-deref-2}
 use Rattle.amd.proofs.widths.WorkspaceIn.order.Goals as goal
 
 -- the transpose, as it is lent
-clean : (g : Over) (c : After-deref-2 g) → IsCleanForm (length c.args.p.now) (map g.I.Index.value c.args.a_p.now)
-    (map g.I.Index.value c.args.a_i.now) (map g.J.Index.value c.deref.result.now) (map g.J.Index.value c.deref-2.result.now)
+clean : (g : Over) (c : After-deref-2 g) → IsCleanForm (length c.args.p.now) (map g.I.Index.value c.args.matrix.now.a_p.now)
+    (map g.I.Index.value c.args.matrix.now.a_i.now) (map g.J.Index.value c.deref.result.now) (map g.J.Index.value c.deref-2.result.now)
 clean g c = rw (c.deref.ensures.value, c.deref-2.ensures.value) c.transpose_within.ensures.clean
 
 -- the memory in which the transpose was made
@@ -106,7 +106,7 @@ invariant_of-self-2 g c =
 pub returns-clause-orders : goal.returns-clause-orders
 returns-clause-orders g c =
     let value = g.I.Index.value in let new = c.order_columns-2.new in
-    rw c.if-not-jumbled.false (orders_turned (option_copied c.args.request.now.hold) (length c.args.p.now) c.args.request.now.control.now
-    (map value c.args.a_p.now) (map value c.args.a_i.now) (map g.J.Index.value c.deref.result.now)
+    rw c.if-not-matrix.false (orders_turned (option_copied c.args.request.now.hold) (length c.args.p.now) c.args.request.now.control.now
+    (map value c.args.matrix.now.a_p.now) (map value c.args.matrix.now.a_i.now) (map g.J.Index.value c.deref.result.now)
     (map g.J.Index.value c.deref-2.result.now) (map value new.p) (map value new.p_inv) new.info
     (clean g (goal.at.returns-clause-orders g c).After-deref-2) c.order_columns-2.ensures.orders)
