@@ -22,36 +22,120 @@ pub struct EngineCase<'a> {
     pub packs: bool,
 }
 
+/// One row, by these columns, and the number that tells which rows are dense.
+macro_rules! one_row {
+    ($what:expr, $a_p:expr, $a_i:expr, $dense:expr) => {
+        EngineCase {
+            what: $what,
+            n: 1,
+            a_p: $a_p,
+            a_i: $a_i,
+            dense: $dense,
+            aggressive: true,
+            hold: None,
+            p: &[0],
+            blocks: &[1],
+            fronts: &[1],
+            figures: [0, 0, 0, 0, 1],
+            packs: false,
+        }
+    };
+}
+
+/// Two rows with an edge, by these columns.
+macro_rules! one_edge {
+    ($what:expr, $a_p:expr, $a_i:expr) => {
+        EngineCase {
+            what: $what,
+            n: 2,
+            a_p: $a_p,
+            a_i: $a_i,
+            dense: 10000,
+            aggressive: true,
+            hold: None,
+            p: &[0, 1],
+            blocks: &[0, 2],
+            fronts: &[-1, 2],
+            figures: [0, 1, 1, 1, 2],
+            packs: false,
+        }
+    };
+}
+
+/// A star of eighteen rows with no dense row: what is chosen, and its order.
+macro_rules! star {
+    ($what:expr, $dense:expr, $aggressive:expr, $p:expr) => {
+        EngineCase {
+            what: $what,
+            n: 18,
+            a_p: &[
+                0, 17, 17, 17, 17, 17, 17, 17, 17, 17, 17, 17, 17, 17, 17, 17, 17, 17, 17,
+            ],
+            a_i: &[1, 2, 3, 4, 5, 6, 7, 8, 9, 10, 11, 12, 13, 14, 15, 16, 17],
+            dense: $dense,
+            aggressive: $aggressive,
+            hold: None,
+            p: $p,
+            blocks: &[2, 0, 1, 1, 1, 1, 1, 1, 1, 1, 1, 1, 1, 1, 1, 1, 1, 1],
+            fronts: &[2, -1, 2, 2, 2, 2, 2, 2, 2, 2, 2, 2, 2, 2, 2, 2, 2, 2],
+            figures: [0, 17, 17, 17, 2],
+            packs: false,
+        }
+    };
+}
+
+/// A star of eighteen rows whose centre is dense by this number.
+macro_rules! dense_star {
+    ($what:expr, $dense:expr) => {
+        EngineCase {
+            what: $what,
+            n: 18,
+            a_p: &[
+                0, 17, 17, 17, 17, 17, 17, 17, 17, 17, 17, 17, 17, 17, 17, 17, 17, 17, 17,
+            ],
+            a_i: &[1, 2, 3, 4, 5, 6, 7, 8, 9, 10, 11, 12, 13, 14, 15, 16, 17],
+            dense: $dense,
+            aggressive: true,
+            hold: None,
+            p: &[1, 2, 3, 4, 5, 6, 7, 8, 9, 10, 11, 12, 13, 14, 15, 16, 17, 0],
+            blocks: &[0, 1, 1, 1, 1, 1, 1, 1, 1, 1, 1, 1, 1, 1, 1, 1, 1, 1],
+            fronts: &[-1, 1, 1, 1, 1, 1, 1, 1, 1, 1, 1, 1, 1, 1, 1, 1, 1, 1],
+            figures: [1, 17, 17, 17, 2],
+            packs: false,
+        }
+    };
+}
+
+/// The twenty-four rows of can_24, in columns that may leave out one entry of an edge or the diagonal.
+macro_rules! can_24 {
+    ($what:expr, $a_p:expr, $a_i:expr) => {
+        EngineCase {
+            what: $what,
+            n: 24,
+            a_p: $a_p,
+            a_i: $a_i,
+            dense: 10000,
+            aggressive: true,
+            hold: None,
+            p: &[
+                22, 20, 10, 23, 12, 5, 16, 8, 14, 4, 15, 7, 1, 9, 13, 17, 0, 2, 3, 6, 11, 18, 21, 19,
+            ],
+            blocks: &[
+                0, 0, 0, 0, 1, 1, 0, 1, 1, 2, 1, 0, 1, 1, 1, 1, 1, 1, 0, 8, 1, 0, 1, 1,
+            ],
+            fronts: &[
+                -1, -1, -1, -1, 5, 6, -1, 6, 4, 6, 6, -1, 5, 7, 5, 6, 4, 7, -1, 8, 5, -1, 4, 4,
+            ],
+            figures: [0, 97, 275, 453, 8],
+            packs: false,
+        }
+    };
+}
+
 /// Matrices with their answers.
 pub static MATRICES: [EngineCase<'static>; 26] = [
-    EngineCase {
-        what: "one row without entries",
-        n: 1,
-        a_p: &[0, 0],
-        a_i: &[],
-        dense: 10000,
-        aggressive: true,
-        hold: None,
-        p: &[0],
-        blocks: &[1],
-        fronts: &[1],
-        figures: [0, 0, 0, 0, 1],
-        packs: false,
-    },
-    EngineCase {
-        what: "one row without entries, no dense rows",
-        n: 1,
-        a_p: &[0, 0],
-        a_i: &[],
-        dense: -1,
-        aggressive: true,
-        hold: None,
-        p: &[0],
-        blocks: &[1],
-        fronts: &[1],
-        figures: [0, 0, 0, 0, 1],
-        packs: false,
-    },
+    one_row!("one row without entries", &[0, 0], &[], 10000),
+    one_row!("one row without entries, no dense rows", &[0, 0], &[], -1),
     EngineCase {
         what: "one edge and an empty row",
         n: 3,
@@ -80,34 +164,8 @@ pub static MATRICES: [EngineCase<'static>; 26] = [
         figures: [1, 3, 4, 5, 3],
         packs: false,
     },
-    EngineCase {
-        what: "one edge",
-        n: 2,
-        a_p: &[0, 1, 1],
-        a_i: &[1],
-        dense: 10000,
-        aggressive: true,
-        hold: None,
-        p: &[0, 1],
-        blocks: &[0, 2],
-        fronts: &[-1, 2],
-        figures: [0, 1, 1, 1, 2],
-        packs: false,
-    },
-    EngineCase {
-        what: "one edge, by its other entry",
-        n: 2,
-        a_p: &[0, 0, 1],
-        a_i: &[0],
-        dense: 10000,
-        aggressive: true,
-        hold: None,
-        p: &[0, 1],
-        blocks: &[0, 2],
-        fronts: &[-1, 2],
-        figures: [0, 1, 1, 1, 2],
-        packs: false,
-    },
+    one_edge!("one edge", &[0, 1, 1], &[1]),
+    one_edge!("one edge, by its other entry", &[0, 0, 1], &[0]),
     EngineCase {
         what: "the five rows of the demo",
         n: 5,
@@ -192,102 +250,27 @@ pub static MATRICES: [EngineCase<'static>; 26] = [
         figures: [4, 6, 10, 14, 4],
         packs: false,
     },
-    EngineCase {
-        what: "a star",
-        n: 18,
-        a_p: &[
-            0, 17, 17, 17, 17, 17, 17, 17, 17, 17, 17, 17, 17, 17, 17, 17, 17, 17, 17,
-        ],
-        a_i: &[1, 2, 3, 4, 5, 6, 7, 8, 9, 10, 11, 12, 13, 14, 15, 16, 17],
-        dense: 10000,
-        aggressive: true,
-        hold: None,
-        p: &[17, 16, 15, 14, 13, 12, 11, 10, 9, 8, 7, 6, 5, 4, 3, 2, 1, 0],
-        blocks: &[2, 0, 1, 1, 1, 1, 1, 1, 1, 1, 1, 1, 1, 1, 1, 1, 1, 1],
-        fronts: &[2, -1, 2, 2, 2, 2, 2, 2, 2, 2, 2, 2, 2, 2, 2, 2, 2, 2],
-        figures: [0, 17, 17, 17, 2],
-        packs: false,
-    },
-    EngineCase {
-        what: "a star without aggressive absorption",
-        n: 18,
-        a_p: &[
-            0, 17, 17, 17, 17, 17, 17, 17, 17, 17, 17, 17, 17, 17, 17, 17, 17, 17, 17,
-        ],
-        a_i: &[1, 2, 3, 4, 5, 6, 7, 8, 9, 10, 11, 12, 13, 14, 15, 16, 17],
-        dense: 10000,
-        aggressive: false,
-        hold: None,
-        p: &[2, 3, 4, 5, 6, 7, 8, 9, 10, 11, 12, 13, 14, 15, 16, 17, 1, 0],
-        blocks: &[2, 0, 1, 1, 1, 1, 1, 1, 1, 1, 1, 1, 1, 1, 1, 1, 1, 1],
-        fronts: &[2, -1, 2, 2, 2, 2, 2, 2, 2, 2, 2, 2, 2, 2, 2, 2, 2, 2],
-        figures: [0, 17, 17, 17, 2],
-        packs: false,
-    },
-    EngineCase {
-        what: "a star with a dense centre, by -1",
-        n: 18,
-        a_p: &[
-            0, 17, 17, 17, 17, 17, 17, 17, 17, 17, 17, 17, 17, 17, 17, 17, 17, 17, 17,
-        ],
-        a_i: &[1, 2, 3, 4, 5, 6, 7, 8, 9, 10, 11, 12, 13, 14, 15, 16, 17],
-        dense: -1,
-        aggressive: true,
-        hold: None,
-        p: &[1, 2, 3, 4, 5, 6, 7, 8, 9, 10, 11, 12, 13, 14, 15, 16, 17, 0],
-        blocks: &[0, 1, 1, 1, 1, 1, 1, 1, 1, 1, 1, 1, 1, 1, 1, 1, 1, 1],
-        fronts: &[-1, 1, 1, 1, 1, 1, 1, 1, 1, 1, 1, 1, 1, 1, 1, 1, 1, 1],
-        figures: [1, 17, 17, 17, 2],
-        packs: false,
-    },
-    EngineCase {
-        what: "a star with a dense centre, by 0",
-        n: 18,
-        a_p: &[
-            0, 17, 17, 17, 17, 17, 17, 17, 17, 17, 17, 17, 17, 17, 17, 17, 17, 17, 17,
-        ],
-        a_i: &[1, 2, 3, 4, 5, 6, 7, 8, 9, 10, 11, 12, 13, 14, 15, 16, 17],
-        dense: 0,
-        aggressive: true,
-        hold: None,
-        p: &[1, 2, 3, 4, 5, 6, 7, 8, 9, 10, 11, 12, 13, 14, 15, 16, 17, 0],
-        blocks: &[0, 1, 1, 1, 1, 1, 1, 1, 1, 1, 1, 1, 1, 1, 1, 1, 1, 1],
-        fronts: &[-1, 1, 1, 1, 1, 1, 1, 1, 1, 1, 1, 1, 1, 1, 1, 1, 1, 1],
-        figures: [1, 17, 17, 17, 2],
-        packs: false,
-    },
-    EngineCase {
-        what: "a star with a dense centre, by 4006",
-        n: 18,
-        a_p: &[
-            0, 17, 17, 17, 17, 17, 17, 17, 17, 17, 17, 17, 17, 17, 17, 17, 17, 17, 17,
-        ],
-        a_i: &[1, 2, 3, 4, 5, 6, 7, 8, 9, 10, 11, 12, 13, 14, 15, 16, 17],
-        dense: 4006,
-        aggressive: true,
-        hold: None,
-        p: &[1, 2, 3, 4, 5, 6, 7, 8, 9, 10, 11, 12, 13, 14, 15, 16, 17, 0],
-        blocks: &[0, 1, 1, 1, 1, 1, 1, 1, 1, 1, 1, 1, 1, 1, 1, 1, 1, 1],
-        fronts: &[-1, 1, 1, 1, 1, 1, 1, 1, 1, 1, 1, 1, 1, 1, 1, 1, 1, 1],
-        figures: [1, 17, 17, 17, 2],
-        packs: false,
-    },
-    EngineCase {
-        what: "a star with a centre that is just not dense",
-        n: 18,
-        a_p: &[
-            0, 17, 17, 17, 17, 17, 17, 17, 17, 17, 17, 17, 17, 17, 17, 17, 17, 17, 17,
-        ],
-        a_i: &[1, 2, 3, 4, 5, 6, 7, 8, 9, 10, 11, 12, 13, 14, 15, 16, 17],
-        dense: 4007,
-        aggressive: true,
-        hold: None,
-        p: &[17, 16, 15, 14, 13, 12, 11, 10, 9, 8, 7, 6, 5, 4, 3, 2, 1, 0],
-        blocks: &[2, 0, 1, 1, 1, 1, 1, 1, 1, 1, 1, 1, 1, 1, 1, 1, 1, 1],
-        fronts: &[2, -1, 2, 2, 2, 2, 2, 2, 2, 2, 2, 2, 2, 2, 2, 2, 2, 2],
-        figures: [0, 17, 17, 17, 2],
-        packs: false,
-    },
+    star!(
+        "a star",
+        10000,
+        true,
+        &[17, 16, 15, 14, 13, 12, 11, 10, 9, 8, 7, 6, 5, 4, 3, 2, 1, 0]
+    ),
+    star!(
+        "a star without aggressive absorption",
+        10000,
+        false,
+        &[2, 3, 4, 5, 6, 7, 8, 9, 10, 11, 12, 13, 14, 15, 16, 17, 1, 0]
+    ),
+    dense_star!("a star with a dense centre, by -1", -1),
+    dense_star!("a star with a dense centre, by 0", 0),
+    dense_star!("a star with a dense centre, by 4006", 4006),
+    star!(
+        "a star with a centre that is just not dense",
+        4007,
+        true,
+        &[17, 16, 15, 14, 13, 12, 11, 10, 9, 8, 7, 6, 5, 4, 3, 2, 1, 0]
+    ),
     EngineCase {
         what: "a full matrix with three rows",
         n: 3,
@@ -302,20 +285,12 @@ pub static MATRICES: [EngineCase<'static>; 26] = [
         figures: [0, 3, 4, 5, 3],
         packs: false,
     },
-    EngineCase {
-        what: "one entry on the diagonal, and numbers after the end",
-        n: 1,
-        a_p: &[0, 1, 7],
-        a_i: &[0, 9],
-        dense: 10000,
-        aggressive: true,
-        hold: None,
-        p: &[0],
-        blocks: &[1],
-        fronts: &[1],
-        figures: [0, 0, 0, 0, 1],
-        packs: false,
-    },
+    one_row!(
+        "one entry on the diagonal, and numbers after the end",
+        &[0, 1, 7],
+        &[0, 9],
+        10000
+    ),
     EngineCase {
         what: "two rows whose variables differ and have the same sum, and three that merge",
         n: 7,
@@ -364,15 +339,14 @@ pub static MATRICES: [EngineCase<'static>; 26] = [
         figures: [0, 25, 37, 49, 3],
         packs: true,
     },
-    EngineCase {
-        what: "can_24",
-        n: 24,
-        a_p: &[
+    can_24!(
+        "can_24",
+        &[
             0, 9, 15, 21, 27, 33, 39, 48, 57, 61, 70, 76, 82,
             // and of the other twelve columns
             88, 94, 100, 106, 110, 119, 128, 137, 143, 152, 156, 160,
         ],
-        a_i: &[
+        &[
             0, 5, 6, 12, 13, 17, 18, 19, 21, 1, 8, 9, 13, 14, 17, 2, 6, 11, 20, 21, 22, 3, 7, 10,
             15, 18, 19, 4, 7, 9, 14, 15, 16, 0, 5, 6, 12, 13, 17, 0, 2, 5, 6, 11, 12, 19, 21, 23,
             3, 4, 7, 9, 14, 15, 16, 17, 18, 1, 8, 9, 14, 1, 4, 7, 8, 9, 13, 14, 17, 18, 3, 10, 18,
@@ -380,22 +354,8 @@ pub static MATRICES: [EngineCase<'static>; 26] = [
             9, 14, 3, 4, 7, 15, 16, 18, 4, 7, 15, 16, 0, 1, 5, 7, 9, 13, 17, 18, 19, 0, 3, 7, 9,
             10, 15, 17, 18, 19, 0, 3, 6, 10, 17, 18, 19, 20, 21, 2, 10, 19, 20, 21, 22, 0, 2, 6,
             10, 11, 19, 20, 21, 22, 2, 20, 21, 22, 6, 11, 12, 23,
-        ],
-        dense: 10000,
-        aggressive: true,
-        hold: None,
-        p: &[
-            22, 20, 10, 23, 12, 5, 16, 8, 14, 4, 15, 7, 1, 9, 13, 17, 0, 2, 3, 6, 11, 18, 21, 19,
-        ],
-        blocks: &[
-            0, 0, 0, 0, 1, 1, 0, 1, 1, 2, 1, 0, 1, 1, 1, 1, 1, 1, 0, 8, 1, 0, 1, 1,
-        ],
-        fronts: &[
-            -1, -1, -1, -1, 5, 6, -1, 6, 4, 6, 6, -1, 5, 7, 5, 6, 4, 7, -1, 8, 5, -1, 4, 4,
-        ],
-        figures: [0, 97, 275, 453, 8],
-        packs: false,
-    },
+        ]
+    ),
     EngineCase {
         what: "eleven rows with long lists and no entry above the diagonal, five pairs of them not joined",
         n: 11,
@@ -413,33 +373,18 @@ pub static MATRICES: [EngineCase<'static>; 26] = [
         figures: [0, 54, 210, 366, 10],
         packs: false,
     },
-    EngineCase {
-        what: "the sorted transpose of can_24 with jumbled columns",
-        n: 24,
-        a_p: &[
+    can_24!(
+        "the sorted transpose of can_24 with jumbled columns",
+        &[
             0, 4, 8, 11, 14, 16, 20, 25, 29, 31, 36, 41, 46, 51, 57, 62, 68, 72, 81, 84, 89, 93,
             96, 99, 102,
         ],
-        a_i: &[
+        &[
             0, 6, 13, 19, 1, 8, 9, 14, 2, 11, 21, 3, 7, 15, 7, 16, 0, 5, 6, 12, 2, 5, 6, 19, 21, 3,
             4, 7, 9, 1, 9, 4, 7, 8, 14, 18, 3, 18, 19, 20, 21, 2, 6, 12, 21, 23, 0, 6, 11, 12, 23,
             0, 1, 5, 9, 13, 17, 1, 4, 7, 8, 14, 3, 4, 7, 15, 16, 18, 4, 7, 15, 16, 0, 1, 5, 7, 9,
             13, 17, 18, 19, 0, 3, 7, 3, 17, 18, 19, 21, 2, 19, 20, 21, 0, 20, 21, 2, 20, 21, 6, 11,
             23,
-        ],
-        dense: 10000,
-        aggressive: true,
-        hold: None,
-        p: &[
-            22, 20, 10, 23, 12, 5, 16, 8, 14, 4, 15, 7, 1, 9, 13, 17, 0, 2, 3, 6, 11, 18, 21, 19,
-        ],
-        blocks: &[
-            0, 0, 0, 0, 1, 1, 0, 1, 1, 2, 1, 0, 1, 1, 1, 1, 1, 1, 0, 8, 1, 0, 1, 1,
-        ],
-        fronts: &[
-            -1, -1, -1, -1, 5, 6, -1, 6, 4, 6, 6, -1, 5, 7, 5, 6, 4, 7, -1, 8, 5, -1, 4, 4,
-        ],
-        figures: [0, 97, 275, 453, 8],
-        packs: false,
-    },
+        ]
+    ),
 ];
