@@ -32,6 +32,17 @@ pub struct Columns<'a, N: Index> {
     pub link: &'a [Option<usize>],
 }
 
+/// What is written of the columns that stand one behind the other, where it is lent, with a place for each column.
+#[derive(Drop)]
+pub struct ColumnLists<'a> {
+    /// Where each column begins, and, in a place more, the end of the last one.
+    pub ptr: &'a mut [usize],
+    /// The parent of each column: its first entry.
+    pub parent: &'a mut [Option<usize>],
+    /// The children of each in a list, as in [`Columns`].
+    pub link: &'a mut [Option<usize>],
+}
+
 /// A column, if there is one, and the mark of its entries: those of the rows behind it that have the mark.
 #[derive(Clone, Copy)]
 pub struct Marked {
@@ -193,24 +204,23 @@ pub fn plan_behind<N: Index>(
     k: usize,
     neighbours: &[usize],
     marked: Marked,
-    ptr: &[usize],
+    lists: &ColumnLists<'_>,
     rows: &[N],
-    link: &[Option<usize>],
     mark: &mut [usize],
     fresh: &mut [usize],
 ) -> Plan
     ghost o: { Order }
     requires place { CanPlan o k neighbours.now marked mark.old fresh.old }
-    requires columns { AreColumnsBehind N.value o k ptr.now rows.now link.now }
+    requires columns { AreColumnsBehind N.value o k lists.now.ptr.now rows.now lists.now.link.now }
     ensures count { result.count ≤ length fresh.new }
     ensures plans { Plans o k (naturals (map N.value rows.now)) result.from result.to (take result.count fresh.new) }
     ensures marks { MarksTell o (k + 1) result.marked.column result.marked.stamp mark.new }
 {
     let columns = Columns {
-        starts: ptr,
-        ends: &ptr[1..],
+        starts: lists.ptr,
+        ends: &lists.ptr[1..],
         rows,
-        link,
+        link: lists.link,
     };
     plan_column(k, neighbours, marked, columns, mark, fresh)
 }

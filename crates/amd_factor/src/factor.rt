@@ -14,7 +14,7 @@ ghost use Rattle.amd_factor.specs.declared.factor.Fault.TheVariants.{OutOfMemory
 
 use crate::entrance::{Unfit, rows_of};
 use crate::fill::fill;
-use crate::neighbours::later_lists;
+use crate::neighbours::{Neighbours, later_lists};
 use crate::places::places;
 use amd_types::index::Index;
 use num_traits::PrimInt;
@@ -145,21 +145,19 @@ pub fn factor_lists<A: Allocator + Copy>(
 /// A refused request for memory.
 fn written_factor<A: Allocator + Copy>(
     alloc: A,
-    starts: &[usize],
-    later: &[usize],
+    later: &Neighbours<'_>,
     room: usize,
 ) -> Result<Option<Factor<A>>, AllocError>
     ghost o: { Order }
     requires laws { IsGraph o.graph }
-    requires later { HasLater o starts.now later.now }
+    requires later { HasLater o later.now.starts.now later.now.places.now }
     ensures factor { IfOk result (λ r. MatchOption r (PassesRoom o.graph o.rows room)
         (λ f. HoldFactor o.graph o.rows f.ptr.items f.rows.items f.parent.items)) }
     ensures room { IfOk result (λ r. MatchOption r (Unit {0}) (λ f. length f.rows.items ≤ room)) }
 {
-    let mut lists = factor_lists(alloc, starts.len())?;
+    let mut lists = factor_lists(alloc, later.starts.len())?;
     let mut rows = Vec::with_capacity(alloc, room)?;
     let Some(_) = fill(
-        starts,
         later,
         room,
         &mut lists.ptr,
@@ -199,7 +197,11 @@ fn form_columns<I: Index, A: Allocator + Copy>(
         return Err(Fault::NotPermutation);
     };
     let lists = later_lists(alloc, size, a_p, a_i, &places)?;
-    match written_factor(alloc, &lists.starts, &lists.neighbours, room)? {
+    let later = Neighbours {
+        starts: &lists.starts,
+        places: &lists.neighbours,
+    };
+    match written_factor(alloc, &later, room)? {
         Some(factor) => Ok(factor),
         None => Err(Fault::RoomTooSmall),
     }

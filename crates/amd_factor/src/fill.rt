@@ -1,19 +1,18 @@
 // The columns of a factor under an order of the rows, made in that order, each one behind those before it: in a list
 // that grows, or in numbers that a caller has. Source: George and Liu 1981; Liu 1990.
 
-ghost use Rattle.std.specs.Prelude.{ℕ, ◌≡◌, ◌<◌, ◌≤◌, ◌+◌, ◌++◌, [], drop, length, map, pos, slice_index, MatchOption};
+ghost use Rattle.std.specs.Prelude.{ℕ, ◌≡◌, ◌≤◌, ◌+◌, ◌++◌, [], drop, length, map, pos, slice_index, MatchOption};
 ghost use Rattle.std.specs.Prelude.{List, replicate, take};
 ghost use Rattle.std.specs.Vec.{vec_capacity};
-ghost use Rattle.amd_model.specs.Graph.{IsGraph};
 ghost use Rattle.amd_factor.specs.Columns.{FactorSizes, HoldFactor, PassesRoom};
 ghost use Rattle.amd_factor.specs.Gathering.{LinkChildren, MarksTell};
 ghost use Rattle.amd_factor.specs.Orders.{Order};
-ghost use Rattle.amd_factor.specs.Neighbours.{HasLater};
-ghost use Rattle.amd_factor.specs.Numbers.{FillsFront};
+ghost use Rattle.amd_factor.specs.Numbers.{FillsFront, KeepsLoans};
 ghost use Rattle.amd_factor.specs.Planning.{CanAdd, IsFull};
 ghost use Rattle.amd_factor.specs.Premises.{CanWriteFactor};
 
-use crate::column::{Marked, finish_column, plan_behind};
+use crate::column::{ColumnLists, Marked, finish_column, plan_behind};
+use crate::neighbours::Neighbours;
 use amd_types::index::Index;
 use core::mem::replace_with;
 use std::alloc::Allocator;
@@ -38,26 +37,25 @@ fn add_column<N: Index, A: Allocator>(
     k: usize,
     neighbours: &[usize],
     marked: Marked,
-    ptr: &mut [usize],
-    rows: &mut Vec<N, A>,
-    parent: &mut [Option<usize>],
-    mark: &mut [usize],
-    link: &mut [Option<usize>],
-    fresh: &mut [usize],
     room: usize,
+    lists: &mut ColumnLists<'_>,
+    rows: &mut Vec<N, A>,
+    mark: &mut [usize],
+    fresh: &mut [usize],
 ) -> Option<Marked>
     ghost o: { Order }
     requires column { CanAdd N.fits o k neighbours.now fresh.old }
-    requires filled { FillsFront N.value o k ptr.old rows.old.items parent.old link.old marked.column marked.stamp
-        mark.old }
-    requires full { IsFull (slice_index ptr.old k) (length rows.old.items) room (vec_capacity rows.old) }
+    requires filled { FillsFront N.value o k lists.old rows.old.items marked mark.old }
+    requires full { IsFull (slice_index lists.old.ptr.now k) (length rows.old.items) room (vec_capacity rows.old) }
     ensures filled { MatchOption result (PassesRoom o.graph o.rows room)
-        (λ now. FillsFront N.value o (k + 1) ptr.new rows.new.items parent.new link.new now.column now.stamp mark.new) }
-    ensures full { MatchOption result (Unit {0}) (λ now. slice_index ptr.new (k + 1) ≡ length rows.new.items) }
+        (λ now. FillsFront N.value o (k + 1) lists.new rows.new.items now mark.new) }
+    ensures full { MatchOption result (Unit {0})
+        (λ now. slice_index lists.new.ptr.now (k + 1) ≡ length rows.new.items) }
     ensures within { length rows.new.items ≤ room }
     ensures capacity { vec_capacity rows.new ≡ vec_capacity rows.old }
+    ensures loans { KeepsLoans lists.old lists.new }
 {
-    let plan = plan_behind(k, neighbours, marked, ptr, rows, link, mark, fresh);
+    let plan = plan_behind(k, neighbours, marked, lists, rows, mark, fresh);
     let begin = rows.len();
     let size = plan.to - plan.from + plan.count;
     if room - begin < size {
@@ -65,7 +63,8 @@ fn add_column<N: Index, A: Allocator>(
     }
     // The zeros of a column are still at hand when it is written over them.
     replace_with(rows, size, with_zeros);
-    finish_column(k, plan, &fresh[..plan.count], ptr, rows, parent, link);
+    let new = &fresh[..plan.count];
+    finish_column(k, plan, new, lists.ptr, rows, lists.parent, lists.link);
     Some(plan.marked)
 }
 
@@ -91,17 +90,15 @@ fn begin(ptr: &mut [usize], mark: &mut [usize], link: &mut [Option<usize>]) -> M
 /// Writes the columns of the factor of a graph under an order of its rows, and returns the number of their entries;
 /// none, exactly where there are more entries than `room`, for which `rows` has the capacity.
 ///
-/// `later[starts[k]..starts[k + 1]]` names the places after `k` whose rows an edge joins with that at place `k`. The
-/// entries of column `k` are then `rows[ptr[k]..ptr[k + 1]]`, rising, and its parent is the first of them. `ptr` has a
-/// place more than there are rows, and `parent`, `mark`, `link` and `fresh`, of which the last three are for the work
-/// alone, have as many.
+/// `later` names the places after each place whose rows an edge joins with that there. The entries of column `k` are
+/// then `rows[ptr[k]..ptr[k + 1]]`, rising, and its parent is the first of them. `ptr` has a place more than there are
+/// rows, and `parent`, `mark`, `link` and `fresh`, of which the last three are for the work alone, have as many.
 ///
 /// No memory is asked for: the capacity of `rows` stays as it is. The steps are as many as there are later neighbours,
 /// entries and rows, times at most the logarithm of the number of rows that are new in a column: those that it does not
 /// take over from its greatest child. Each place is a number of the type.
 pub fn fill<N: Index, A: Allocator>(
-    starts: &[usize],
-    later: &[usize],
+    later: &Neighbours<'_>,
     room: usize,
     ptr: &mut [usize],
     rows: &mut Vec<N, A>,
@@ -111,7 +108,7 @@ pub fn fill<N: Index, A: Allocator>(
     fresh: &mut [usize],
 ) -> Option<usize>
     ghost o: { Order }
-    requires lists { CanWriteFactor o N.fits starts.now later.now }
+    requires lists { CanWriteFactor o N.fits later.now.starts.now later.now.places.now }
     requires sizes { FactorSizes o ptr.old parent.old mark.old link.old fresh.old }
     requires room { (rows.old.items ≡ []) × (room ≤ vec_capacity rows.old) }
     ensures factor { MatchOption result (PassesRoom o.graph o.rows room)
@@ -121,16 +118,16 @@ pub fn fill<N: Index, A: Allocator>(
     ensures capacity { vec_capacity rows.new ≡ vec_capacity rows.old }
 {
     let mut marked = begin(ptr, mark, link);
-    'columns: for k in 0..parent.len() {
-        let neighbours = &later[starts[k]..starts[k + 1]];
-        let Some(now) = add_column(
-            k, neighbours, marked, ptr, rows, parent, mark, link, fresh, room,
-        ) else {
+    let mut lists = ColumnLists { ptr, parent, link };
+    'columns: for k in 0..lists.parent.len() {
+        let neighbours = &later.places[later.starts[k]..later.starts[k + 1]];
+        let Some(now) = add_column(k, neighbours, marked, room, &mut lists, rows, mark, fresh)
+        else {
             return None;
         };
         marked = now;
     }
-    Some(ptr[parent.len()])
+    Some(lists.ptr[lists.parent.len()])
 }
 
 /// Writes column `k` behind those before it, as `add_column`, into numbers of a caller; what is behind it stays.
@@ -138,32 +135,24 @@ fn add_column_into<N: Index>(
     k: usize,
     neighbours: &[usize],
     marked: Marked,
-    ptr: &mut [usize],
+    lists: &mut ColumnLists<'_>,
     rows: &mut [N],
-    parent: &mut [Option<usize>],
     mark: &mut [usize],
-    link: &mut [Option<usize>],
     fresh: &mut [usize],
 ) -> Option<Marked>
     ghost o: { Order }
     requires column { CanAdd N.fits o k neighbours.now fresh.old }
-    requires filled { FillsFront N.value o k ptr.old rows.old parent.old link.old marked.column marked.stamp mark.old }
+    requires filled { FillsFront N.value o k lists.old rows.old marked mark.old }
     ensures filled { MatchOption result (PassesRoom o.graph o.rows (length rows.old))
-        (λ now. FillsFront N.value o (k + 1) ptr.new rows.new parent.new link.new now.column now.stamp mark.new) }
-    ensures rest { MatchOption result (Unit {0}) (λ now. (slice_index ptr.old k ≤ slice_index ptr.new (k + 1)) ×
-        (drop (slice_index ptr.new (k + 1)) rows.new ≡ drop (slice_index ptr.new (k + 1)) rows.old)) }
+        (λ now. FillsFront N.value o (k + 1) lists.new rows.new now mark.new) }
+    ensures rest { MatchOption result (Unit {0})
+        (λ now. (slice_index lists.old.ptr.now k ≤ slice_index lists.new.ptr.now (k + 1)) ×
+        (drop (slice_index lists.new.ptr.now (k + 1)) rows.new
+        ≡ drop (slice_index lists.new.ptr.now (k + 1)) rows.old)) }
+    ensures loans { KeepsLoans lists.old lists.new }
 {
-    let begin = ptr[k];
-    let plan = plan_behind(
-        k,
-        neighbours,
-        marked,
-        ptr,
-        &rows[..begin],
-        link,
-        mark,
-        fresh,
-    );
+    let begin = lists.ptr[k];
+    let plan = plan_behind(k, neighbours, marked, lists, &rows[..begin], mark, fresh);
     let size = plan.to - plan.from + plan.count;
     if rows.len() - begin < size {
         return None;
@@ -172,10 +161,10 @@ fn add_column_into<N: Index>(
         k,
         plan,
         &fresh[..plan.count],
-        ptr,
+        lists.ptr,
         &mut rows[..begin + size],
-        parent,
-        link,
+        lists.parent,
+        lists.link,
     );
     Some(plan.marked)
 }
@@ -183,8 +172,7 @@ fn add_column_into<N: Index>(
 /// Writes the columns of the factor as `fill`, into numbers of a caller, and returns how many; none, exactly where
 /// there are more entries than `rows` has places. Each place is a number of the type.
 pub fn fill_into<N: Index>(
-    starts: &[usize],
-    later: &[usize],
+    later: &Neighbours<'_>,
     ptr: &mut [usize],
     rows: &mut [N],
     parent: &mut [Option<usize>],
@@ -193,23 +181,21 @@ pub fn fill_into<N: Index>(
     fresh: &mut [usize],
 ) -> Option<usize>
     ghost o: { Order }
+    requires lists { CanWriteFactor o N.fits later.now.starts.now later.now.places.now }
     requires sizes { FactorSizes o ptr.old parent.old mark.old link.old fresh.old }
-    requires laws { IsGraph o.graph }
-    requires fits { (j : ℕ) → j < length o.rows → N.fits (pos j) }
-    requires later { HasLater o starts.now later.now }
     ensures factor { MatchOption result (PassesRoom o.graph o.rows (length rows.old))
         (λ total. (entries : List ℕ) × (total ≡ length entries) ×
         (map N.value rows.new ≡ map pos entries ++ drop total (map N.value rows.old)) ×
         HoldFactor o.graph o.rows ptr.new entries parent.new) }
 {
     let mut marked = begin(ptr, mark, link);
-    'columns: for k in 0..parent.len() {
-        let neighbours = &later[starts[k]..starts[k + 1]];
-        let Some(now) = add_column_into(k, neighbours, marked, ptr, rows, parent, mark, link, fresh)
-        else {
+    let mut lists = ColumnLists { ptr, parent, link };
+    'columns: for k in 0..lists.parent.len() {
+        let neighbours = &later.places[later.starts[k]..later.starts[k + 1]];
+        let Some(now) = add_column_into(k, neighbours, marked, &mut lists, rows, mark, fresh) else {
             return None;
         };
         marked = now;
     }
-    Some(ptr[parent.len()])
+    Some(lists.ptr[lists.parent.len()])
 }

@@ -12,7 +12,7 @@ ghost use Rattle.amd_factor.specs.declared.factor.Fault.TheVariants.{OutOfMemory
 use crate::entrance::rows_of;
 use crate::factor::{Fault, factor_lists, fault_for};
 use crate::fill::fill_into;
-use crate::neighbours::later_lists;
+use crate::neighbours::{Neighbours, later_lists};
 use crate::places::places;
 use amd_types::index::Index;
 use num_traits::PrimInt;
@@ -48,21 +48,19 @@ fn empty_frame<A: Allocator + Copy>(alloc: A) -> Result<Frame<A>, Fault>
 /// A refused request for memory; `rows` stays as it was.
 fn written_into<I: Index, A: Allocator + Copy>(
     alloc: A,
-    starts: &[usize],
-    later: &[usize],
+    later: &Neighbours<'_>,
     rows: &mut [I],
 ) -> Result<Option<Frame<A>>, AllocError>
     ghost o: { Order }
-    requires lists { CanWriteFactor o I.fits starts.now later.now }
+    requires lists { CanWriteFactor o I.fits later.now.starts.now later.now.places.now }
     ensures factor { IfOk result (λ r. MatchOption r (PassesRoom o.graph o.rows (length rows.old))
         (λ f. (entries : List ℕ) ×
         (map I.value rows.new ≡ map pos entries ++ drop (length entries) (map I.value rows.old)) ×
         HoldFactor o.graph o.rows f.ptr.items entries f.parent.items)) }
     ensures kept { IfErr result (λ e. rows.new ≡ rows.old) }
 {
-    let mut lists = factor_lists(alloc, starts.len())?;
+    let mut lists = factor_lists(alloc, later.starts.len())?;
     let Some(_) = fill_into(
-        starts,
         later,
         &mut lists.ptr,
         rows,
@@ -101,7 +99,11 @@ fn form_columns_into<I: Index, A: Allocator + Copy>(
         return Err(Fault::NotPermutation);
     };
     let lists = later_lists(alloc, size, a_p, a_i, &places)?;
-    match written_into(alloc, &lists.starts, &lists.neighbours, rows)? {
+    let later = Neighbours {
+        starts: &lists.starts,
+        places: &lists.neighbours,
+    };
+    match written_into(alloc, &later, rows)? {
         Some(frame) => Ok(frame),
         None => Err(Fault::RoomTooSmall),
     }

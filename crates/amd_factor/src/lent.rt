@@ -12,7 +12,7 @@ ghost use Rattle.amd_factor.specs.Within.{IsPlaced};
 
 use crate::fill::fill_into;
 use crate::neighbours::{
-    lay_earlier, lay_later, lay_turned, list_earlier, list_later, list_turned,
+    Neighbours, lay_earlier, lay_later, lay_turned, list_earlier, list_later, list_turned,
 };
 use crate::sizes::count_by_meetings;
 use amd_types::index::Index;
@@ -83,5 +83,9 @@ pub fn lent_columns<I: Index>(
     let (mark, rest) = rest.split_at_mut(size);
     let fresh = &mut rest[..size];
     let link = &mut links[..size];
-    fill_into(starts, later, ptr, rows, parent, mark, link, fresh)
+    let later = Neighbours {
+        starts,
+        places: later,
+    };
+    fill_into(&later, ptr, rows, parent, mark, link, fresh)
 }

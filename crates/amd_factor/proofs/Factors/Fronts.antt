@@ -13,6 +13,8 @@ use Rattle.amd_factor.specs.Gathering.{HoldBefore, TellFirst}
 use Rattle.amd_factor.specs.Merging.{merged}
 use Rattle.amd_factor.specs.Numbers.{FillsFront, Plans}
 use Rattle.amd_factor.specs.Orders.{Order}
+use Rattle.amd_factor.specs.declared.column.Marked.{Marked}
+use Rattle.amd_factor.specs.declared.column.ColumnLists.{ColumnLists}
 use Rattle.amd_factor.proofs.Factors.Merging.{merged_is}
 use Rattle.amd_factor.proofs.Factors.PlaceNumbers.{counts_long}
 use Rattle.amd_factor.proofs.Factors.Standing.{hold_factor, merged_column, passes_room}
@@ -31,10 +33,11 @@ passes o laws k ptr rows fresh from to room low columns plans more =
 
 module _ {N : Type 0} (value : N → ℤ) (o : Order) where
   -- all columns
-  pub front_all : IsGraph o.graph → (k : ℕ) (ptr : List ℕ) (rows : List N) (parent link : List (Option ℕ)) (column : Option ℕ)
-      (stamp : ℕ) (mark : List ℕ) → FillsFront value o k ptr rows parent link column stamp mark → k ≡ length o.rows →
-      HoldFactor o.graph o.rows ptr (naturals (map value (take (slice_index ptr k) rows))) parent
-  front_all laws k ptr rows parent link column stamp mark f all =
+  pub front_all : IsGraph o.graph → (k : ℕ) (l : ColumnLists) (rows : List N) (marked : Marked) (mark : List ℕ) →
+      FillsFront value o k l rows marked mark →
+      k ≡ length o.rows → HoldFactor o.graph o.rows l.ptr.now (naturals (map value (take (slice_index l.ptr.now k) rows))) l.parent.now
+  front_all laws k l rows marked mark f all =
+      let ptr : List ℕ = l.ptr.now in let parent : List (Option ℕ) = l.parent.now in
       let xs : List ℕ = naturals (map value (take (slice_index ptr k) rows)) in
       let long : length xs ≡ slice_index ptr k = counts_long value (take (slice_index ptr k) rows) ∙
       length-take-le (slice_index ptr k) rows f.within in
@@ -44,27 +47,30 @@ module _ {N : Type 0} (value : N → ℤ) (o : Order) where
       (hold_factor o laws ptr xs parent (subst (λ n. HoldBefore o n ptr xs) all f.filled.columns)
       (subst (λ n. TellFirst o n ptr xs parent) all f.filled.parents))
 
-  module _ (laws : IsGraph o.graph) (k m : ℕ) (ptr : List ℕ) (rows : List N) (parent link : List (Option ℕ)) (column : Option ℕ) (stamp : ℕ)
-      (mark : List ℕ) (f : FillsFront value o k ptr rows parent link column stamp mark) (all : k ≡ length o.rows) (places : k ≡ m) where
+  module _ (laws : IsGraph o.graph) (k m : ℕ) (l : ColumnLists) (rows : List N) (marked : Marked) (mark : List ℕ)
+      (f : FillsFront value o k l rows marked mark) (all : k ≡ length o.rows) (places : k ≡ m) where
+    abbrev ptr : List ℕ
+    ptr = l.ptr.now
+
     entries : List ℕ
     entries = naturals (map value (take (slice_index ptr k) rows))
 
     -- all of a list is written
     pub list_written : slice_index ptr k ≡ length rows → (slice_index ptr m ≡ length rows) × (xs : List ℕ) ×
-        (map value rows ≡ map pos xs) × HoldFactor o.graph o.rows ptr xs parent
+        (map value rows ≡ map pos xs) × HoldFactor o.graph o.rows ptr xs l.parent.now
     unfolding entries
     list_written full =
         let whole : take (slice_index ptr k) rows ≡ rows = take_all (slice_index ptr k) rows (omega (arith, full)) in (
           ap (slice_index ptr) (sym places) ∙ full,
           entries,
           ap (map value) (sym whole) ∙ sym f.numbers,
-          front_all laws k ptr rows parent link column stamp mark f all,
+          front_all laws k l rows marked mark f all,
         )
 
     -- the first numbers are written, and those behind them stayed
     pub front_written : (old : List N) → drop (slice_index ptr k) rows ≡ drop (slice_index ptr k) old → (xs : List ℕ) ×
         (slice_index ptr m ≡ length xs) × (map value rows ≡ map pos xs ++ drop (slice_index ptr m) (map value old)) ×
-        HoldFactor o.graph o.rows ptr xs parent
+        HoldFactor o.graph o.rows ptr xs l.parent.now
     unfolding entries
     front_written old rest =
         let e : ℕ = slice_index ptr k in
@@ -76,7 +82,7 @@ module _ {N : Type 0} (value : N → ℤ) (o : Order) where
               ∙ ap (λ zs. map pos entries ++ map value zs) rest
               ∙ ap (λ zs. map pos entries ++ zs) (sym (drop-map value e old))
               ∙ ap (λ n. map pos entries ++ drop (slice_index ptr n) (map value old)) places,
-          front_all laws k ptr rows parent link column stamp mark f all,
+          front_all laws k l rows marked mark f all,
         )
 
 -- a rising list of numbers below n has at most n

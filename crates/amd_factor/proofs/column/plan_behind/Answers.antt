@@ -7,7 +7,7 @@ use Rattle.amd_factor.proofs.column.plan_behind.Goals as goal
 
 pub plan_column-requires : goal.plan_column-requires
 plan_column-requires g c κs inside =
-    let h = c.requires.1.1 in let rows = naturals (map g.N.Index.value c.args.rows.now) in let ptr = c.args.ptr.now in (
+    let h = c.requires.1.1 in let rows = naturals (map g.N.Index.value c.args.rows.now) in let ptr = c.args.lists.now.ptr.now in (
       inside,
       (
         c.requires.1.0,

@@ -52,7 +52,8 @@ pub overflow_add-size : goal.overflow_add-size
 overflow_add-size g c =
     let filled = c.requires.1.1 in
     let plan = c.plan_behind-plan.result in let count = c.plan_behind-plan.ensures.count in
-    let short = taken_short g.o c.args.k (naturals (map g.N.Index.value (take (slice_index c.args.ptr.now c.args.k) c.args.rows.now)))
+    let ptr = c.args.lists.now.ptr.now in
+    let short = taken_short g.o c.args.k (naturals (map g.N.Index.value (take (slice_index ptr c.args.k) c.args.rows.now)))
     (take plan.count c.plan_behind-plan.new.fresh) plan.from plan.to c.plan_behind-plan.ensures.plans in
     let room = filled.filled.parents.room in let same = c.plan_behind-plan.auto.fresh in let all = c.requires.1.0.long in
     omega (arith, short, count, room, same, all)
@@ -63,8 +64,8 @@ returns-then-rows-begin-clause-filled g c =
     let plan = c.plan_behind-plan.result in let count = length-take-le plan.count c.plan_behind-plan.new.fresh
     c.plan_behind-plan.ensures.count in
     let more = c.if-rows-begin.true in let within = filled.within in
-    passes g.o c.requires.1.0.laws c.args.k c.args.ptr.now
-    (naturals (map g.N.Index.value (take (slice_index c.args.ptr.now c.args.k) c.args.rows.now)))
+    passes g.o c.requires.1.0.laws c.args.k c.args.lists.now.ptr.now
+    (naturals (map g.N.Index.value (take (slice_index c.args.lists.now.ptr.now c.args.k) c.args.rows.now)))
     (take plan.count c.plan_behind-plan.new.fresh) plan.from plan.to (length c.args.rows.now) c.requires.1.0.place filled.filled.columns
     c.plan_behind-plan.ensures.plans
     (omega (arith, count, more, within))
@@ -73,7 +74,7 @@ pub finish_column-requires : goal.finish_column-requires
 finish_column-requires g c κs inside =
     let plan = c.plan_behind-plan.result in
     let size : ℕ = plan.to - plan.from + plan.count in let q = c.requires.1 in let can = q.0 in let front = q.1 in
-    let value = g.N.Index.value in let ptr = c.args.ptr.now in let rows = c.args.rows.now in (
+    let value = g.N.Index.value in let ptr = c.args.lists.now.ptr.now in let rows = c.args.rows.now in (
       inside,
       (
         can.fit,
@@ -86,7 +87,7 @@ finish_column-requires g c κs inside =
               c.if-rows-begin.false c.plan_behind-plan.ensures.count;
           numbers = numbers_here value g.o c.args.k ptr rows size front.numbers;
           columns = columns_here value g.o c.args.k ptr rows size front.filled.columns;
-          parents = parents_here value g.o c.args.k ptr rows size c.args.parent.now front.filled.parents;
+          parents = parents_here value g.o c.args.k ptr rows size c.args.lists.now.parent.now front.filled.parents;
           links = front.filled.links;
         },
       ),

@@ -30,7 +30,9 @@ returns-clause-factor g c =
     let r = i.filled.filled.parents.room in let t = c.columns-test.false in
     let end = c.columns.auto.k-end in
     let from = q.1.0.parents in
+    let lists = c.columns.lists in
     let all : c.columns.k ≡ length g.o.rows = at_end c.columns.k (length c.args.parent.now) (length g.o.rows) t end from in
-    let places : c.columns.k ≡ length c.columns.parent = all ∙ sym r in
-    list_written {N = g.row.N.Denot} g.N.Index.value g.o q.0.laws c.columns.k (length c.columns.parent) c.columns.ptr c.columns.rows.items
-    c.columns.parent c.columns.link c.columns.marked.column c.columns.marked.stamp c.columns.mark i.filled all places i.full
+    let places : c.columns.k ≡ length lists.parent.now = all ∙ sym r in
+    rw (c.ptr-2-1.given.1.1 (sym i.loans.0), c.parent-2-1.given.1.1 (sym i.loans.1))
+    (list_written {N = g.row.N.Denot} g.N.Index.value g.o q.0.laws c.columns.k (length lists.parent.now) lists c.columns.rows.items
+    c.columns.marked c.columns.mark i.filled all places i.full)

@@ -1,4 +1,4 @@
-use Rattle.std.proofs.Common.{◌+◌, ◌∙◌, arith, length}
+use Rattle.std.proofs.Common.{◌+◌, ◌∙◌, sym, arith, length, rules}
 use Rattle.std.specs.Prelude.{slice_index}
 use Rattle.amd_factor.proofs.Factors.Fronts.{drop_further, front_written}
 use Rattle.amd_factor.proofs.fill.fill_into.Goals as goal
@@ -10,11 +10,11 @@ add_column_into-requires g c κs inside =
       inside,
       (
         record {
-          laws = q.1.0;
+          laws = q.0.laws;
           place = omega (arith, r, t);
-          fit = q.1.1.0;
-          later = q.1.1.1.each c.columns.k (omega (arith, r, t));
-          long = c.columns.auto.fresh ∙ q.0.fresh;
+          fit = q.0.most;
+          later = q.0.later_are.each c.columns.k (omega (arith, r, t));
+          long = c.columns.auto.fresh ∙ q.1.fresh;
         },
         i.filled,
       ),
@@ -25,8 +25,9 @@ columns-preserved g c =
     let i = c.columns.invariant in let e = c.in-Some.ensures in record {
       filled = e.filled;
       room = c.add_column_into.auto.rows ∙ i.room;
-      rest = e.rest.1 ∙ drop_further (slice_index c.columns.ptr c.columns.k) (slice_index c.add_column_into.new.ptr (c.columns.k + 1))
-          c.columns.rows c.args.rows.now e.rest.0 i.rest;
+      rest = e.rest.1 ∙ drop_further (slice_index c.columns.lists.ptr.now c.columns.k)
+          (slice_index c.add_column_into.new.lists.ptr.now (c.columns.k + 1)) c.columns.rows c.args.rows.now e.rest.0 i.rest;
+      loans = search rules;
     }
 
 pub returns : goal.returns
@@ -35,9 +36,10 @@ returns g c =
     let i = c.columns.invariant in
     let r = i.filled.filled.parents.room in let t = c.columns-test.false in
     let end = c.columns.auto.k-end in
-    let from = q.0.parents in
+    let from = q.1.parents in
+    let lists = c.columns.lists in
     record {
-      factor = front_written g.N.Index.value g.o q.1.0 c.columns.k (length c.columns.parent) c.columns.ptr c.columns.rows
-          c.columns.parent c.columns.link c.columns.marked.column c.columns.marked.stamp c.columns.mark i.filled
-          (omega (arith, t, end, from)) (omega (arith, t, end, from, r)) c.args.rows.now i.rest;
+      factor = rw (c.ptr-2-1.given.1.1 (sym i.loans.0), c.parent-2-1.given.1.1 (sym i.loans.1))
+          (front_written g.N.Index.value g.o q.0.laws c.columns.k (length lists.parent.now) lists c.columns.rows c.columns.marked
+          c.columns.mark i.filled (omega (arith, t, end, from)) (omega (arith, t, end, from, r)) c.args.rows.now i.rest);
     }
