@@ -5,11 +5,23 @@
 ghost use Rattle.std.specs.Prelude.{◌≡◌, ◌<◌, ◌≤◌, ◌+◌, ◌∷◌, [], ℕ, List, pos, map, length, slice_index};
 ghost use Rattle.amd_model.specs.Input.Columns.{IsColumnForm};
 ghost use Rattle.amd_types.specs.Naturals.{naturals};
-ghost use Rattle.amd_factor.specs.Arcs.{IsNext, arcs_before};
+ghost use Rattle.amd_factor.specs.Arcs.{HasForm, HasPlaces, IsNext, arcs_before, arcs_of};
 ghost use Rattle.amd_factor.specs.Places.{ArePlaces};
 
 use amd_types::index::Index;
 use amd_types::internal::count_at;
+
+/// A matrix with `size` rows and columns, and the place of each of its rows in an order. The matrix may have columns
+/// out of order and repeats.
+#[derive(Drop)]
+pub struct PlacedMatrix<'a, I: Index> {
+    pub size: usize,
+    /// Where the entries of each column begin, and behind them the end of the last one.
+    pub a_p: &'a [I],
+    /// The row of each entry.
+    pub a_i: &'a [I],
+    pub places: &'a [usize],
+}
 
 /// What takes the arcs of an order of `n` rows, one at a time, and writes two lists of numbers by them. What holds of
 /// it and of the lists speaks of `n`, of all arcs that it is to take, and of those that it took, the last one first.
@@ -69,26 +81,30 @@ fn column<I: Index, V: ArcVisitor>(
     }
 }
 
-/// Hands on the arcs of all entries of a matrix with `size` rows and columns, column by column. The matrix may have
-/// columns out of order and repeats; each repeat gives its arc again. `places` holds the place of each row.
+/// Hands on the arcs of all entries of a matrix, column by column; each repeat gives its arc again.
 pub fn walk<I: Index, V: ArcVisitor>(
-    size: usize,
-    a_p: &[I],
-    a_i: &[I],
-    places: &[usize],
+    matrix: &PlacedMatrix<'_, I>,
     visitor: &V,
     starts: &mut [usize],
     neighbours: &mut [usize],
 )
-    requires form { IsColumnForm (pos size) size (map I.value a_p.now) (map I.value a_i.now) }
-    requires places { (rows : List ℕ) × ArePlaces size rows places.now }
-    requires held { V.holds size (arcs_before places.now (naturals (map I.value a_p.now)) (naturals (map I.value a_i.now))
-        size) [] visitor.now starts.old neighbours.old }
-    ensures held { V.holds size (arcs_before places.now (naturals (map I.value a_p.now)) (naturals (map I.value a_i.now))
-        size) (arcs_before places.now (naturals (map I.value a_p.now)) (naturals (map I.value a_i.now)) size)
+    requires form { HasForm I.value matrix.now }
+    requires places { HasPlaces matrix.now }
+    requires held { V.holds matrix.now.size (arcs_of I.value matrix.now) [] visitor.now starts.old neighbours.old }
+    ensures held { V.holds matrix.now.size (arcs_of I.value matrix.now) (arcs_of I.value matrix.now)
         visitor.now starts.new neighbours.new }
 {
+    let size = matrix.size;
     'columns: for j in 0..size {
-        column(size, j, a_p, a_i, places, visitor, starts, neighbours);
+        column(
+            size,
+            j,
+            matrix.a_p,
+            matrix.a_i,
+            matrix.places,
+            visitor,
+            starts,
+            neighbours,
+        );
     }
 }

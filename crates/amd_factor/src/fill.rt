@@ -181,8 +181,8 @@ pub fn fill_into<N: Index>(
     fresh: &mut [usize],
 ) -> Option<usize>
     ghost o: { Order }
-    requires lists { CanWriteFactor o N.fits later.now.starts.now later.now.places.now }
     requires sizes { FactorSizes o ptr.old parent.old mark.old link.old fresh.old }
+    requires lists { CanWriteFactor o N.fits later.now.starts.now later.now.places.now }
     ensures factor { MatchOption result (PassesRoom o.graph o.rows (length rows.old))
         (λ total. (entries : List ℕ) × (total ≡ length entries) ×
         (map N.value rows.new ≡ map pos entries ++ drop total (map N.value rows.old)) ×

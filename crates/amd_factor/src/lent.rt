@@ -10,6 +10,7 @@ ghost use Rattle.amd_factor.specs.Orders.{Order};
 ghost use Rattle.amd_factor.specs.Sizes.{HoldSizes};
 ghost use Rattle.amd_factor.specs.Within.{IsPlaced};
 
+use crate::arcs::PlacedMatrix;
 use crate::fill::fill_into;
 use crate::neighbours::{
     Neighbours, lay_earlier, lay_later, lay_turned, list_earlier, list_later, list_turned,
@@ -37,9 +38,15 @@ pub fn lent_sizes<I: Index>(
     let size = places.len();
     let (starts, rest) = memory.split_at_mut(size + 1);
     starts.fill(0);
-    let total = lay_earlier(size, a_p, a_i, places, starts);
+    let matrix = PlacedMatrix {
+        size,
+        a_p,
+        a_i,
+        places,
+    };
+    let total = lay_earlier(&matrix, starts);
     let (earlier, rest) = rest.split_at_mut(total);
-    list_earlier(size, a_p, a_i, places, starts, earlier);
+    list_earlier(&matrix, starts, earlier);
     let (later_starts, rest) = rest.split_at_mut(size + 1);
     later_starts.fill(0);
     let turned = lay_turned(starts, earlier, later_starts);
@@ -75,11 +82,17 @@ pub fn lent_columns<I: Index>(
         HoldFactor o.graph o.rows ptr.new entries parent.new) }
 {
     let size = places.len();
+    let matrix = PlacedMatrix {
+        size,
+        a_p,
+        a_i,
+        places,
+    };
     let (starts, rest) = memory.split_at_mut(size + 1);
     starts.fill(0);
-    let total = lay_later(size, a_p, a_i, places, starts);
+    let total = lay_later(&matrix, starts);
     let (later, rest) = rest.split_at_mut(total);
-    list_later(size, a_p, a_i, places, starts, later);
+    list_later(&matrix, starts, later);
     let (mark, rest) = rest.split_at_mut(size);
     let fresh = &mut rest[..size];
     let link = &mut links[..size];

@@ -1,10 +1,11 @@
 use Rattle.std.proofs.Common.{map}
 use Rattle.amd_types.specs.Naturals.{naturals}
-use Rattle.amd_factor.specs.Arcs.{arcs_before}
+use Rattle.amd_factor.specs.Arcs.{arcs_before, arcs_of}
 use Rattle.amd_factor.proofs.arcs.walk.Given as goal
 
 abbrev pub invariant-columns : goal.invariant-columns
 invariant-columns g l =
-    g.V.ArcVisitor.holds l.fn.size (arcs_before l.places (naturals (map g.I.Index.value l.a_p)) (naturals (map g.I.Index.value l.a_i))
-    l.fn.size)
-    (arcs_before l.places (naturals (map g.I.Index.value l.a_p)) (naturals (map g.I.Index.value l.a_i)) l.j) l.visitor l.starts l.neighbours
+    let m = l.matrix in
+    g.V.ArcVisitor.holds m.size (arcs_of g.I.Index.value m)
+    (arcs_before m.places.now (naturals (map g.I.Index.value m.a_p.now)) (naturals (map g.I.Index.value m.a_i.now)) l.j) l.visitor l.starts
+    l.neighbours

@@ -10,11 +10,11 @@ add_column_into-requires g c κs inside =
       inside,
       (
         record {
-          laws = q.0.laws;
+          laws = q.1.laws;
           place = omega (arith, r, t);
-          fit = q.0.most;
-          later = q.0.later_are.each c.columns.k (omega (arith, r, t));
-          long = c.columns.auto.fresh ∙ q.1.fresh;
+          fit = q.1.most;
+          later = q.1.later_are.each c.columns.k (omega (arith, r, t));
+          long = c.columns.auto.fresh ∙ q.0.fresh;
         },
         i.filled,
       ),
@@ -36,10 +36,10 @@ returns g c =
     let i = c.columns.invariant in
     let r = i.filled.filled.parents.room in let t = c.columns-test.false in
     let end = c.columns.auto.k-end in
-    let from = q.1.parents in
+    let from = q.0.parents in
     let lists = c.columns.lists in
     record {
       factor = rw (c.ptr-2-1.given.1.1 (sym i.loans.0), c.parent-2-1.given.1.1 (sym i.loans.1))
-          (front_written g.N.Index.value g.o q.0.laws c.columns.k (length lists.parent.now) lists c.columns.rows c.columns.marked
+          (front_written g.N.Index.value g.o q.1.laws c.columns.k (length lists.parent.now) lists c.columns.rows c.columns.marked
           c.columns.mark i.filled (omega (arith, t, end, from)) (omega (arith, t, end, from, r)) c.args.rows.now i.rest);
     }

@@ -15,8 +15,8 @@ fill_into-requires g c κs inside =
     let fresh : c.deref_mut-5.result.now ≡ c.in_ok-lists.lists.fresh.items = search rules in (
       inside,
       (
-        r,
         (rw (ptr, parent, mark, link, fresh) c.in_ok-lists.ensures),
+        r,
       ),
     )
 

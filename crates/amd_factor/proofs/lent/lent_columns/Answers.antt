@@ -17,17 +17,17 @@ fill_into-requires g c κs inside =
       inside,
       (
         record {
-          laws = is_graph g.o _ _ _ c.args.places.now placed;
-          most = λ j l. c.requires.1.1.0 j (omega (arith, l, all));
-          later_are = later_lists g.o _ _ _ c.args.places.now placed c.list_later.new.starts c.list_later.new.neighbours
-              c.list_later.ensures;
-        },
-        record {
           pointers = (let long = lists.0 in omega (arith, long, all));
           parents = (let long = lists.1 in omega (arith, long, all));
           marks = omega (arith, mark, all);
           links = (let long = length-take-le (length c.args.places.now) c.args.links.now lists.2 in omega (arith, long, all));
           fresh = omega (arith, fresh, all);
+        },
+        record {
+          laws = is_graph g.o _ _ _ c.args.places.now placed;
+          most = λ j l. c.requires.1.1.0 j (omega (arith, l, all));
+          later_are = later_lists g.o _ _ _ c.args.places.now placed c.list_later.new.starts c.list_later.new.neighbours
+              c.list_later.ensures;
         },
       ),
     )
