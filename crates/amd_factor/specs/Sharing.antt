@@ -40,13 +40,13 @@ pub record IsPlanned {N : Type 0} (value : N → ℤ) (o : Order) (k : ℕ) (pla
     pub small : length o.rows < 2 ^ 64
 
 -- the columns then have the first numbers, which are not negative: at least as many as before
-pub record IsPlaced {N : Type 0} (value : N → ℤ) (used : ℕ) (placed : Placed) (rows : List N) : Type 0 where
+pub record IsPlacedColumn {N : Type 0} (value : N → ℤ) (used : ℕ) (placed : Placed) (rows : List N) : Type 0 where
   pub more : used ≤ placed.used
   pub within : placed.used ≤ length rows
   pub numbers : AreNonNegative (map value (take placed.used rows))
 
 -- the lists have a place for each row
-pub record HasPlaces {A : Type 0} (o : Order) (l : SharedLists A) : Type 0 where
+pub record HasColumnPlaces {A : Type 0} (o : Order) (l : SharedLists A) : Type 0 where
   pub starts : length l.starts.items ≡ length o.rows
   pub ends : length l.ends.items ≡ length o.rows
   pub parents : length l.parent.items ≡ length o.rows
@@ -65,7 +65,7 @@ pub record CanStand {A N : Type 0} (value : N → ℤ) (o : Order) (k begin end 
     pub laws : IsGraph o.graph
     pub place : k < length o.rows
     pub small : length o.rows < 2 ^ 64
-    pub places : HasPlaces o l
+    pub places : HasColumnPlaces o l
     pub columns : Share value o k l rows
     pub stands : StandsFrom value o k begin end rows
 
@@ -73,6 +73,6 @@ pub record CanStand {A N : Type 0} (value : N → ℤ) (o : Order) (k begin end 
 pub record CanShare {A : Type 0} (o : Order) (starts later : List ℕ) (l : SharedLists A) : Type 0 where
   pub laws : IsGraph o.graph
   pub neighbours : HasLater o starts later
-  pub places : HasPlaces o l
+  pub places : HasColumnPlaces o l
   pub links : LinkChildren o 0 l.link.items
   pub marks : MarksTell o 0 None 0 l.mark.items

@@ -5,7 +5,7 @@
 ghost use Rattle.std.specs.Prelude.{◌≡◌, ◌<◌, ◌≤◌, ◌+◌, ◌∷◌, [], ℕ, List, pos, map, length, slice_index};
 ghost use Rattle.amd_model.specs.Input.Columns.{IsColumnForm};
 ghost use Rattle.amd_types.specs.Naturals.{naturals};
-ghost use Rattle.amd_factor.specs.Arcs.{HasForm, HasPlaces, IsNext, arcs_before, arcs_of};
+ghost use Rattle.amd_factor.specs.Arcs.{HasForm, HasOrder, IsNext, arcs_before, arcs_of};
 ghost use Rattle.amd_factor.specs.Places.{ArePlaces};
 
 use amd_types::index::Index;
@@ -89,7 +89,7 @@ pub fn walk<I: Index, V: ArcVisitor>(
     neighbours: &mut [usize],
 )
     requires form { HasForm I.value matrix.now }
-    requires places { HasPlaces matrix.now }
+    requires places { HasOrder matrix.now }
     requires held { V.holds matrix.now.size (arcs_of I.value matrix.now) [] visitor.now starts.old neighbours.old }
     ensures held { V.holds matrix.now.size (arcs_of I.value matrix.now) (arcs_of I.value matrix.now)
         visitor.now starts.new neighbours.new }

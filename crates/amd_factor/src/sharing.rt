@@ -13,8 +13,8 @@ ghost use Rattle.amd_factor.specs.Neighbours.{HasLater};
 ghost use Rattle.amd_factor.specs.Numbers.{AreNonNegative, Plans};
 ghost use Rattle.amd_factor.specs.Orders.{Order};
 ghost use Rattle.amd_factor.specs.Planning.{CanPlan};
-ghost use Rattle.amd_factor.specs.Sharing.{CanShare, CanStand, HasPlaces, IsPlanned, IsPlaced, KeepsColumns, Share};
-ghost use Rattle.amd_factor.specs.Sharing.{StandsFrom};
+ghost use Rattle.amd_factor.specs.Sharing.{CanShare, CanStand, HasColumnPlaces, IsPlanned, IsPlacedColumn};
+ghost use Rattle.amd_factor.specs.Sharing.{KeepsColumns, Share, StandsFrom};
 
 use crate::children::link_child;
 use crate::column::{Columns, Marked, Plan, plan_column};
@@ -54,7 +54,7 @@ pub struct SharedLists<A: Allocator> {
 fn shared_lists<A: Allocator + Copy>(alloc: A, columns: usize) -> Result<SharedLists<A>, AllocError>
     ghost o: { Order }
     requires { columns ≡ length o.rows }
-    ensures places { IfOk result (λ l. HasPlaces o l) }
+    ensures places { IfOk result (λ l. HasColumnPlaces o l) }
     ensures links { IfOk result (λ l. LinkChildren o 0 l.link.items) }
     ensures marks { IfOk result (λ l. MarksTell o 0 None 0 l.mark.items) }
 {
@@ -143,7 +143,7 @@ fn place_column<N: Index, A: Allocator>(
         ((j : ℕ) → j < length o.rows → N.fits (pos j)) }
     requires used { used ≤ length rows.old.items }
     requires room { (length rows.old.items ≤ room) × (room ≤ vec_capacity rows.old) }
-    ensures placed { MatchOption result (Unit {0}) (λ p. IsPlaced N.value used p rows.new.items) }
+    ensures placed { MatchOption result (Unit {0}) (λ p. IsPlacedColumn N.value used p rows.new.items) }
     ensures stands { MatchOption result (Unit {0}) (λ p. (o : Order) (k : ℕ) →
         IsPlanned N.value o k plan fresh.now (take used rows.old.items) →
         StandsFrom N.value o k p.begin p.end (take p.used rows.new.items)) }
@@ -181,7 +181,7 @@ fn stand_column<N: Index, A: Allocator>(
     ghost o: { Order }
     requires { CanStand N.value o k begin end lists.old rows.now }
     ensures columns { Share N.value o (k + 1) lists.new rows.now }
-    ensures places { HasPlaces o lists.new }
+    ensures places { HasColumnPlaces o lists.new }
     ensures marks { lists.new.mark.items ≡ lists.old.mark.items }
 {
     lists.starts[k] = begin;
@@ -221,7 +221,7 @@ fn share_columns<N: Index, A: Allocator>(
     requires columns { CanShare o starts.now later.now lists.old }
     requires room { (rows.old.items ≡ []) × (room ≤ vec_capacity rows.old) }
     ensures shared { result ≡ true → (used : ℕ) × Share N.value o (length o.rows) lists.new (take used rows.new.items) }
-    ensures places { HasPlaces o lists.new }
+    ensures places { HasColumnPlaces o lists.new }
 {
     let mut marked = Marked {
         column: None,

@@ -28,7 +28,7 @@ use Rattle.amd_factor.specs.Gathering.{LinkChildren, StandAt}
 use Rattle.amd_factor.specs.Merging.{merged}
 use Rattle.amd_factor.specs.Numbers.{AreNonNegative, Plans}
 use Rattle.amd_factor.specs.Orders.{Order}
-use Rattle.amd_factor.specs.Sharing.{HasPlaces, KeepsColumns, Share, StandsFrom, TellFirstAt}
+use Rattle.amd_factor.specs.Sharing.{HasColumnPlaces, KeepsColumns, Share, StandsFrom, TellFirstAt}
 use Rattle.amd_factor.specs.Sizes.{HoldSizes}
 use Rattle.amd_factor.specs.Trees.{IsParent}
 use Rattle.amd_factor.specs.declared.sharing.SharedLists.{SharedLists}
@@ -199,8 +199,8 @@ share_kept value o k l l' rows (starts, ends, parents, links) h = record {
   links = rw links h.links;
 }
 
-pub places_kept : {A : Type 0} (o : Order) (l l' : SharedLists A) → KeepsColumns l l' → HasPlaces o l →
-    length l'.mark.items ≡ length o.rows → length l'.fresh.items ≡ length o.rows → HasPlaces o l'
+pub places_kept : {A : Type 0} (o : Order) (l l' : SharedLists A) → KeepsColumns l l' → HasColumnPlaces o l →
+    length l'.mark.items ≡ length o.rows → length l'.fresh.items ≡ length o.rows → HasColumnPlaces o l'
 places_kept o l l' (starts, ends, parents, links) h marks fresh = record {
   starts = ap length starts ∙ h.starts;
   ends = ap length ends ∙ h.ends;

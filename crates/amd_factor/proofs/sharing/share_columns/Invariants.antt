@@ -1,7 +1,7 @@
 use Rattle.std.proofs.Common.{◌≡◌, ◌≤◌, length, take}
 use Rattle.std.specs.Vec.{vec_capacity}
 use Rattle.amd_factor.specs.Gathering.{MarksTell}
-use Rattle.amd_factor.specs.Sharing.{HasPlaces, Share}
+use Rattle.amd_factor.specs.Sharing.{HasColumnPlaces, Share}
 use Rattle.amd_factor.proofs.sharing.share_columns.Given as goal
 
 abbrev pub ghost-plan_shared : goal.ghost-plan_shared
@@ -15,7 +15,7 @@ invariant-columns g l = record {
   columns : Share g.N.Index.value g.o l.k l.lists (take l.used l.rows.items);
   used : l.used ≤ length l.rows.items;
   room : length l.rows.items ≤ l.fn.room;
-  places : HasPlaces g.o l.lists;
+  places : HasColumnPlaces g.o l.lists;
   marks : MarksTell g.o l.k l.marked.column l.marked.stamp l.lists.mark.items;
   capacity : vec_capacity l.rows ≡ vec_capacity l.fn.rows;
 }
