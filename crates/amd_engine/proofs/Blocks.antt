@@ -10,7 +10,7 @@ use Rattle.amd_model.specs.State.{is_element, in_block}
 use Rattle.amd_words.specs.Words.{num, word, is_place}
 use Rattle.amd_rounds.specs.Views.{flipped}
 use Rattle.amd_workspace.specs.Ending.{block_in, named_word}
-use Rattle.amd_engine.specs.declared.rows.RowLists.{RowLists}
+use Rattle.amd_workspace.specs.declared.rows.RowLists.{RowLists}
 use Rattle.amd_engine.specs.InPlace.{AreOver}
 
 -- a list of the numbers of so many rows

@@ -26,7 +26,7 @@ use Rattle.amd_model.proofs.Counting.Below.{count_pos}
 use Rattle.amd_workspace.specs.Ending.{EndsRows}
 use Rattle.amd_workspace.specs.Laying.{IsLaidOut}
 use Rattle.amd_engine_law.specs.Engine.{TellsElements}
-use Rattle.amd_engine.specs.declared.rows.RowLists.{RowLists}
+use Rattle.amd_workspace.specs.declared.rows.RowLists.{RowLists}
 use Rattle.amd_engine.specs.declared.running.Told.{Told}
 use Rattle.amd_engine.specs.InPlace.{AnswersInPlace, EndsRounds, LaysGraph, RunsInPlace, TellsTree, parent_word}
 use Rattle.amd_engine_law.proofs.EngineLaw.{told_by, run, answer_of}

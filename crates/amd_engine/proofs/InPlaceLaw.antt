@@ -20,13 +20,13 @@ use Rattle.amd_rounds.specs.Laid.{IsLaid}
 use Rattle.amd_rounds.proofs.Rounds.{StandsForSome}
 use Rattle.amd_rounds.specs.Keeps.{Stands, AreRounds, NoRowIsLive}
 use Rattle.amd_workspace.specs.Laying.{IsLaidOut}
-use Rattle.amd_workspace.specs.Starting.{Rows, BeginsRows, held_in, begins_class, classes_of}
+use Rattle.amd_workspace.specs.Starting.{KeepsRows, Rows, BeginsRows, held_in, begins_class, classes_of}
 use Rattle.amd_workspace.proofs.Begun.{rows_of, begun_view, begun_laid, listed_row}
 use Rattle.amd_workspace.proofs.AtStart.{stands_at_start}
-use Rattle.amd_engine.specs.declared.rows.RowLists.{RowLists}
+use Rattle.amd_workspace.specs.declared.rows.RowLists.{RowLists}
 use Rattle.amd_engine.specs.declared.running.Numbers.{Numbers}
 use Rattle.amd_engine.specs.declared.running.Told.{Told}
-use Rattle.amd_engine.specs.InPlace.{AreOver, KeepsRows, LaysGraph, RunsInPlace, StandsAtStart, first_sums, workspace_in}
+use Rattle.amd_engine.specs.InPlace.{AreOver, LaysGraph, RunsInPlace, StandsAtStart, first_sums, workspace_in}
 use Rattle.amd_engine.proofs.EndingLaw.{is_over}
 use Rattle.amd_engine_law.proofs.EngineLaw.{degree_small}
 

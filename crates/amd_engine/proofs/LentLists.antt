@@ -10,7 +10,7 @@ use Rattle.amd_words.specs.Sides.{nexts, lasts}
 use Rattle.amd_lists.specs.Sizes.{bucket_count}
 use Rattle.amd_workspace.specs.Ending.{EndsRows}
 use Rattle.amd_workspace.specs.declared.lists.Lists.{Lists}
-use Rattle.amd_engine.specs.declared.rows.RowLists.{RowLists}
+use Rattle.amd_workspace.specs.declared.rows.RowLists.{RowLists}
 use Rattle.amd_engine.specs.declared.running.Told.{Told}
 use Rattle.amd_engine.specs.InPlace.{AnswersInPlace, AreEmpty, AreFresh, AreListed, LaysGraph, RunsInPlace, listing_in, told_info}
 use Rattle.amd_engine.proofs.EndingLaw.{answers}

@@ -25,7 +25,7 @@ use Rattle.amd_workspace.specs.Ending.{EndsRows}
 use Rattle.amd_workspace.specs.Laying.{IsLaidOut}
 use Rattle.amd_workspace.specs.declared.lists.Lists.{Lists}
 use Rattle.amd_engine.specs.declared.rows.Laid.{Laid}
-use Rattle.amd_engine.specs.declared.rows.RowLists.{RowLists}
+use Rattle.amd_workspace.specs.declared.rows.RowLists.{RowLists}
 use Rattle.amd_engine.specs.declared.running.Numbers.{Numbers}
 use Rattle.amd_engine.specs.declared.running.Told.{Told}
 use Rattle.amd_engine_law.specs.Engine.{AreNeighbours, IsAnswerOf, Reaches, TellsElements}
@@ -79,13 +79,6 @@ rows_in laid e_len nv w head sides hash = record {
 }
 
 -- all lists are those that were lent
-abbrev pub KeepsRows : {S P U : Type 0} → RowLists S P U → RowLists S P U → Type 0
-KeepsRows old new = (new.pe.ghost_name ≡ old.pe.ghost_name) × (new.len.ghost_name ≡ old.len.ghost_name)
-    × (new.e_len.ghost_name ≡ old.e_len.ghost_name) × (new.nv.ghost_name ≡ old.nv.ghost_name)
-    × (new.degree.ghost_name ≡ old.degree.ghost_name) × (new.w.ghost_name ≡ old.w.ghost_name)
-    × (new.head.ghost_name ≡ old.head.ghost_name) × (new.sides.ghost_name ≡ old.sides.ghost_name)
-    × (new.hash.ghost_name ≡ old.hash.ghost_name)
-
 abbrev pub KeepsLaid : {P U : Type 0} → Laid P U → Laid P U → Type 0
 KeepsLaid old new = (new.pe.ghost_name ≡ old.pe.ghost_name) × (new.len.ghost_name ≡ old.len.ghost_name)
     × (new.degree.ghost_name ≡ old.degree.ghost_name)

@@ -19,7 +19,7 @@ ghost use Rattle.amd_workspace.specs.Lower.{AreNeighbourCounts, own_start};
 
 use crate::ended::{finish, list_rows};
 use crate::fresh::{fill_lists, memory_for, room_for};
-use crate::rows::{Choice, Laid, RowLists};
+use crate::rows::{Choice, Laid};
 use crate::running::{Told, run_growing};
 use amd_lending::{clear, lend_narrow};
 use amd_types::amd::{Control, Info, Status};
@@ -31,6 +31,7 @@ use amd_words::{Cell, Signed, Unsigned, Word};
 use amd_workspace::filling::fill_words;
 use amd_workspace::laying::lay;
 use amd_workspace::lists::Memory;
+use amd_workspace::rows::RowLists;
 use num_traits::PrimInt;
 use std::alloc::{AllocError, Allocator};
 use std::mem::replace;

@@ -13,7 +13,7 @@ ghost use Rattle.amd_engine.specs.InPlace.{AnswersInPlace, AnswersLaid, CanRun, 
 
 use crate::ended::{finish, list_rows};
 use crate::fresh::{fill_lists, room_for};
-use crate::rows::{Choice, Laid, RowLists};
+use crate::rows::{Choice, Laid};
 use crate::running::{Told, run};
 use amd_lending::{lend_cells, lend_words, raise};
 use amd_types::amd::{Control, Info, Status};
@@ -24,6 +24,7 @@ use amd_words::sides::Sides;
 use amd_words::{Cell, Signed, Unsigned, Word, put_word, row_at, word_at};
 use amd_workspace::filling::words;
 use amd_workspace::lists::Lists;
+use amd_workspace::rows::RowLists;
 use num_traits::PrimInt;
 use std::alloc::{AllocError, Allocator};
 

@@ -4,9 +4,9 @@
 ghost use Rattle.std.specs.Prelude.{◌≡◌, ◌<◌, ◌≤◌, ◌+◌, ℕ, pos, map, length};
 ghost use Rattle.amd_types.specs.Permutations.{AreInverse};
 ghost use Rattle.amd_words.specs.Words.{num};
-ghost use Rattle.amd_engine.specs.InPlace.{AreListed, AreOver, KeepsRows, told_info};
+ghost use Rattle.amd_workspace.specs.Starting.{KeepsRows};
+ghost use Rattle.amd_engine.specs.InPlace.{AreListed, AreOver, told_info};
 
-use crate::rows::RowLists;
 use crate::running::Told;
 use amd_listing::listing::listing;
 use amd_types::amd::Info;
@@ -14,6 +14,7 @@ use amd_types::index::Index;
 use amd_types::internal::from_count;
 use amd_words::{Cell, Signed, Unsigned, Word, cell_at};
 use amd_workspace::ending::end_rows;
+use amd_workspace::rows::RowLists;
 
 /// Writes figures as numbers of the caller's type.
 fn write_numbers<I: Index, U: Unsigned>(figures: &[Cell<U>], numbers: &mut [I])

@@ -11,15 +11,17 @@ ghost use Rattle.amd_model.specs.State.{State};
 ghost use Rattle.amd_rounds.specs.Keeps.{AreRoundsWithin, Stands};
 ghost use Rattle.amd_lists.specs.Sizes.{AreWideEnough, IsNarrow};
 ghost use Rattle.amd_lists.specs.Workspaces.{KeepsLoans, workspace_of};
-ghost use Rattle.amd_engine.specs.InPlace.{AreOver, CanRun, KeepsRows, RunsInPlace, StandsAtStart, first_sums};
+ghost use Rattle.amd_workspace.specs.Starting.{KeepsRows};
+ghost use Rattle.amd_engine.specs.InPlace.{AreOver, CanRun, RunsInPlace, StandsAtStart, first_sums};
 ghost use Rattle.amd_engine.specs.InPlace.{workspace_in};
 
-use crate::rows::{Choice, RowLists};
+use crate::rows::Choice;
 use amd_lists::work::Work;
 use amd_rounds::round::{eliminate, eliminate_within};
 use amd_types::amd::Control;
 use amd_types::figures::Figures;
 use amd_words::{Signed, Unsigned, Word, word_of};
+use amd_workspace::rows::RowLists;
 use amd_workspace::starting::begin_rows;
 use std::alloc::Allocator;
 
@@ -85,18 +87,7 @@ fn start<S: Signed, P: Signed, U: Unsigned>(
     ensures unpacked { result.n_cmp_a ≡ 0 }
     ensures loans { KeepsRows rows.old rows.new }
 {
-    let (live, n_dense) = begin_rows(
-        rows.len,
-        rows.pe,
-        rows.e_len,
-        rows.nv,
-        rows.degree,
-        rows.w,
-        rows.head,
-        rows.sides,
-        choice.hold,
-        threshold,
-    );
+    let (live, n_dense) = begin_rows(rows, choice.hold, threshold);
     Numbers {
         free,
         live,

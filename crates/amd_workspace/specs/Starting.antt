@@ -4,6 +4,7 @@ use Rattle.std.specs.Prelude.{length}
 use Rattle.amd_model.specs.Below.{list_below}
 use Rattle.amd_model.specs.Input.Held.{is_marked}
 use Rattle.amd_words.specs.Words.{num, word, flip_of}
+use Rattle.amd_workspace.specs.declared.rows.RowLists.{RowLists}
 
 -- what the lists say of the rows: where the list of each row starts, its count of elements, its size, its length, its
 -- bound and its counter
@@ -14,6 +15,18 @@ pub record Rows : Type 0 where
   pub len : List ℕ
   pub degree : List ℕ
   pub w : List ℕ
+
+-- what the lists that are lent say of them
+abbrev pub rows_in : {S P U : Type 0} → RowLists S P U → Rows
+rows_in l = record { pe = l.pe.now; e_len = l.e_len.now; nv = l.nv.now; len = l.len.now; degree = l.degree.now; w = l.w.now }
+
+-- all lists are those that were lent
+abbrev pub KeepsRows : {S P U : Type 0} → RowLists S P U → RowLists S P U → Type 0
+KeepsRows old new = (new.pe.ghost_name ≡ old.pe.ghost_name) × (new.len.ghost_name ≡ old.len.ghost_name)
+    × (new.e_len.ghost_name ≡ old.e_len.ghost_name) × (new.nv.ghost_name ≡ old.nv.ghost_name)
+    × (new.degree.ghost_name ≡ old.degree.ghost_name) × (new.w.ghost_name ≡ old.w.ghost_name)
+    × (new.head.ghost_name ≡ old.head.ghost_name) × (new.sides.ghost_name ≡ old.sides.ghost_name)
+    × (new.hash.ghost_name ≡ old.hash.ghost_name)
 
 -- there is a place for each of n rows in each of them
 pub record AreLong (n : ℕ) (p : Rows) : Type 0 where

@@ -9,4 +9,5 @@ pub mod filling;
 pub mod laying;
 pub mod lists;
 pub mod lower;
+pub mod rows;
 pub mod starting;

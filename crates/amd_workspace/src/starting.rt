@@ -11,10 +11,11 @@ ghost use Rattle.amd_model.specs.Input.Held.{HasMarks, is_marked};
 ghost use Rattle.amd_model.specs.Quotient.{has};
 ghost use Rattle.amd_words.specs.Words.{num, flip_of};
 ghost use Rattle.amd_lists.specs.Chains.{DegreeLists};
-ghost use Rattle.amd_lists.specs.Lengths.{HasWords, HasLinks};
-ghost use Rattle.amd_workspace.specs.Starting.{BeginsRows, held_in};
+ghost use Rattle.amd_lists.specs.Lengths.{HasLinks, HasSides, HasWords};
+ghost use Rattle.amd_workspace.specs.Starting.{BeginsRows, KeepsRows, held_in, rows_in};
 ghost use Rattle.amd_workspace.specs.Classes.{class_in, HasClasses};
 
+use crate::rows::RowLists;
 use amd_lists::chains::put_head;
 use amd_types::held::is_held;
 use amd_words::sides::Sides;
@@ -100,47 +101,73 @@ fn number_of(holds: bool) -> usize
     if holds { 1 } else { 0 }
 }
 
+/// The number in a cell, of cells that are lent to be written.
+fn cell_lent<U: Unsigned>(cells: &mut [Cell<U>], k: usize) -> usize
+    requires { k < length cells.old }
+    ensures is { result ≡ num cells.old k }
+    ensures kept { cells.new ≡ cells.old }
+{
+    cell_at(cells, k)
+}
+
 /// Starts the elimination: `len` has the degree of each row, and `pe` where its list starts. The rows marked in `hold`
 /// and those of a degree above the threshold are held last. Answers how many rows are live, and how many are held last.
 pub fn begin_rows<S: Signed, P: Signed, U: Unsigned>(
-    len: &mut [Cell<U>],
-    pe: &mut [Word<P>],
-    e_len: &mut [Word<P>],
-    nv: &mut [Word<S>],
-    degree: &mut [Cell<U>],
-    w: &mut [Cell<U>],
-    head: &mut [Cell<U>],
-    sides: &mut [Sides<U>],
+    lists: &mut RowLists<'_, '_, '_, S, P, U>,
     hold: Option<&[bool]>,
     threshold: usize,
 ) -> (usize, usize)
-    requires words { HasWords (length len.old) pe.old e_len.old nv.old }
-    requires cells { (length degree.old ≡ length len.old) × (length w.old ≡ length len.old) }
-    requires links { HasLinks (length len.old) head.old (nexts sides.old) (lasts sides.old) }
-    requires narrow { (1 ≤ S.MOST) × (length len.old + 2 ≤ P.MOST) × (length len.old ≤ U.MOST) }
-    requires degrees { (i : ℕ) → i < length len.old → num len.old i < length len.old }
-    requires heads { (b : ℕ) → b < length len.old → length len.old ≤ num head.old b }
-    requires marks { HasMarks (option_copied hold) (length len.old) }
-    ensures begins { BeginsRows (length len.old) (length len.old) (held_in (option_copied hold.entry) threshold len.old)
-        (record { pe = pe.old; e_len = e_len.old; nv = nv.old; len = len.old; degree = degree.old; w = w.old })
-        (record { pe = pe.new; e_len = e_len.new; nv = nv.new; len = len.new; degree = degree.new; w = w.new }) }
-    ensures lengths { HasLinks (length len.old) head.new (nexts sides.new) (lasts sides.new) }
-    ensures linked { HasClasses (option_copied hold.entry) threshold len.old head.new (nexts sides.new)
-        (lasts sides.new) degree.new }
-    ensures live { result.0 ≡ count_below (length len.old) (class_in (option_copied hold.entry) threshold len.old) }
-    ensures dense { result.1 ≡ count_below (length len.old) (held_in (option_copied hold.entry) threshold len.old) }
+    requires words { HasWords (length lists.old.len.now) lists.old.pe.now lists.old.e_len.now lists.old.nv.now }
+    requires cells { (length lists.old.degree.now ≡ length lists.old.len.now) ×
+        (length lists.old.w.now ≡ length lists.old.len.now) }
+    requires links { HasSides (length lists.old.len.now) lists.old.head.now lists.old.sides.now }
+    requires narrow { (1 ≤ S.MOST) × (length lists.old.len.now + 2 ≤ P.MOST) × (length lists.old.len.now ≤ U.MOST) }
+    requires degrees { (i : ℕ) → i < length lists.old.len.now →
+        num lists.old.len.now i < length lists.old.len.now }
+    requires heads { (b : ℕ) → b < length lists.old.len.now →
+        length lists.old.len.now ≤ num lists.old.head.now b }
+    requires marks { HasMarks (option_copied hold) (length lists.old.len.now) }
+    ensures begins { BeginsRows (length lists.old.len.now) (length lists.old.len.now)
+        (held_in (option_copied hold.entry) threshold lists.old.len.now) (rows_in lists.old) (rows_in lists.new) }
+    ensures lengths { HasSides (length lists.old.len.now) lists.new.head.now lists.new.sides.now }
+    ensures linked { HasClasses (option_copied hold.entry) threshold lists.old.len.now lists.new.head.now
+        (nexts lists.new.sides.now) (lasts lists.new.sides.now) lists.new.degree.now }
+    ensures live { result.0 ≡ count_below (length lists.old.len.now)
+        (class_in (option_copied hold.entry) threshold lists.old.len.now) }
+    ensures dense { result.1 ≡ count_below (length lists.old.len.now)
+        (held_in (option_copied hold.entry) threshold lists.old.len.now) }
+    ensures buckets { lists.new.hash.now ≡ lists.old.hash.now }
+    ensures loans { KeepsRows lists.old lists.new }
 {
     let mut live: usize = 0;
     let mut n_dense: usize = 0;
-    'rows: for i in 0..len.len() {
-        let count = cell_at(len, i);
+    'rows: for i in 0..lists.len.len() {
+        let count = cell_lent(lists.len, i);
         let held = is_held_last(hold, i, count, threshold);
         let aside = held || count == 0;
         if aside {
-            put_aside(pe, e_len, nv, len, degree, w, i, held);
+            put_aside(
+                lists.pe,
+                lists.e_len,
+                lists.nv,
+                lists.len,
+                lists.degree,
+                lists.w,
+                i,
+                held,
+            );
             n_dense += number_of(held);
         } else {
-            place_row(e_len, nv, degree, w, head, sides, i, count);
+            place_row(
+                lists.e_len,
+                lists.nv,
+                lists.degree,
+                lists.w,
+                lists.head,
+                lists.sides,
+                i,
+                count,
+            );
             live += 1;
         }
     }

@@ -3,7 +3,8 @@ use Rattle.std.specs.Option.{option_copied}
 use Rattle.std.specs.Vec.{vec_capacity}
 use Rattle.amd_lists.specs.Workspaces.{Workspace}
 use Rattle.amd_rounds.specs.Keeps.{AreRounds}
-use Rattle.amd_engine.specs.InPlace.{KeepsRows, StandsAtStart, workspace_in}
+use Rattle.amd_workspace.specs.Starting.{KeepsRows}
+use Rattle.amd_engine.specs.InPlace.{StandsAtStart, workspace_in}
 use Rattle.amd_engine.proofs.running.run_growing.Given as goal
 
 abbrev pub invariant-growths : goal.invariant-growths

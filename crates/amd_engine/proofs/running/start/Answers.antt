@@ -1,4 +1,4 @@
-use Rattle.std.proofs.Common.{refl}
+use Rattle.std.proofs.Common.{◌∙◌, ap, length, refl}
 use Rattle.std.specs.Option.{option_copied}
 use Rattle.amd_workspace.specs.Starting.{Rows}
 use Rattle.amd_engine.proofs.InPlaceLaw.{degrees_small, stands_start}
@@ -21,9 +21,9 @@ returns-clause-starts g c = λ iw can gr lists lays.
       w = old.w.now;
     } in
     stands_start (option_copied a.choice.now.hold) a.threshold p _ e.begins (record {
-      sized = (e.lengths.0, e.lengths.1, e.lengths.2, empty.buckets);
+      sized = (e.lengths.0, e.lengths.1, e.lengths.2, ap length e.buckets ∙ empty.buckets);
       linked = e.linked;
-      empty = empty.empty;
+      empty = rw e.buckets empty.empty;
       live = e.live;
       dense = e.dense;
       sums = c.first_figures.ensures;

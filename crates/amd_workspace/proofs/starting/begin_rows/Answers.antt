@@ -28,39 +28,42 @@ one_most false = omega arith
 pub rows-init : goal.rows-init
 unfolding count_below sum_below
 rows-init g c =
-    let n : ℕ = length c.args.len.now in
-    let held : ℕ → Bool = held_in (option_copied c.args.hold) c.args.threshold c.args.len.now in
+    let n : ℕ = length c.args.lists.now.len.now in
+    let held : ℕ → Bool = held_in (option_copied c.args.hold) c.args.threshold c.args.lists.now.len.now in
     let a = c.requires.words in let b = c.requires.cells in
     record {
       begins = none_begin n held (record {
-        pe = c.args.pe.now;
-        e_len = c.args.e_len.now;
-        nv = c.args.nv.now;
-        len = c.args.len.now;
-        degree = c.args.degree.now;
-        w = c.args.w.now;
+        pe = c.args.lists.now.pe.now;
+        e_len = c.args.lists.now.e_len.now;
+        nv = c.args.lists.now.nv.now;
+        len = c.args.lists.now.len.now;
+        degree = c.args.lists.now.degree.now;
+        w = c.args.lists.now.w.now;
       }) (record { pe = a.0; e_len = a.1; nv = a.2; len = refl; degree = b.0; w = b.1 });
       rest = λ j l. record { pe = refl; e_len = refl; nv = refl; len = refl; degree = refl; w = refl };
       links = c.requires.links;
-      linked = linked_none n c.args.head.now (nexts c.args.sides.now) (lasts c.args.sides.now) c.args.degree.now held
-          c.args.len.now c.requires.heads;
+      linked = linked_none n c.args.lists.now.head.now (nexts c.args.lists.now.sides.now) (lasts c.args.lists.now.sides.now)
+          c.args.lists.now.degree.now held
+          c.args.lists.now.len.now c.requires.heads;
       live = refl;
       dense = refl;
+      buckets = refl;
+      loans = (refl, refl, refl, refl, refl, refl, refl, refl, refl);
     }
 
 pub place_row-requires-clause-row : goal.place_row-requires-clause-row
 place_row-requires-clause-row g c =
     let i : ℕ = c.rows.i in let here = c.rows-test.true in let links = c.rows.invariant.links in
-    let count = c.cell_at-count.ensures.is ∙ (c.rows.invariant.rest i (omega arith)).len in
+    let count = c.cell_lent-count.ensures.is ∙ (c.rows.invariant.rest i (omega arith)).len in
     let small = c.requires.degrees i here in
-    let long : length (nexts c.rows.sides) ≡ length c.args.len.now = links.1 in
+    let long : length (nexts c.rows.lists.sides.now) ≡ length c.args.lists.now.len.now = links.1 in
     (omega (arith, here, long), omega (arith, count, small, long))
 
 pub overflow_add-n_dense : goal.overflow_add-n_dense
 overflow_add-n_dense g c =
     let here = c.rows-test.true in let is = c.rows.invariant.dense in let narrow = c.requires.narrow.1 in
     let top = g.met.U.Unsigned.narrow in
-    let most = count_most c.rows.i (held_in (option_copied c.args.hold) c.args.threshold c.args.len.now) in
+    let most = count_most c.rows.i (held_in (option_copied c.args.hold) c.args.threshold c.args.lists.now.len.now) in
     let held : Bool = c.is_held_last-held.result in
     let one : c.number_of-n_dense.result ≡ one_if held = c.number_of-n_dense.ensures in
     let few = one_most held in
@@ -70,73 +73,76 @@ pub overflow_add-live : goal.overflow_add-live
 overflow_add-live g c =
     let here = c.rows-test.true in let is = c.rows.invariant.live in let narrow = c.requires.narrow.1 in
     let top = g.met.U.Unsigned.narrow in
-    let held : ℕ → Bool = held_in (option_copied c.args.hold) c.args.threshold c.args.len.now in
-    let most = count_most c.rows.i (begins_class held c.args.len.now) in omega (arith, here, is, narrow, top, most)
+    let held : ℕ → Bool = held_in (option_copied c.args.hold) c.args.threshold c.args.lists.now.len.now in
+    let most = count_most c.rows.i (begins_class held c.args.lists.now.len.now) in omega (arith, here, is, narrow, top, most)
 
 pub rows-preserved : goal.rows-preserved
 rows-preserved g c =
-    let len : List ℕ = c.args.len.now in let n : ℕ = length len in let i : ℕ = c.rows.i in
+    let len : List ℕ = c.args.lists.now.len.now in let n : ℕ = length len in let i : ℕ = c.rows.i in
     let held : ℕ → Bool = held_in (option_copied c.args.hold) c.args.threshold len in
     let p : Rows = record {
-      pe = c.args.pe.now;
-      e_len = c.args.e_len.now;
-      nv = c.args.nv.now;
-      len = c.args.len.now;
-      degree = c.args.degree.now;
-      w = c.args.w.now;
+      pe = c.args.lists.now.pe.now;
+      e_len = c.args.lists.now.e_len.now;
+      nv = c.args.lists.now.nv.now;
+      len = c.args.lists.now.len.now;
+      degree = c.args.lists.now.degree.now;
+      w = c.args.lists.now.w.now;
     } in
     let q : Rows = record {
-      pe = c.rows.pe;
-      e_len = c.rows.e_len;
-      nv = c.rows.nv;
-      len = c.rows.len;
-      degree = c.rows.degree;
-      w = c.rows.w;
+      pe = c.rows.lists.pe.now;
+      e_len = c.rows.lists.e_len.now;
+      nv = c.rows.lists.nv.now;
+      len = c.rows.lists.len.now;
+      degree = c.rows.lists.degree.now;
+      w = c.rows.lists.w.now;
     } in
     let r : Rows = record {
-      pe = c.if-aside.pe;
-      e_len = c.if-aside.e_len;
-      nv = c.if-aside.nv;
-      len = c.if-aside.len;
-      degree = c.if-aside.degree;
-      w = c.if-aside.w;
+      pe = c.if-aside.lists.pe.now;
+      e_len = c.if-aside.lists.e_len.now;
+      nv = c.if-aside.lists.nv.now;
+      len = c.if-aside.lists.len.now;
+      degree = c.if-aside.lists.degree.now;
+      w = c.if-aside.lists.w.now;
     } in
-    let was = c.rows.invariant in
+    let was = c.rows.invariant in let at = c.rows.lists in
     let here : i < n = c.rows-test.true in
-    let here_is : c.cell_at-count.result ≡ num c.rows.len i = c.cell_at-count.ensures.is in
-    let count : c.cell_at-count.result ≡ num len i = here_is ∙ (was.rest i (omega arith)).len in
+    let here_is : c.cell_lent-count.result ≡ num at.len.now i = c.cell_lent-count.ensures.is in
+    let count : c.cell_lent-count.result ≡ num len i = here_is ∙ (was.rest i (omega arith)).len in
     let marked : c.is_held_last-held.result ≡ held i = c.is_held_last-held.ensures
     ∙ ap (λ d. is_marked (option_copied c.args.hold) i || nat_lt c.args.threshold d) count in
-    let either : c.if-held.aside ≡ (c.is_held_last-held.result || c.cell_at-count.result == 0) = elim c.if-held.branch [
-      | then-held v ↦ v.aside-is ∙ v.if-held.true ∙ sym (ap (λ b. b || c.cell_at-count.result == 0) v.if-held.true)
-      | else-held v ↦ v.aside-is ∙ sym (ap (λ b. b || c.cell_at-count.result == 0) v.if-held.false)
+    let either : c.if-held.aside ≡ (c.is_held_last-held.result || c.cell_lent-count.result == 0) = elim c.if-held.branch [
+      | then-held v ↦ v.aside-is ∙ v.if-held.true ∙ sym (ap (λ b. b || c.cell_lent-count.result == 0) v.if-held.true)
+      | else-held v ↦ v.aside-is ∙ sym (ap (λ b. b || c.cell_lent-count.result == 0) v.if-held.false)
     ] in
     let value : c.if-held.aside ≡ (held i || num len i == 0) = either
-    ∙ ap (λ b. b || c.cell_at-count.result == 0) marked ∙ ap (λ d. held i || d == 0) count in
+    ∙ ap (λ b. b || c.cell_lent-count.result == 0) marked ∙ ap (λ d. held i || d == 0) count in
     elim c.if-aside.branch [
       | then-aside w ↦ (
           let none : begins_class held len i ≡ false = class_test (held i) (num len i) ∙ ap not (sym value ∙ w.if-aside.true) in
           let rows = aside_rows i n held p q was.begins was.rest here none in
           let wrote = w.put_aside.ensures in
           let equal : AreEqual (aside (held i) i q) r = record {
-            pe = w.pe-is ∙ wrote.starts;
-            e_len = w.e_len-is ∙ wrote.counts ∙ ap (λ b. set c.rows.e_len i (cond b (negsuc 0) (flip_of 1))) marked;
-            nv = w.nv-is ∙ wrote.sizes;
-            len = w.len-is ∙ wrote.lengths;
-            degree = w.degree-is ∙ wrote.bounds;
-            w = w.w-is ∙ wrote.counters;
+            pe = ap (λ r. r.pe.now) w.lists-is ∙ wrote.starts;
+            e_len = ap (λ r. r.e_len.now) w.lists-is ∙ wrote.counts ∙ ap (λ b. set at.e_len.now i (cond b (negsuc 0) (flip_of 1))) marked;
+            nv = ap (λ r. r.nv.now) w.lists-is ∙ wrote.sizes;
+            len = ap (λ r. r.len.now) w.lists-is ∙ wrote.lengths ∙ ap (λ xs. set xs i 0) c.cell_lent-count.ensures.kept;
+            degree = ap (λ r. r.degree.now) w.lists-is ∙ wrote.bounds;
+            w = ap (λ r. r.w.now) w.lists-is ∙ wrote.counters;
           } in
           let added : w.number_of-n_dense.result ≡ one_if (held i) = w.number_of-n_dense.ensures ∙ ap one_if marked in
           record {
             begins = equal_rows (i + 1) n held p (aside (held i) i q) r equal rows.0;
             rest = equal_rest (i + 1) p (aside (held i) i q) r equal rows.1;
             links = (
-              ap length w.head-is ∙ was.links.0,
-              ap (λ s. length (nexts s)) w.sides-is ∙ was.links.1,
-              ap (λ s. length (lasts s)) w.sides-is ∙ was.links.2,
+              ap (λ r. length r.head.now) w.lists-is ∙ was.links.0,
+              ap (λ r. length (nexts r.sides.now)) w.lists-is ∙ was.links.1,
+              ap (λ r. length (lasts r.sides.now)) w.lists-is ∙ was.links.2,
             );
-            linked = rw w.head-is (rw w.sides-is (rw (w.degree-is ∙ wrote.bounds)
-                (linked_skip n i held len c.rows.head (nexts c.rows.sides) (lasts c.rows.sides) c.rows.degree was.linked none)));
+            linked = rw (ap (λ r. r.head.now) w.lists-is) (rw (ap (λ r. r.sides.now) w.lists-is)
+                (rw (ap (λ r. r.degree.now) w.lists-is ∙ wrote.bounds)
+                (linked_skip n i held len at.head.now (nexts at.sides.now) (lasts at.sides.now) at.degree.now was.linked none)));
+            buckets = ap (λ r. r.hash.now) w.lists-is ∙ was.buckets;
+            loans = rw w.lists-is was.loans;
             live = w.live-is ∙ count_no (begins_class held len) i c.rows.live was.live none;
             dense = w.n_dense-is ∙ ap (λ m. c.rows.n_dense + m) added ∙ count_next held i c.rows.n_dense was.dense;
           })
@@ -145,35 +151,37 @@ rows-preserved g c =
           let rows = placed_rows i n held p q was.begins was.rest here one in
           let wrote = w.place_row.ensures in
           let equal : AreEqual (placed i q) r = record {
-            pe = w.pe-is;
-            e_len = w.e_len-is ∙ wrote.counts;
-            nv = w.nv-is ∙ wrote.sizes;
-            len = w.len-is;
-            degree = w.degree-is ∙ wrote.bounds ∙ ap (set c.rows.degree i) here_is;
-            w = w.w-is ∙ wrote.counters;
+            pe = ap (λ r. r.pe.now) w.lists-is;
+            e_len = ap (λ r. r.e_len.now) w.lists-is ∙ wrote.counts;
+            nv = ap (λ r. r.nv.now) w.lists-is ∙ wrote.sizes;
+            len = ap (λ r. r.len.now) w.lists-is ∙ c.cell_lent-count.ensures.kept;
+            degree = ap (λ r. r.degree.now) w.lists-is ∙ wrote.bounds ∙ ap (set at.degree.now i) here_is;
+            w = ap (λ r. r.w.now) w.lists-is ∙ wrote.counters;
           } in
           let free : held i ≡ false = elim (cases_Bool (held i)) [
             | inr f ↦ f
             | inl y ↦ absurd (true≢false (sym (ap (λ b. b || num len i == 0) y) ∙ sym value ∙ w.if-aside.false))
           ] in
-          let long : length (nexts c.rows.sides) ≡ n = was.links.1 in
+          let long : length (nexts at.sides.now) ≡ n = was.links.1 in
           let new = w.place_row.new in
           record {
             begins = equal_rows (i + 1) n held p (placed i q) r equal rows.0;
             rest = equal_rest (i + 1) p (placed i q) r equal rows.1;
             links = (
-              ap length w.head-is ∙ wrote.lengths.0 ∙ long,
-              ap (λ s. length (nexts s)) w.sides-is ∙ wrote.lengths.1 ∙ long,
-              ap (λ s. length (lasts s)) w.sides-is ∙ wrote.lengths.2 ∙ long,
+              ap (λ r. length r.head.now) w.lists-is ∙ wrote.lengths.0 ∙ long,
+              ap (λ r. length (nexts r.sides.now)) w.lists-is ∙ wrote.lengths.1 ∙ long,
+              ap (λ r. length (lasts r.sides.now)) w.lists-is ∙ wrote.lengths.2 ∙ long,
             );
-            linked = rw w.head-is (rw w.sides-is (rw w.degree-is
+            linked = rw (ap (λ r. r.head.now) w.lists-is) (rw (ap (λ r. r.sides.now) w.lists-is) (rw (ap (λ r. r.degree.now) w.lists-is)
                 (subst (λ m. DegreeLists m new.head (nexts new.sides) (lasts new.sides) new.degree
                 (λ b. reverse (classes_of held len (i + 1) b))) long
-                (linked_take (length (nexts c.rows.sides)) i held len c.rows.head (nexts c.rows.sides) (lasts c.rows.sides) c.rows.degree
-                (subst (λ m. DegreeLists m c.rows.head (nexts c.rows.sides) (lasts c.rows.sides) c.rows.degree
+                (linked_take (length (nexts at.sides.now)) i held len at.head.now (nexts at.sides.now) (lasts at.sides.now)
+                at.degree.now (subst (λ m. DegreeLists m at.head.now (nexts at.sides.now) (lasts at.sides.now) at.degree.now
                 (λ b. reverse (classes_of held len i b)))
-                (sym long) was.linked) new.head (nexts new.sides) (lasts new.sides) new.degree c.cell_at-count.result count one
+                (sym long) was.linked) new.head (nexts new.sides) (lasts new.sides) new.degree c.cell_lent-count.result count one
                 wrote.linked))));
+            buckets = ap (λ r. r.hash.now) w.lists-is ∙ was.buckets;
+            loans = rw w.lists-is was.loans;
             live = w.live-is ∙ count_yes (begins_class held len) i c.rows.live was.live one;
             dense = w.n_dense-is ∙ count_no held i c.rows.n_dense was.dense free;
           })
@@ -185,7 +193,8 @@ begun_all {i} {n} {held} {p} {q} end begun = subst (λ k. BeginsRows k n held p 
 
 pub returns-clause-begins : goal.returns-clause-begins
 returns-clause-begins g c =
-    let end : c.rows.i ≡ length c.args.len.now = (let a = c.rows-test.false in let b = c.rows.auto.i-end in omega (arith, a, b)) in
+    let end : c.rows.i ≡ length c.args.lists.now.len.now =
+    (let a = c.rows-test.false in let b = c.rows.auto.i-end in omega (arith, a, b)) in
     begun_all end c.rows.invariant.begins
 
 pub returns-clause-lengths : goal.returns-clause-lengths
@@ -193,21 +202,22 @@ returns-clause-lengths g c = c.rows.invariant.links
 
 pub returns-clause-linked : goal.returns-clause-linked
 returns-clause-linked g c =
-    let len : List ℕ = c.args.len.now in
+    let len : List ℕ = c.args.lists.now.len.now in
     let end : c.rows.i ≡ length len = (let a = c.rows-test.false in let b = c.rows.auto.i-end in omega (arith, a, b)) in
-    subst (λ k. DegreeLists (length len) c.rows.head (nexts c.rows.sides) (lasts c.rows.sides) c.rows.degree
+    let at = c.rows.lists in
+    subst (λ k. DegreeLists (length len) at.head.now (nexts at.sides.now) (lasts at.sides.now) at.degree.now
     (λ b. reverse (classes_of (held_in (option_copied c.args.hold) c.args.threshold len) len k b))) end c.rows.invariant.linked
 
 pub returns-clause-live : goal.returns-clause-live
 returns-clause-live g c =
-    let len : List ℕ = c.args.len.now in
+    let len : List ℕ = c.args.lists.now.len.now in
     let end : c.rows.i ≡ length len = (let a = c.rows-test.false in let b = c.rows.auto.i-end in omega (arith, a, b)) in
     c.rows.invariant.live
     ∙ ap (λ k. count_below k (begins_class (held_in (option_copied c.args.hold) c.args.threshold len) len)) end
 
 pub returns-clause-dense : goal.returns-clause-dense
 returns-clause-dense g c =
-    let len : List ℕ = c.args.len.now in
+    let len : List ℕ = c.args.lists.now.len.now in
     let end : c.rows.i ≡ length len = (let a = c.rows-test.false in let b = c.rows.auto.i-end in omega (arith, a, b)) in
     c.rows.invariant.dense ∙ ap (λ k. count_below k (held_in (option_copied c.args.hold) c.args.threshold len)) end
 
@@ -237,4 +247,4 @@ place_row-requires-clause-narrow g c =
     (omega (arith, a), omega (arith, b, d))
 
 pub is_held_last-held-requires : goal.is_held_last-held-requires
-is_held_last-held-requires g c = record { within = (length c.args.len.now, c.rows-test.true, c.requires.marks) }
+is_held_last-held-requires g c = record { within = (length c.args.lists.now.len.now, c.rows-test.true, c.requires.marks) }
