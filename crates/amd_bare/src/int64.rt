@@ -11,6 +11,7 @@ ghost use Rattle.amd_calls.specs.Within.{ColumnsWithin, CountsWithin, columns_by
 use amd_calls::bytes;
 use amd_calls::factor_within::{columns_within, counts_within};
 use amd_calls::factors::number_of_end;
+use amd_calls::matrix::Matrix;
 use amd_calls::records::{Needs, Parameters, Statistics};
 use amd_calls::within::{bytes_or_most, order_within};
 use amd_lent::Piece;
@@ -69,7 +70,8 @@ pub extern "C" fn rimopaku_order_within_i64(
     ensures { OrdersWithin None n parameters.now a_p.now a_i.now lent.size (memory p.old p_inv.old statistics.old)
         (memory p.new p_inv.new statistics.new) result }
 {
-    order_within(lent, n, a_p, a_i, parameters, None, p, p_inv, statistics)
+    let matrix = Matrix { n, a_p, a_i };
+    order_within(matrix, parameters, None, lent, p, p_inv, statistics)
 }
 
 /// Orders a matrix with rows held last in memory that is lent, as `order_holding` of the crate `amd`, and returns the
@@ -100,8 +102,8 @@ pub extern "C" fn rimopaku_order_holding_within_i64(
     ensures { OrdersWithin (Some hold.now) n parameters.now a_p.now a_i.now lent.size
         (memory p.old p_inv.old statistics.old) (memory p.new p_inv.new statistics.new) result }
 {
-    let hold = Some(hold);
-    order_within(lent, n, a_p, a_i, parameters, hold, p, p_inv, statistics)
+    let matrix = Matrix { n, a_p, a_i };
+    order_within(matrix, parameters, Some(hold), lent, p, p_inv, statistics)
 }
 
 /// Writes the columns of a factor in memory that is lent, as `columns` of the crate `amd_symbolic` returns them, and
@@ -137,7 +139,8 @@ pub extern "C" fn rimopaku_columns_within_i64(
         (arrays ptr.new rows.new parent.new) result }
 {
     let most = i64::MAX as usize;
-    let outcome = columns_within(lent, most, n, a_p, a_i, p, ptr, rows, parent);
+    let matrix = Matrix { n, a_p, a_i };
+    let outcome = columns_within(lent, most, matrix, p, ptr, rows, parent);
     number_of_end(&outcome)
 }
 
@@ -170,6 +173,7 @@ pub extern "C" fn rimopaku_counts_within_i64(
     ensures { CountsWithin n a_p.now a_i.now p.now lent.size (tallies sizes.old parent.old needs.old)
         (tallies sizes.new parent.new needs.new) result }
 {
-    let outcome = counts_within(lent, n, a_p, a_i, p, sizes, parent, needs);
+    let matrix = Matrix { n, a_p, a_i };
+    let outcome = counts_within(lent, matrix, p, sizes, parent, needs);
     number_of_end(&outcome)
 }

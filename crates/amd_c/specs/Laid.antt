@@ -1,6 +1,6 @@
 -- What the call for lists that are laid in the caller's workspace leaves in the caller's arrays, and which number it
 -- answers.
-use Rattle.std.specs.Prelude.{◌≡◌, ◌≤◌, ℕ, ℤ, None, List, length}
+use Rattle.std.specs.Prelude.{◌≡◌, ◌≤◌, ℕ, ℤ, None, List, length, map}
 use Rattle.amd_model.specs.Graph.{Graph}
 use Rattle.amd_engine.specs.InPlace.{AnswersInPlace, LaysGraph}
 use Rattle.amd_types.specs.Records.{fresh_info}
@@ -10,6 +10,8 @@ use Rattle.amd_types.specs.declared.amd.Status.TheVariants.{OK, Invalid, OkButJu
 use Rattle.amd_calls.specs.declared.records.Parameters.{Parameters}
 use Rattle.amd_calls.specs.declared.records.Statistics.{Statistics}
 use Rattle.amd_calls.specs.Numbers.{number_of, statistics_of}
+use Rattle.amd_c.specs.declared.lent.Lists.{Lists}
+use Rattle.amd_c.specs.declared.lent.Places.{Places}
 
 -- what stands in a caller's arrays: of each row the number of rows of its block, the permutation and its inverse, the
 -- number of rows of each front, and the statistics
@@ -22,6 +24,25 @@ pub record Eliminated : Type 0 where
 
 abbrev pub elimination : List ℤ → List ℤ → List ℤ → List ℤ → Statistics → Eliminated
 elimination nv p q e_len statistics = record { nv = nv; p = p; q = q; e_len = e_len; statistics = statistics }
+
+-- what stands in such arrays now
+abbrev pub answered : {I : Type 0} → (I → ℤ) → Places I ℤ → Statistics → Eliminated
+answered value a statistics =
+    elimination (map value a.nv.now) (map value a.p.now) (map value a.p_inv.now) a.e_len.now statistics
+
+-- the same for arrays of numbers
+abbrev pub answered_numbers : Places ℤ ℤ → Statistics → Eliminated
+answered_numbers a statistics = elimination a.nv.now a.p.now a.p_inv.now a.e_len.now statistics
+
+-- the arrays are those that were lent
+abbrev pub KeepsPlaces : {I E : Type 0} → Places I E → Places I E → Type 0
+KeepsPlaces old new = (new.nv.ghost_name ≡ old.nv.ghost_name) × (new.p_inv.ghost_name ≡ old.p_inv.ghost_name)
+    × (new.p.ghost_name ≡ old.p.ghost_name) × (new.e_len.ghost_name ≡ old.e_len.ghost_name)
+
+-- and so are the lists
+abbrev pub KeepsLists : Lists → Lists → Type 0
+KeepsLists old new = (new.pe.ghost_name ≡ old.pe.ghost_name) × (new.iw.ghost_name ≡ old.iw.ghost_name)
+    × (new.len.ghost_name ≡ old.len.ghost_name)
 
 -- there is a place for each of n rows
 abbrev pub HasPlacesFor : ℕ → Eliminated → Type 0

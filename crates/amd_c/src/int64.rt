@@ -15,11 +15,13 @@ ghost use Rattle.amd_c.specs.Supernodal.{SizesInto, SupernodesAndSizes, Supernod
 
 use crate::forests::postorder_into;
 use crate::laid::eliminate_into;
+use crate::lent::{Lists, Places};
 use crate::patterns::{degrees_into, row_form_into};
 use crate::supernodal::{sizes_of, supernode_sizes_into, supernodes_and_sizes_into};
 use amd::valid::valid;
 use amd_calls::counting::counts_into;
 use amd_calls::factors::{columns_into, number_of_end};
+use amd_calls::matrix::Matrix;
 use amd_calls::records::{Needs, Parameters, Statistics, SupernodeSizes, number_of};
 use amd_calls::writing::order_into;
 use std::alloc::Global;
@@ -50,7 +52,8 @@ pub extern "C" fn rimopaku_order_i64(
     ensures { OrdersInto None n parameters.now a_p.now a_i.now (memory p.old p_inv.old statistics.old)
         (memory p.new p_inv.new statistics.new) result }
 {
-    order_into(alloc, n, a_p, a_i, parameters, None, p, p_inv, statistics)
+    let matrix = Matrix { n, a_p, a_i };
+    order_into(alloc, matrix, parameters, None, p, p_inv, statistics)
 }
 
 /// Orders a matrix with rows held last, as `order_holding` of the crate `amd`, and returns the number of the status.
@@ -82,8 +85,8 @@ pub extern "C" fn rimopaku_order_holding_i64(
     ensures { OrdersInto (Some hold.now) n parameters.now a_p.now a_i.now (memory p.old p_inv.old statistics.old)
         (memory p.new p_inv.new statistics.new) result }
 {
-    let hold = Some(hold);
-    order_into(alloc, n, a_p, a_i, parameters, hold, p, p_inv, statistics)
+    let matrix = Matrix { n, a_p, a_i };
+    order_into(alloc, matrix, parameters, Some(hold), p, p_inv, statistics)
 }
 
 /// The number of the status of an input with `n_row` rows and `n_col` columns, as `valid` of the crate `amd`.
@@ -130,7 +133,8 @@ pub extern "C" fn rimopaku_columns_i64(
         (arrays ptr.old rows.old parent.old)
         (arrays ptr.new rows.new parent.new) result }
 {
-    let outcome = columns_into(alloc, n, a_p, a_i, p, ptr, rows, parent);
+    let matrix = Matrix { n, a_p, a_i };
+    let outcome = columns_into(alloc, matrix, p, ptr, rows, parent);
     number_of_end(&outcome)
 }
 
@@ -163,7 +167,8 @@ pub extern "C" fn rimopaku_counts_i64(
     ensures { CountsInto n a_p.now a_i.now p.now (tallies sizes.old parent.old needs.old)
         (tallies sizes.new parent.new needs.new) result }
 {
-    let outcome = counts_into(alloc, n, a_p, a_i, p, sizes, parent, needs);
+    let matrix = Matrix { n, a_p, a_i };
+    let outcome = counts_into(alloc, matrix, p, sizes, parent, needs);
     number_of_end(&outcome)
 }
 
@@ -192,7 +197,8 @@ pub extern "C" fn rimopaku_supernode_sizes_i64(
 ) -> i32
     ensures { SizesInto n a_p.now a_i.now p.now sizes.old sizes.new result }
 {
-    let outcome = supernode_sizes_into(alloc, n, a_p, a_i, p, sizes);
+    let matrix = Matrix { n, a_p, a_i };
+    let outcome = supernode_sizes_into(alloc, matrix, p, sizes);
     number_of_end(&outcome)
 }
 
@@ -229,7 +235,8 @@ pub extern "C" fn rimopaku_supernodes_i64(
         (blocks first.new ptr.new rows.new parent.new) result }
 {
     let sizes = &mut sizes_of(0, 0);
-    let outcome = supernodes_and_sizes_into(alloc, n, a_p, a_i, p, first, ptr, rows, parent, sizes);
+    let matrix = Matrix { n, a_p, a_i };
+    let outcome = supernodes_and_sizes_into(alloc, matrix, p, first, ptr, rows, parent, sizes);
     number_of_end(&outcome)
 }
 
@@ -258,7 +265,8 @@ pub extern "C" fn rimopaku_supernodes_and_sizes_i64(
     ensures { SupernodesAndSizes n a_p.now a_i.now p.now (blocks first.old ptr.old rows.old parent.old)
         (blocks first.new ptr.new rows.new parent.new) sizes.old sizes.new result }
 {
-    let outcome = supernodes_and_sizes_into(alloc, n, a_p, a_i, p, first, ptr, rows, parent, sizes);
+    let matrix = Matrix { n, a_p, a_i };
+    let outcome = supernodes_and_sizes_into(alloc, matrix, p, first, ptr, rows, parent, sizes);
     number_of_end(&outcome)
 }
 
@@ -286,7 +294,8 @@ pub extern "C" fn rimopaku_aat_i64(
     ensures { DegreesInto n a_p.now a_i.now (counted degrees.old statistics.old)
         (counted degrees.new statistics.new) result }
 {
-    let outcome = degrees_into(alloc, n, a_p, a_i, degrees, statistics);
+    let matrix = Matrix { n, a_p, a_i };
+    let outcome = degrees_into(alloc, matrix, degrees, statistics);
     number_of_end(&outcome)
 }
 
@@ -315,7 +324,8 @@ pub extern "C" fn rimopaku_preprocess_i64(
     ensures { RowFormInto n a_p.now a_i.now (row_arrays pointers.old indices.old)
         (row_arrays pointers.new indices.new) result }
 {
-    let outcome = row_form_into(alloc, n, a_p, a_i, pointers, indices);
+    let matrix = Matrix { n, a_p, a_i };
+    let outcome = row_form_into(alloc, matrix, pointers, indices);
     number_of_end(&outcome)
 }
 
@@ -388,8 +398,13 @@ pub extern "C" fn rimopaku_amd_2_i64(
         (elimination nv.old p.old p_inv.old e_len.old statistics.old)
         (elimination nv.new p.new p_inv.new e_len.new statistics.new) result }
 {
-    let status = eliminate_into(
-        alloc, n, pe, iw, len, pfree, parameters, nv, p_inv, p, e_len, statistics,
-    );
+    let mut lists = Lists { pe, iw, len, pfree };
+    let mut places = Places {
+        nv,
+        p_inv,
+        p,
+        e_len,
+    };
+    let status = eliminate_into(alloc, n, &mut lists, parameters, &mut places, statistics);
     number_of(&status)
 }

@@ -1,25 +1,25 @@
 // Eliminates the rows of lists that a caller laid, in the caller's workspace, into the caller's arrays: the body of the
 // exported function. The arrays and the record are written last.
 
-ghost use Rattle.std.specs.Prelude.{◌≡◌, ◌<◌, ◌≤◌, ◌+◌, ℕ, pos, List, map, length};
+ghost use Rattle.std.specs.Prelude.{◌≡◌, ◌<◌, ◌≤◌, ◌+◌, ℕ, pos, List, length};
 ghost use Rattle.amd_model.specs.Graph.{Graph};
 ghost use Rattle.amd_workspace.specs.Laying.{IsLaidOut};
 ghost use Rattle.amd_engine.specs.InPlace.{LaysGraph};
-ghost use Rattle.amd_c.specs.Laid.{HasPlacesFor, LeavesElimination, elimination};
+ghost use Rattle.amd_c.specs.Laid.{HasPlacesFor, LeavesElimination, KeepsLists, KeepsPlaces, answered};
 
-use amd_calls::records::{Parameters, Statistics, statistics_of};
+use crate::lent::{Lists, Places};
+use amd_calls::records::{Parameters, Statistics, control_of, statistics_of};
 use amd_engine::amd_2::amd_2;
-use amd_types::amd::{Control, Info, Status};
+use amd_types::amd::{Info, Status};
 use num_traits::PrimInt;
 use std::alloc::Global;
 
 /// Eliminates the rows of lists that are laid, as `amd_2` of the crate `amd_engine`, and returns the status, which is
 /// `OK`.
 ///
-/// The lists are as `amd_2` requires them, and each other array has a place for each of the `n` rows. The number of
-/// rows of each block is written into `nv`, the inverse of the permutation into `p_inv`, the permutation into `p`, the
-/// number of rows of each front into `e_len`, and what the elimination tells into `statistics`, of which the fields
-/// that tell the pattern are 0. `pe` has the parents and links afterwards; what `iw` and `len` then hold is not said.
+/// The lists are as `amd_2` requires them, and each array of `places` has a place for each of the `n` rows. What the
+/// elimination answers is written there, and what it tells into `statistics`, of which the fields that tell the pattern
+/// are 0. `pe` has the parents and links afterwards; what `iw` and `len` then hold is not said.
 ///
 /// # Errors
 ///
@@ -29,45 +29,39 @@ use std::alloc::Global;
 pub fn eliminate_into<I: PrimInt>(
     alloc: Global,
     n: I,
-    pe: &mut [isize],
-    iw: &mut [isize],
-    len: &mut [usize],
-    pfree: usize,
+    lists: &mut Lists<'_>,
     parameters: &Parameters,
-    nv: &mut [I],
-    p_inv: &mut [I],
-    p: &mut [I],
-    e_len: &mut [isize],
+    places: &mut Places<'_, I, isize>,
     statistics: &mut Statistics,
 ) -> Status
     // A number of a primitive type is always in range.
     requires fits { I.fits (I.value n) }
-    requires size { I.value n ≡ pos (length len.old) }
-    requires some { 0 < length len.old }
-    requires laid { IsLaidOut (length len.old) iw.old pe.old len.old pfree }
-    requires graph { (g : Graph) × (lists : ℕ → List ℕ) × LaysGraph g lists iw.old pe.old len.old }
-    requires room { pfree + length len.old ≤ length iw.old }
-    requires places { HasPlacesFor (length len.old)
-        (elimination (map I.value nv.old) (map I.value p.old) (map I.value p_inv.old) e_len.old statistics.old) }
-    ensures { LeavesElimination parameters.now iw.old pe.old len.old pe.new
-        (elimination (map I.value nv.old) (map I.value p.old) (map I.value p_inv.old) e_len.old statistics.old)
-        (elimination (map I.value nv.new) (map I.value p.new) (map I.value p_inv.new) e_len.new statistics.new) result }
+    requires size { I.value n ≡ pos (length lists.old.len.now) }
+    requires some { 0 < length lists.old.len.now }
+    requires laid { IsLaidOut (length lists.old.len.now) lists.old.iw.now lists.old.pe.now lists.old.len.now
+        lists.old.pfree }
+    requires graph { (g : Graph) × (neighbours : ℕ → List ℕ) ×
+        LaysGraph g neighbours lists.old.iw.now lists.old.pe.now lists.old.len.now }
+    requires room { lists.old.pfree + length lists.old.len.now ≤ length lists.old.iw.now }
+    requires places { HasPlacesFor (length lists.old.len.now) (answered I.value places.old statistics.old) }
+    ensures leaves { LeavesElimination parameters.now lists.old.iw.now lists.old.pe.now lists.old.len.now
+        lists.new.pe.now (answered I.value places.old statistics.old)
+        (answered I.value places.new statistics.new) result }
+    ensures lists { KeepsLists lists.old lists.new }
+    ensures loans { KeepsPlaces places.old places.new }
 {
-    let control = Control {
-        dense: parameters.dense,
-        aggressive: parameters.aggressive,
-    };
-    let mut info = Info::new(len.len());
-    let room = iw.len();
-    let Ok((counts, places, rows, fronts)) = amd_2(
-        alloc, n, pe, iw, len, room, pfree, &control, &mut info,
+    let control = control_of(parameters);
+    let mut info = Info::new(lists.len.len());
+    let (room, pfree) = (lists.iw.len(), lists.pfree);
+    let Ok((counts, inverse, rows, fronts)) = amd_2(
+        alloc, n, lists.pe, lists.iw, lists.len, room, pfree, &control, &mut info,
     ) else {
         return Status::OutOfMemory;
     };
-    nv.copy_from_slice(&counts);
-    p_inv.copy_from_slice(&places);
-    p.copy_from_slice(&rows);
-    e_len.copy_from_slice(&fronts);
+    places.nv.copy_from_slice(&counts);
+    places.p_inv.copy_from_slice(&inverse);
+    places.p.copy_from_slice(&rows);
+    places.e_len.copy_from_slice(&fronts);
     *statistics = statistics_of(&info);
     Status::OK
 }

@@ -10,6 +10,7 @@ mod forests;
 pub mod int32;
 pub mod int64;
 mod laid;
+mod lent;
 mod narrow;
 mod patterns;
 mod supernodal;

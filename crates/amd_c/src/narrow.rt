@@ -6,9 +6,10 @@ ghost use Rattle.amd_model.specs.Graph.{Graph};
 ghost use Rattle.amd_words.specs.Words.{is_place, word};
 ghost use Rattle.amd_workspace.specs.Laying.{IsLaidOut};
 ghost use Rattle.amd_engine.specs.InPlace.{AnswersInPlace, LaysGraph};
-ghost use Rattle.amd_c.specs.Laid.{HasPlacesFor, LeavesElimination, elimination};
+ghost use Rattle.amd_c.specs.Laid.{HasPlacesFor, KeepsPlaces, LeavesElimination, answered_numbers};
 
-use amd_calls::records::{Parameters, Statistics, statistics_of};
+use crate::lent::Places;
+use amd_calls::records::{Parameters, Statistics, control_of, statistics_of};
 use amd_engine::amd_2::amd_2_from;
 use amd_engine::rows::Choice;
 use amd_types::amd::{Control, Info, Status};
@@ -151,10 +152,9 @@ fn write_words(words: &[Word<i32>], numbers: &mut [i32])
 /// `OK`.
 ///
 /// The lists are as `amd_2` requires them, and fill `iw`. There are fewer than 2^31 - 2 rows, and fewer than 2^31 rows
-/// and words of lists together. Each other array has a place for each of the `n` rows. The number of rows of each block
-/// is written into `nv`, the inverse of the permutation into `p_inv`, the permutation into `p`, the number of rows of
-/// each front into `e_len`, the parents and links into `pe`, and what the elimination tells into `statistics`, of which
-/// the fields that tell the pattern are 0.
+/// and words of lists together. Each array of `places` has a place for each of the `n` rows. What the elimination
+/// answers is written there, the parents and links into `pe`, and what it tells into `statistics`, of which the fields
+/// that tell the pattern are 0.
 ///
 /// # Errors
 ///
@@ -163,15 +163,12 @@ fn write_words(words: &[Word<i32>], numbers: &mut [i32])
 /// Source: Amestoy, Davis and Duff 1996 and 2004.
 pub fn eliminate_narrow(
     alloc: Global,
-    parameters: &Parameters,
     n: i32,
     pe: &mut [i32],
     iw: &[i32],
     len: &[u32],
-    nv: &mut [i32],
-    p_inv: &mut [i32],
-    p: &mut [i32],
-    e_len: &mut [i32],
+    parameters: &Parameters,
+    places: &mut Places<'_, i32, i32>,
     statistics: &mut Statistics,
 ) -> Status
     requires size { n ≡ pos (length len.now) }
@@ -179,24 +176,21 @@ pub fn eliminate_narrow(
     requires narrow { (length len.now + 2 < 2 ^ 31) × (length iw.now + length len.now < 2 ^ 31) }
     requires laid { IsLaidOut (length len.now) iw.now pe.old len.now (length iw.now) }
     requires graph { (g : Graph) × (lists : ℕ → List ℕ) × LaysGraph g lists iw.now pe.old len.now }
-    requires places { HasPlacesFor (length len.now) (elimination nv.old p.old p_inv.old e_len.old statistics.old) }
+    requires places { HasPlacesFor (length len.now) (answered_numbers places.old statistics.old) }
     ensures leaves { LeavesElimination parameters.now iw.now pe.old len.now pe.new
-        (elimination nv.old p.old p_inv.old e_len.old statistics.old)
-        (elimination nv.new p.new p_inv.new e_len.new statistics.new) result }
+        (answered_numbers places.old statistics.old) (answered_numbers places.new statistics.new) result }
     ensures kept { result ≡ Status.OutOfMemory → pe.new ≡ pe.old }
+    ensures loans { KeepsPlaces places.old places.new }
 {
-    let control = Control {
-        dense: parameters.dense,
-        aggressive: parameters.aggressive,
-    };
+    let control = control_of(parameters);
     let mut info = Info::new(len.len());
     let Ok(answer) = eliminate_copies(alloc, n, pe, iw, len, &control, &mut info) else {
         return Status::OutOfMemory;
     };
-    write_words(&answer.nv, nv);
-    p_inv.copy_from_slice(&answer.p_inv);
-    p.copy_from_slice(&answer.p);
-    write_words(&answer.e_len, e_len);
+    write_words(&answer.nv, places.nv);
+    places.p_inv.copy_from_slice(&answer.p_inv);
+    places.p.copy_from_slice(&answer.p);
+    write_words(&answer.e_len, places.e_len);
     write_words(&answer.pe, pe);
     *statistics = statistics_of(&info);
     Status::OK

@@ -7,6 +7,7 @@ ghost use Rattle.amd_c.specs.Patterns.{counted, row_arrays};
 ghost use Rattle.amd_model.specs.Input.Columns.{IsInput};
 
 use amd_calls::factors::{has_numbers, write_numbers};
+use amd_calls::matrix::Matrix;
 use amd_calls::records::{Statistics, statistics_of};
 use amd_factor::Fault;
 use amd_input::aat::aat;
@@ -68,15 +69,15 @@ fn is_sorted_form<I: PrimInt>(n: I, a_p: &[I], a_i: &[I]) -> bool
 /// Source: AMD user guide; Amestoy, Davis and Duff 2004.
 pub fn degrees_into<I: PrimInt>(
     alloc: Global,
-    n: I,
-    a_p: &[I],
-    a_i: &[I],
+    matrix: Matrix<'_, I>,
     degrees: &mut [I],
     statistics: &mut Statistics,
 ) -> Result<(), Fault>
-    ensures { LeavesDegrees (I.value n) (map I.value a_p.now) (map I.value a_i.now)
+    ensures { LeavesDegrees (I.value matrix.entry.n) (map I.value matrix.entry.a_p.now)
+        (map I.value matrix.entry.a_i.now)
         (counted (map I.value degrees.old) statistics.old) (counted (map I.value degrees.new) statistics.new) result }
 {
+    let Matrix { n, a_p, a_i } = matrix;
     if !has_row_places(n, degrees) || !is_sorted_form(n, a_p, a_i) {
         return Err(Fault::NotColumnForm);
     }
@@ -107,18 +108,18 @@ pub fn degrees_into<I: PrimInt>(
 /// Source: AMD user guide.
 pub fn row_form_into<I: PrimInt>(
     alloc: Global,
-    n: I,
-    a_p: &[I],
-    a_i: &[I],
+    matrix: Matrix<'_, I>,
     pointers: &mut [I],
     indices: &mut [I],
 ) -> Result<(), Fault>
     // A number of a primitive type is always in range.
-    requires fits { I.fits (I.value n) }
-    ensures { LeavesRowForm (I.value n) (map I.value a_p.now) (map I.value a_i.now)
+    requires fits { I.fits (I.value matrix.n) }
+    ensures { LeavesRowForm (I.value matrix.entry.n) (map I.value matrix.entry.a_p.now)
+        (map I.value matrix.entry.a_i.now)
         (row_arrays (map I.value pointers.old) (map I.value indices.old))
         (row_arrays (map I.value pointers.new) (map I.value indices.new)) result }
 {
+    let Matrix { n, a_p, a_i } = matrix;
     if !has_pointer_places(n, pointers) || !is_column_form(n, a_p, a_i) {
         return Err(Fault::NotColumnForm);
     }

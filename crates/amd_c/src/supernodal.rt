@@ -7,6 +7,7 @@ ghost use Rattle.amd_factor.specs.Partitions.{OrderedMatrix, ordered_matrix};
 ghost use Rattle.amd_c.specs.Supernodal.{HasBlockPlaces, LeavesSizes, LeavesSupernodes, TellsSizes, blocks};
 
 use amd_calls::factors::{has_numbers, has_parents, write_first_numbers, write_first_parents};
+use amd_calls::matrix::Matrix;
 use amd_calls::records::SupernodeSizes;
 use amd_factor::{Fault, supernode_partition, supernode_sizes, write_rows};
 use amd_types::index::Index;
@@ -24,17 +25,16 @@ use std::alloc::Global;
 /// Source: Liu, Ng and Peyton 1993.
 pub fn supernode_sizes_into<I: PrimInt>(
     alloc: Global,
-    n: I,
-    a_p: &[I],
-    a_i: &[I],
+    matrix: Matrix<'_, I>,
     p: &[I],
     sizes: &mut SupernodeSizes,
 ) -> Result<(), Fault>
     // A number of a primitive type is always in range.
-    requires fits { I.fits (I.value n) }
-    ensures { LeavesSizes (I.value n) (map I.value a_p.now) (map I.value a_i.now) (map I.value p.now) sizes.old
-        sizes.new result }
+    requires fits { I.fits (I.value matrix.n) }
+    ensures { LeavesSizes (I.value matrix.entry.n) (map I.value matrix.entry.a_p.now)
+        (map I.value matrix.entry.a_i.now) (map I.value p.now) sizes.old sizes.new result }
 {
+    let Matrix { n, a_p, a_i } = matrix;
     let found = supernode_sizes(alloc, n, a_p, a_i, p)?;
     *sizes = sizes_of(found.supernodes, found.rows);
     Ok(())
@@ -55,13 +55,11 @@ fn have_block_places<I: Index>(first: &[I], ptr: &[I], parent: &[I]) -> bool
         && ptr.len().checked_sub(1) == Some(parent.len())
 }
 
-/// Writes the supernodes of the matrix `m`, which has `n` rows, and how much room they need.
+/// Writes the supernodes of the matrix and the order `m`, and how much room they need.
 fn matrix_supernodes_into<I: PrimInt>(
     alloc: Global,
-    n: I,
     p: &[I],
-    a_p: &[I],
-    a_i: &[I],
+    matrix: Matrix<'_, I>,
     first: &mut [I],
     ptr: &mut [I],
     rows: &mut [I],
@@ -69,13 +67,15 @@ fn matrix_supernodes_into<I: PrimInt>(
     sizes: &mut SupernodeSizes,
 ) -> Result<(), Fault>
     ghost m: { OrderedMatrix }
-    requires fits { I.fits (I.value n) }
-    requires matrix { m ≡ ordered_matrix (I.value n) (map I.value a_p.now) (map I.value a_i.now) (map I.value p.now) }
+    requires fits { I.fits (I.value matrix.n) }
+    requires matrix { m ≡ ordered_matrix (I.value matrix.n) (map I.value matrix.a_p.now) (map I.value matrix.a_i.now)
+        (map I.value p.now) }
     ensures left { LeavesSupernodes m.size m.pointers m.indices m.list
         (blocks (map I.value first.old) (map I.value ptr.old) (map I.value rows.old) (map I.value parent.old))
         (blocks (map I.value first.new) (map I.value ptr.new) (map I.value rows.new) (map I.value parent.new)) result }
     ensures told { TellsSizes m.size m.pointers m.indices m.list sizes.old sizes.new result }
 {
+    let Matrix { n, a_p, a_i } = matrix;
     if !have_block_places(first, ptr, parent) {
         return Err(Fault::NotColumnForm);
     }
@@ -117,9 +117,7 @@ fn matrix_supernodes_into<I: PrimInt>(
 /// Source: Rose, Tarjan and Lueker 1976; Liu 1990; Liu, Ng and Peyton 1993.
 pub fn supernodes_and_sizes_into<I: PrimInt>(
     alloc: Global,
-    n: I,
-    a_p: &[I],
-    a_i: &[I],
+    matrix: Matrix<'_, I>,
     p: &[I],
     first: &mut [I],
     ptr: &mut [I],
@@ -128,12 +126,13 @@ pub fn supernodes_and_sizes_into<I: PrimInt>(
     sizes: &mut SupernodeSizes,
 ) -> Result<(), Fault>
     // A number of a primitive type is always in range.
-    requires fits { I.fits (I.value n) }
-    ensures left { LeavesSupernodes (I.value n) (map I.value a_p.now) (map I.value a_i.now) (map I.value p.now)
+    requires fits { I.fits (I.value matrix.n) }
+    ensures left { LeavesSupernodes (I.value matrix.entry.n) (map I.value matrix.entry.a_p.now)
+        (map I.value matrix.entry.a_i.now) (map I.value p.now)
         (blocks (map I.value first.old) (map I.value ptr.old) (map I.value rows.old) (map I.value parent.old))
         (blocks (map I.value first.new) (map I.value ptr.new) (map I.value rows.new) (map I.value parent.new)) result }
-    ensures told { TellsSizes (I.value n) (map I.value a_p.now) (map I.value a_i.now) (map I.value p.now) sizes.old
-        sizes.new result }
+    ensures told { TellsSizes (I.value matrix.entry.n) (map I.value matrix.entry.a_p.now)
+        (map I.value matrix.entry.a_i.now) (map I.value p.now) sizes.old sizes.new result }
 {
-    matrix_supernodes_into(alloc, n, p, a_p, a_i, first, ptr, rows, parent, sizes)
+    matrix_supernodes_into(alloc, p, matrix, first, ptr, rows, parent, sizes)
 }

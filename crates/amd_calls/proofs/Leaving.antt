@@ -1,9 +1,10 @@
 -- What an ordering leaves in a caller's arrays, and the same for the integers of C, whose values are themselves.
-use Rattle.std.proofs.Common.{ℤ, List, zero, suc, pos, negsuc, ◌≡◌, map, Bool, refl, sym, ◌∙◌, ap, subst, to_z, of_z, SFits, w32}
+use Rattle.std.proofs.Common.{ℤ, List, zero, suc, pos, negsuc, ◌≡◌, map, Bool, refl, sym, ◌∙◌, ap, subst, to_z, of_z, w32}
 use Rattle.std.specs.Prelude.{Option}
 use Rattle.std.proofs.lemmas.Int.{to_z-of_z}
 use Rattle.std.proofs.lemmas.List.{map-id}
 use Rattle.amd_types.specs.Statuses.{IsStatusOf}
+use Rattle.amd_types.specs.declared.amd.Control.{Control}
 use Rattle.amd_types.specs.declared.amd.Info.{Info}
 use Rattle.amd_types.specs.declared.amd.Status.{Status}
 use Rattle.amd_types.specs.declared.amd.Status.TheVariants.{OK, Invalid, OkButJumbled, OutOfMemory}
@@ -45,14 +46,15 @@ leaves_by hold n choice a_p a_i old new info Invalid e o told =
 leaves_by hold n choice a_p a_i old new info OutOfMemory e o told =
     absurd (not_without_memory hold n choice.dense choice.aggressive a_p a_i new.p new.q info o e)
 
--- an ordering that was written is what its status says; the number of its choice comes back from 32 bits
-pub leaves_chosen : (hold : Option (List Bool)) (n : ℤ) (choice : Parameters) (a_p a_i : List ℤ) (old new : Memory) (info : Info) →
-    SFits w32 choice.dense →
-    IsOrderingHolding hold n (to_z w32 (of_z w32 choice.dense)) choice.aggressive a_p a_i new.p new.q info →
+-- an ordering that was written is what its status says
+pub leaves_chosen : (hold : Option (List Bool)) (n : ℤ) (choice : Parameters) (control : Control) (a_p a_i : List ℤ) (old new : Memory)
+    (info : Info) → control.dense ≡ choice.dense → control.aggressive ≡ choice.aggressive →
+    IsOrderingHolding hold n control.dense control.aggressive a_p a_i new.p new.q info →
     new.statistics ≡ statistics_of info → Leaves hold n choice a_p a_i old new info.status
-leaves_chosen hold n choice a_p a_i old new info fits o told =
+leaves_chosen hold n choice control a_p a_i old new info dense aggressive o told =
     leaves_by hold n choice a_p a_i old new info info.status refl
-    (subst (λ t. IsOrderingHolding hold n t choice.aggressive a_p a_i new.p new.q info) (to_z-of_z w32 choice.dense fits) o) told
+    (subst (λ t. IsOrderingHolding hold n t choice.aggressive a_p a_i new.p new.q info) dense
+    (subst (λ b. IsOrderingHolding hold n control.dense b a_p a_i new.p new.q info) aggressive o)) told
 
 -- the number of a status has 32 bits
 number_comes_back : (status : Status) → to_z w32 (of_z w32 (number_of status)) ≡ number_of status

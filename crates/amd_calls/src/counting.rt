@@ -6,6 +6,7 @@ ghost use Rattle.amd_model.specs.Figures.{cut};
 ghost use Rattle.amd_calls.specs.Counting.{LeavesCounts, needs_of, tallies};
 
 use crate::factors::{has_numbers, has_parents, write_numbers, write_parents};
+use crate::matrix::Matrix;
 use crate::records::Needs;
 use crate::writing::have_places;
 use amd_factor::needs::Need;
@@ -46,20 +47,20 @@ pub fn needs_of(need: &Need) -> Needs
 /// Source: Rose, Tarjan and Lueker 1976; Liu 1986; Gilbert, Ng and Peyton 1994.
 pub fn counts_into<I: PrimInt, A: Allocator + Copy>(
     alloc: A,
-    n: I,
-    a_p: &[I],
-    a_i: &[I],
+    matrix: Matrix<'_, I>,
     p: &[I],
     sizes: &mut [I],
     parent: &mut [I],
     needs: &mut Needs,
 ) -> Result<(), Fault>
     // A number of a primitive type is always in range.
-    requires fits { I.fits (I.value n) }
-    ensures { LeavesCounts (I.value n) (map I.value a_p.now) (map I.value a_i.now) (map I.value p.now)
+    requires fits { I.fits (I.value matrix.n) }
+    ensures { LeavesCounts (I.value matrix.entry.n) (map I.value matrix.entry.a_p.now)
+        (map I.value matrix.entry.a_i.now) (map I.value p.now)
         (tallies (map I.value sizes.old) (map I.value parent.old) needs.old)
         (tallies (map I.value sizes.new) (map I.value parent.new) needs.new) result }
 {
+    let Matrix { n, a_p, a_i } = matrix;
     if !have_places(n, sizes, parent) {
         return Err(Fault::NotColumnForm);
     }

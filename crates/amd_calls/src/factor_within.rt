@@ -16,6 +16,7 @@ ghost use Rattle.amd_calls.specs.Within.{LeavesWithin, Suffice, TellsWhether, co
 use crate::bytes::{columns_lists, counts_lists};
 use crate::counting::needs_of;
 use crate::factors::{have_column_places, write_numbers, write_parents};
+use crate::matrix::Matrix;
 use crate::records::Needs;
 use crate::writing::have_places;
 use amd_factor::Fault;
@@ -55,22 +56,23 @@ fn fault_for(unfit: Unfit) -> Fault
 /// Source: Rose, Tarjan and Lueker 1976; Liu 1986; Gilbert, Ng and Peyton 1994.
 pub fn counts_within<I: PrimInt>(
     block: Piece,
-    n: I,
-    a_p: &[I],
-    a_i: &[I],
+    matrix: Matrix<'_, I>,
     p: &[I],
     sizes: &mut [I],
     parent: &mut [I],
     needs: &mut Needs,
 ) -> Result<(), Fault>
     // A number of a primitive type is always in range.
-    requires fits { I.fits (I.value n) }
+    requires fits { I.fits (I.value matrix.n) }
     requires signed { I.fits (negsuc 0) }
-    ensures left { LeavesCounts (I.value n) (map I.value a_p.now) (map I.value a_i.now) (map I.value p.now)
+    ensures left { LeavesCounts (I.value matrix.entry.n) (map I.value matrix.entry.a_p.now)
+        (map I.value matrix.entry.a_i.now) (map I.value p.now)
         (tallies (map I.value sizes.old) (map I.value parent.old) needs.old)
         (tallies (map I.value sizes.new) (map I.value parent.new) needs.new) result }
-    ensures block { TellsWhether (Suffice counts_bytes (I.value n) (map I.value a_p.now) block.size) result }
+    ensures block { TellsWhether (Suffice counts_bytes (I.value matrix.entry.n) (map I.value matrix.entry.a_p.now)
+        block.size) result }
 {
+    let Matrix { n, a_p, a_i } = matrix;
     if !have_places(n, sizes, parent) {
         return Err(Fault::NotColumnForm);
     }
@@ -159,23 +161,24 @@ fn columns_inside<I: Index>(
 pub fn columns_within<I: PrimInt>(
     block: Piece,
     most: usize,
-    n: I,
-    a_p: &[I],
-    a_i: &[I],
+    matrix: Matrix<'_, I>,
     p: &[I],
     ptr: &mut [I],
     rows: &mut [I],
     parent: &mut [I],
 ) -> Result<(), Fault>
     // A number of a primitive type is always in range.
-    requires fits { I.fits (I.value n) }
+    requires fits { I.fits (I.value matrix.n) }
     requires signed { I.fits (negsuc 0) }
     requires most { I.fits (pos most) }
-    ensures left { LeavesWithin most (I.value n) (map I.value a_p.now) (map I.value a_i.now) (map I.value p.now)
+    ensures left { LeavesWithin most (I.value matrix.entry.n) (map I.value matrix.entry.a_p.now)
+        (map I.value matrix.entry.a_i.now) (map I.value p.now)
         (arrays (map I.value ptr.old) (map I.value rows.old) (map I.value parent.old))
         (arrays (map I.value ptr.new) (map I.value rows.new) (map I.value parent.new)) result }
-    ensures block { TellsWhether (Suffice columns_bytes (I.value n) (map I.value a_p.now) block.size) result }
+    ensures block { TellsWhether (Suffice columns_bytes (I.value matrix.entry.n) (map I.value matrix.entry.a_p.now)
+        block.size) result }
 {
+    let Matrix { n, a_p, a_i } = matrix;
     if !have_column_places(n, ptr, parent) {
         return Err(Fault::NotColumnForm);
     }

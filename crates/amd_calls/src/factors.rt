@@ -6,6 +6,7 @@ ghost use Rattle.std.specs.Prelude.{slice_index_or, true};
 ghost use Rattle.num_traits.specs.Laws.{Checks};
 ghost use Rattle.amd_calls.specs.Columns.{HasColumnPlaces, LeavesColumns, arrays, number_of_end, parent_number};
 
+use crate::matrix::Matrix;
 use crate::signed::SignedIndex;
 use amd_factor::Fault;
 use amd_types::index::Index;
@@ -135,20 +136,20 @@ pub fn write_first_parents<I: SignedIndex>(parents: &[Option<usize>], numbers: &
 /// Source: Rose, Tarjan and Lueker 1976; Liu 1990; Davis 2005.
 pub fn columns_into<I: PrimInt, A: Allocator + Copy>(
     alloc: A,
-    n: I,
-    a_p: &[I],
-    a_i: &[I],
+    matrix: Matrix<'_, I>,
     p: &[I],
     ptr: &mut [I],
     rows: &mut [I],
     parent: &mut [I],
 ) -> Result<(), Fault>
     // A number of a primitive type is always in range.
-    requires fits { I.fits (I.value n) }
-    ensures { LeavesColumns (I.value n) (map I.value a_p.now) (map I.value a_i.now) (map I.value p.now)
+    requires fits { I.fits (I.value matrix.n) }
+    ensures { LeavesColumns (I.value matrix.entry.n) (map I.value matrix.entry.a_p.now)
+        (map I.value matrix.entry.a_i.now) (map I.value p.now)
         (arrays (map I.value ptr.old) (map I.value rows.old) (map I.value parent.old))
         (arrays (map I.value ptr.new) (map I.value rows.new) (map I.value parent.new)) result }
 {
+    let Matrix { n, a_p, a_i } = matrix;
     if !have_column_places(n, ptr, parent) {
         return Err(Fault::NotColumnForm);
     }

@@ -7,6 +7,7 @@ pub mod bytes;
 pub mod counting;
 pub mod factor_within;
 pub mod factors;
+pub mod matrix;
 pub mod records;
 pub mod signed;
 pub mod within;

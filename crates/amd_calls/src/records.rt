@@ -4,7 +4,7 @@
 ghost use Rattle.std.specs.Prelude.{◌≡◌};
 ghost use Rattle.amd_calls.specs.Numbers.{number_of, statistics_of};
 
-use amd::{Info, Status};
+use amd::{Control, Info, Status};
 
 /// What a caller chooses.
 #[derive(Drop)]
@@ -121,4 +121,24 @@ pub fn number_of(status: &Status) -> i32
         Status::OutOfMemory => -1,
         Status::Invalid => -2,
     }
+}
+
+/// What a caller chooses, as the crate `amd` takes it.
+pub fn control_of(parameters: &Parameters) -> Control
+    ensures dense { result.dense ≡ parameters.now.dense }
+    ensures aggressive { result.aggressive ≡ parameters.now.aggressive }
+{
+    Control {
+        dense: parameters.dense,
+        aggressive: parameters.aggressive,
+    }
+}
+
+/// Writes what an ordering tells, and returns the number of its status.
+pub fn tell(info: &Info, statistics: &mut Statistics) -> i32
+    ensures number { result ≡ number_of info.now.status }
+    ensures told { statistics.new ≡ statistics_of info.now }
+{
+    *statistics = statistics_of(info);
+    number_of(&info.status)
 }

@@ -6,8 +6,9 @@ ghost use Rattle.std.specs.Option.{option_copied};
 ghost use Rattle.amd.specs.Blocks.{workspace_bytes};
 ghost use Rattle.amd_calls.specs.Calls.{OrdersWithin, memory};
 
-use crate::records::{Parameters, Statistics, number_of, statistics_of};
-use amd::{Control, Piece, Refusal, Status, order_in_block, workspace_bytes};
+use crate::matrix::Matrix;
+use crate::records::{Parameters, Statistics, control_of, number_of, tell};
+use amd::{Piece, Refusal, Status, order_in_block, workspace_bytes};
 use num_traits::PrimInt;
 
 /// The bytes of a workspace in a block for so many rows and entries, or the greatest count where they are more.
@@ -28,32 +29,25 @@ pub fn bytes_or_most(rows: usize, entries: usize) -> usize
 ///
 /// Source: AMD user guide; Amestoy, Davis and Duff 1996 and 2004.
 pub fn order_within<I: PrimInt>(
-    block: Piece,
-    n: I,
-    a_p: &[I],
-    a_i: &[I],
+    matrix: Matrix<'_, I>,
     parameters: &Parameters,
     hold: Option<&[bool]>,
+    block: Piece,
     p: &mut [I],
     p_inv: &mut [I],
     statistics: &mut Statistics,
 ) -> i32
     // A number of a primitive type is always in range.
-    requires fits { I.fits (I.value n) }
-    ensures { OrdersWithin (option_copied hold.entry) (I.value n) parameters.now
-        (map I.value a_p.now) (map I.value a_i.now) block.size
+    requires fits { I.fits (I.value matrix.n) }
+    ensures { OrdersWithin (option_copied hold.entry) (I.value matrix.entry.n) parameters.now
+        (map I.value matrix.entry.a_p.now) (map I.value matrix.entry.a_i.now) block.size
         (memory (map I.value p.old) (map I.value p_inv.old) statistics.old)
         (memory (map I.value p.new) (map I.value p_inv.new) statistics.new) result }
 {
-    let control = Control {
-        dense: parameters.dense,
-        aggressive: parameters.aggressive,
-    };
+    let Matrix { n, a_p, a_i } = matrix;
+    let control = control_of(parameters);
     match order_in_block(block, n, a_p, a_i, &control, hold, p, p_inv) {
-        Ok(info) => {
-            *statistics = statistics_of(&info);
-            number_of(&info.status)
-        }
+        Ok(info) => tell(&info, statistics),
         Err(Refusal::Invalid) => number_of(&Status::Invalid),
         Err(Refusal::TooLarge) => number_of(&Status::OutOfMemory),
     }

@@ -6,8 +6,8 @@ ghost use Rattle.std.specs.Option.{option_copied};
 ghost use Rattle.amd_calls.specs.Calls.{HasPlaces, OrdersInto, memory};
 ghost use Rattle.amd_engine.specs.InPlace.{values};
 
-use crate::records::{Parameters, Statistics, number_of, statistics_of};
-use amd::Control;
+use crate::matrix::Matrix;
+use crate::records::{Parameters, Statistics, control_of, number_of, tell};
 use amd_types::index::Index;
 use amd_types::internal::to_count;
 use num_traits::PrimInt;
@@ -39,9 +39,7 @@ pub fn have_places<I: Index>(n: I, p: &[I], p_inv: &[I]) -> bool
 /// Source: AMD user guide; Amestoy, Davis and Duff 1996 and 2004.
 pub fn order_into<I: PrimInt, A: Allocator + Copy>(
     alloc: A,
-    n: I,
-    a_p: &[I],
-    a_i: &[I],
+    matrix: Matrix<'_, I>,
     parameters: &Parameters,
     hold: Option<&[bool]>,
     p: &mut [I],
@@ -49,21 +47,16 @@ pub fn order_into<I: PrimInt, A: Allocator + Copy>(
     statistics: &mut Statistics,
 ) -> i32
     // A number of a primitive type is always in range.
-    requires fits { I.fits (I.value n) }
-    ensures { OrdersInto (option_copied hold.entry) (I.value n) parameters.now
-        (map I.value a_p.now) (map I.value a_i.now)
+    requires fits { I.fits (I.value matrix.n) }
+    ensures { OrdersInto (option_copied hold.entry) (I.value matrix.entry.n) parameters.now
+        (map I.value matrix.entry.a_p.now) (map I.value matrix.entry.a_i.now)
         (memory (map I.value p.old) (map I.value p_inv.old) statistics.old)
         (memory (map I.value p.new) (map I.value p_inv.new) statistics.new) result }
 {
-    let control = Control {
-        dense: parameters.dense,
-        aggressive: parameters.aggressive,
-    };
+    let Matrix { n, a_p, a_i } = matrix;
+    let control = control_of(parameters);
     match amd::order_into(alloc, n, a_p, a_i, &control, hold, p, p_inv) {
-        Ok(info) => {
-            *statistics = statistics_of(&info);
-            number_of(&info.status)
-        }
+        Ok(info) => tell(&info, statistics),
         Err(status) => number_of(&status),
     }
 }
@@ -78,28 +71,22 @@ pub fn order_into<I: PrimInt, A: Allocator + Copy>(
 /// Source: AMD user guide; Amestoy, Davis and Duff 1996 and 2004.
 pub fn order_into_narrow<A: Allocator + Copy>(
     alloc: A,
-    n: i32,
-    a_p: &[i32],
-    a_i: &[i32],
+    matrix: Matrix<'_, i32>,
     parameters: &Parameters,
     hold: Option<&[bool]>,
     p: &mut [i32],
     p_inv: &mut [i32],
     statistics: &mut Statistics,
 ) -> i32
-    ensures { OrdersInto (option_copied hold.entry) n parameters.now (values a_p.now) (values a_i.now)
+    ensures { OrdersInto (option_copied hold.entry) matrix.entry.n parameters.now
+        (values matrix.entry.a_p.now) (values matrix.entry.a_i.now)
         (memory (values p.old) (values p_inv.old) statistics.old)
         (memory (values p.new) (values p_inv.new) statistics.new) result }
 {
-    let control = Control {
-        dense: parameters.dense,
-        aggressive: parameters.aggressive,
-    };
+    let Matrix { n, a_p, a_i } = matrix;
+    let control = control_of(parameters);
     match amd::order_into_narrow(alloc, n, a_p, a_i, &control, hold, p, p_inv) {
-        Ok(info) => {
-            *statistics = statistics_of(&info);
-            number_of(&info.status)
-        }
+        Ok(info) => tell(&info, statistics),
         Err(status) => number_of(&status),
     }
 }

@@ -1,6 +1,5 @@
 -- The arrays have room for the lists that the elimination returned, and what was copied are these.
-use Rattle.std.proofs.Common.{refl, length, sym, ◌∙◌, ap, rules, SFits, w32}
-use Rattle.std.proofs.lemmas.Int.{to_z-of_z}
+use Rattle.std.proofs.Common.{length, sym, ◌∙◌, ap}
 use Rattle.amd_c.proofs.Eliminated.{answers_long, holds_copies}
 use Rattle.amd_c.proofs.narrow.eliminate_narrow.Goals as goal
 
@@ -30,8 +29,8 @@ write_words-requires-2 c =
 
 pub returns-clause-leaves : goal.returns-clause-leaves
 returns-clause-leaves c =
-    let choice = c.args.parameters.now in let fits : SFits w32 choice.dense = search rules in
-    holds_copies choice _ _ _ _ _ _ _ c.in-Ok.ensures.orders c.in-Ok.ensures.compactions (to_z-of_z w32 choice.dense fits) refl
+    let choice = c.args.parameters.now in let chosen = c.control_of-control.ensures in
+    holds_copies choice _ _ _ _ _ _ _ c.in-Ok.ensures.orders c.in-Ok.ensures.compactions chosen.dense chosen.aggressive
     c.new-info.ensures _ _ (c.write_words.ensures ∙ c.deref.ensures.value) (c.copy_from_slice-2.ensures.after ∙ c.deref-3.ensures.value)
     (c.copy_from_slice.ensures.after ∙ c.deref-2.ensures.value) (c.write_words-2.ensures ∙ c.deref-4.ensures.value)
     (c.write_words-3.ensures ∙ c.deref-5.ensures.value) c.statistics_of.ensures

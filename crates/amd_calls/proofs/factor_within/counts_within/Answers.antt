@@ -7,7 +7,7 @@ use Rattle.amd_calls.proofs.WithinLeft.{no-counts}
 use Rattle.amd_calls.proofs.factor_within.counts_within.Goals as goal
 
 pub returns-then-size-eq0-clause-left : goal.returns-then-size-eq0-clause-left
-returns-then-size-eq0-clause-left g c = no-counts (g.I.Number.value c.args.n) _ _ _ _ _ c.need_of_sizes.result c.needs_of.result
+returns-then-size-eq0-clause-left g c = no-counts (g.I.Number.value c.args.matrix.n) _ _ _ _ _ c.need_of_sizes.result c.needs_of.result
     (sym (ap pos c.if-size-eq0.true) ∙ c.in-Ok.ensures.size) (c.in-Ok.ensures.none c.if-size-eq0.true)
     (c.have_places.ensures.0 c.if-not-have_places.false) c.need_of_sizes.ensures c.needs_of.ensures
 
@@ -28,7 +28,7 @@ write_numbers-requires-clause-fits g c =
     let front = c.split_at_mut-counts.ensures.front_len in
     let told = c.in-Some-counts_inside.ensures.counts in let h = told.1.holds in let places = told.0.each.places in
     sizes-fit g.I.Number.fits (λ x y z low high. g.I.Number.between_law x y z exact low high) (g.met.I.Zero.zero_fits_law exact) _ _
-    (g.I.Number.value c.args.n) c.requires.fits (omega (arith, ints, size, front, places)) h.columns h.factor
+    (g.I.Number.value c.args.matrix.n) c.requires.fits (omega (arith, ints, size, front, places)) h.columns h.factor
     c.counts_inside.new.counts h.sizes_are
 
 pub write_parents-requires-clause-fits : goal.write_parents-requires-clause-fits
@@ -37,5 +37,5 @@ write_parents-requires-clause-fits g c =
     let front = c.split_at_mut-counts.ensures.front_len in
     let told = c.in-Some-counts_inside.ensures.counts in let h = told.1.holds in let places = told.0.each.places in
     parents-fit g.I.Number.fits (λ x y z low high. g.I.Number.between_law x y z exact low high) (g.met.I.Zero.zero_fits_law exact) _ _
-    (g.I.Number.value c.args.n) c.requires.fits (omega (arith, ints, size, front, places)) h.columns h.factor c.requires.signed
+    (g.I.Number.value c.args.matrix.n) c.requires.fits (omega (arith, ints, size, front, places)) h.columns h.factor c.requires.signed
     c.counts_inside.new.parent h.parents

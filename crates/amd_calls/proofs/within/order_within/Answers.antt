@@ -1,5 +1,5 @@
 -- What stands in the caller's arrays is what the ordering answered.
-use Rattle.std.proofs.Common.{List, ℤ, map, subst, rules, SFits, w32}
+use Rattle.std.proofs.Common.{List, ℤ, map, subst}
 use Rattle.std.specs.Option.{option_copied}
 use Rattle.amd.specs.Blocks.{IsBlockRefusal}
 use Rattle.amd_types.specs.declared.amd.Status.TheVariants.{Invalid, OutOfMemory}
@@ -10,27 +10,30 @@ use Rattle.amd_calls.proofs.within.order_within.Goals as goal
 
 pub returns-in-Ok : goal.returns-in-Ok
 returns-in-Ok g c =
-    let value = g.I.Number.value in let a = c.args in let new = c.order_in_block.new in let info = c.in-Ok.info in
-    let fits : SFits w32 a.parameters.now.dense = search rules in let e = c.in-Ok.ensures in record {
+    let value = g.I.Number.value in let a = c.args in let matrix = a.matrix in let new = c.order_in_block.new in
+    let info = c.in-Ok.info in let hold = option_copied a.hold in
+    let chosen = c.control_of-control in let tell = c.tell in let e = c.in-Ok.ensures in record {
       status = info.status;
-      answer = answer_is info.status _ c.number_of.ensures;
-      left = leaves_chosen (option_copied a.hold) (value a.n) a.parameters.now (map value a.a_p.now) (map value a.a_i.now)
-          (memory (map value a.p.now) (map value a.p_inv.now) a.statistics.now)
-          (memory (map value new.p) (map value new.p_inv) c.statistics_of.result) info fits e.ordering c.statistics_of.ensures;
-      block = tells_ordered (option_copied a.hold) (value a.n) _ a.parameters.now.aggressive (map value a.a_p.now)
-          (map value a.a_i.now) (map value new.p) (map value new.p_inv) a.block.size info e.ordering e.inside;
+      answer = answer_is info.status _ tell.ensures.number;
+      left = leaves_chosen hold (value matrix.n) a.parameters.now chosen.result (map value matrix.a_p.now)
+          (map value matrix.a_i.now) (memory (map value a.p.now) (map value a.p_inv.now) a.statistics.now)
+          (memory (map value new.p) (map value new.p_inv) tell.new.statistics) info chosen.ensures.dense chosen.ensures.aggressive
+          e.ordering tell.ensures.told;
+      block = tells_ordered hold (value matrix.n) _ chosen.result.aggressive (map value matrix.a_p.now)
+          (map value matrix.a_i.now) (map value new.p) (map value new.p_inv) a.block.size info e.ordering e.inside;
     }
 
 pub returns-in-Err-Invalid : goal.returns-in-Err-Invalid
 returns-in-Err-Invalid g c =
-    let value = g.I.Number.value in let told = c.args.statistics.now in let hold = option_copied c.args.hold in
-    let z : ℤ = value c.args.n in let a_p : List ℤ = map value c.args.a_p.now in let a_i : List ℤ = map value c.args.a_i.now in
+    let value = g.I.Number.value in let matrix = c.args.matrix in let told = c.args.statistics.now in
+    let hold = option_copied c.args.hold in
+    let z : ℤ = value matrix.n in let a_p : List ℤ = map value matrix.a_p.now in let a_i : List ℤ = map value matrix.a_i.now in
     let p : List ℤ = map value c.args.p.now in let q : List ℤ = map value c.args.p_inv.now in
     let e = c.in-Err-Invalid.ensures in
     let refusal = subst (λ r. IsBlockRefusal hold z a_p a_i p q c.args.block.size r) c.in-Err-Invalid.field-0-is e.refusal in
     record {
       status = Invalid;
-      answer = answer_is Invalid _ c.number_of-in-Err-Invalid.ensures;
+      answer = answer_is Invalid _ c.number_of.ensures;
       left = (
         refuses_invalid hold z a_p a_i (memory p q told) refusal,
         λ i. memory (map value (e.kept.0 i)) (map value (e.kept.1 i)) told,
@@ -40,8 +43,9 @@ returns-in-Err-Invalid g c =
 
 pub returns-in-Err-TooLarge : goal.returns-in-Err-TooLarge
 returns-in-Err-TooLarge g c =
-    let value = g.I.Number.value in let told = c.args.statistics.now in let hold = option_copied c.args.hold in
-    let z : ℤ = value c.args.n in let a_p : List ℤ = map value c.args.a_p.now in let a_i : List ℤ = map value c.args.a_i.now in
+    let value = g.I.Number.value in let matrix = c.args.matrix in let told = c.args.statistics.now in
+    let hold = option_copied c.args.hold in
+    let z : ℤ = value matrix.n in let a_p : List ℤ = map value matrix.a_p.now in let a_i : List ℤ = map value matrix.a_i.now in
     let p : List ℤ = map value c.args.p.now in let q : List ℤ = map value c.args.p_inv.now in
     let size = c.args.block.size in let e = c.in-Err-TooLarge.ensures in
     let refusal = subst (λ r. IsBlockRefusal hold z a_p a_i p q size r) c.in-Err-TooLarge.field-0-is e.refusal in
