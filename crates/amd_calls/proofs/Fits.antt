@@ -1,7 +1,7 @@
 -- The numbers that the columns of a factor have are numbers of a type that has the number of its rows, and -1.
 use Rattle.std.proofs.Common.{ℕ, zero, suc, ℤ, pos, negsuc, true, ◌≡◌, ◌<◌, ◌≤◌, ◌+◌, ◌-◌, List, [], ◌∷◌, length, map}
 use Rattle.std.proofs.Common.{refl, sym, ◌∙◌, ap, subst, arith}
-use Rattle.std.specs.Prelude.{◌≤ℤ◌, slice_index, slice_index_or, Option, None, Some}
+use Rattle.std.specs.Prelude.{◌≤ℤ◌, slice_index, slice_index_or, Option, None}
 use Rattle.std.specs.List.Sorted.{IsStrictlyIncreasing}
 use Rattle.std.proofs.lemmas.Int.{ints}
 use Rattle.std.proofs.lemmas.List.{length-map}

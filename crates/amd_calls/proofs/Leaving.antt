@@ -1,7 +1,6 @@
 -- What an ordering leaves in a caller's arrays, and the same for the integers of C, whose values are themselves.
-use Rattle.std.proofs.Common.{ℤ, List, zero, suc, pos, negsuc, ◌≡◌, map, Bool, refl, sym, ◌∙◌, ap, subst, to_z, of_z, w32}
+use Rattle.std.proofs.Common.{ℤ, List, zero, suc, pos, negsuc, ◌≡◌, Bool, refl, sym, ◌∙◌, ap, subst, to_z, of_z, w32}
 use Rattle.std.specs.Prelude.{Option}
-use Rattle.std.proofs.lemmas.Int.{to_z-of_z}
 use Rattle.std.proofs.lemmas.List.{map-id}
 use Rattle.amd_types.specs.Statuses.{IsStatusOf}
 use Rattle.amd_types.specs.declared.amd.Control.{Control}
