@@ -1,5 +1,5 @@
 -- The copies are lists of the same graph, so that what the engine answers of them is an answer of the caller's lists.
-use Rattle.std.proofs.Common.{ℕ, ℤ, List, None, ◌≡◌, length, map, take, drop, refl, sym, ◌∙◌, ap, arith}
+use Rattle.std.proofs.Common.{ℕ, ℤ, List, None, ◌≡◌, length, take, drop, refl, sym, ◌∙◌, ap, arith}
 use Rattle.std.proofs.lemmas.List.{map-id, take_all, take_at}
 use Rattle.amd_engine.proofs.RaisedLists.{answers_same}
 use Rattle.amd_c.proofs.SameLists.{lays_copied}

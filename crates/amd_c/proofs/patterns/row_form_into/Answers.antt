@@ -8,7 +8,7 @@ use Rattle.amd_c.proofs.patterns.row_form_into.Goals as goal
 
 pub returns : goal.returns
 returns g c =
-    let value = g.I.Number.value in
+    let value = g.I.Number.value in let matrix = c.args.matrix in
     let columns = c.in-Ok.columns.items in
     let behind = drop c.len-2.result c.args.indices.now in
     let l = c.len-2.ensures in
@@ -17,13 +17,13 @@ returns g c =
     let m = length-map columns value in
     let size : c.len-2.result ≡ length (map value columns) = omega (arith, l, d, f, m) in
     let pointers = ap (map value) (c.copy_from_slice.ensures.after ∙ c.deref.ensures.value) in
-    let form : IsInput (value c.args.matrix.n) (value c.args.matrix.n) (map value c.args.matrix.a_p.now) (map value c.args.matrix.a_i.now) = search rules in
-    let places : HasPointerPlaces (value c.args.matrix.n) (map value c.args.pointers.now) = search rules in
+    let form : IsInput (value matrix.n) (value matrix.n) (map value matrix.a_p.now) (map value matrix.a_i.now) = search rules in
+    let places : HasPointerPlaces (value matrix.n) (map value c.args.pointers.now) = search rules in
     record {
       form = form;
       places = places;
       indices = map value columns;
-      clean = subst (λ x. IsCleanTranspose (value c.args.matrix.n) (map value c.args.matrix.a_p.now) (map value c.args.matrix.a_i.now) x (map value columns))
+      clean = subst (λ x. IsCleanTranspose (value matrix.n) (map value matrix.a_p.now) (map value matrix.a_i.now) x (map value columns))
           (sym pointers) c.in-Ok.ensures.clean;
       written = map-append value c.copy_from_slice-2.new.self behind
           ∙ ap (λ x. x ++ map value behind) (ap (map value) (c.copy_from_slice-2.ensures.after ∙ c.deref-2.ensures.value))

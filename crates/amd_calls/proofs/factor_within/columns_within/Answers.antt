@@ -41,7 +41,8 @@ columns_inside-requires g c κs within =
 
 pub returns-in-Err-columns_inside-clause-left : goal.returns-in-Err-columns_inside-clause-left
 returns-in-Err-columns_inside-clause-left g c =
-    let value = g.I.Number.value in let a_p : List ℤ = map value c.args.matrix.a_p.now in let a_i : List ℤ = map value c.args.matrix.a_i.now in
+    let value = g.I.Number.value in let matrix = c.args.matrix in
+    let a_p : List ℤ = map value matrix.a_p.now in let a_i : List ℤ = map value matrix.a_i.now in
     let p : List ℤ = map value c.args.p.now in let e = c.in-Err-columns_inside.ensures in
     not-written c.args.most c.in-Ok.size (value c.args.matrix.n) a_p a_i p _ (map value c.args.rows.now) _ c.in-Ok.ensures.size
     (c.have_column_places.ensures.0 c.if-not-have_column_places.false) (length c.args.rows.now) (length-map c.args.rows.now value)
@@ -52,7 +53,8 @@ returns-in-Err-columns_inside-clause-left g c =
 
 pub returns-then-total-most-clause-left : goal.returns-then-total-most-clause-left
 returns-then-total-most-clause-left g c =
-    let value = g.I.Number.value in let a_p : List ℤ = map value c.args.matrix.a_p.now in let a_i : List ℤ = map value c.args.matrix.a_i.now in
+    let value = g.I.Number.value in let matrix = c.args.matrix in
+    let a_p : List ℤ = map value matrix.a_p.now in let a_i : List ℤ = map value matrix.a_i.now in
     let p : List ℤ = map value c.args.p.now in
     let f = subst (λ n. (w : WritesFactor (pos n) a_p a_i p (map value c.args.rows.now) (map value c.columns_inside.new.rows)
     c.columns_inside.new.pointers c.columns_inside.new.parents) × (c.in-Ok-columns_inside.total ≡ length w.entries))

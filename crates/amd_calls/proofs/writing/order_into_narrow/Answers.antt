@@ -13,7 +13,8 @@ use Rattle.amd_calls.proofs.writing.order_into_narrow.Goals as goal
 pub returns-in-Ok : goal.returns-in-Ok
 returns-in-Ok g c =
     let a = c.args in let matrix = a.matrix in let new = c.order_into_narrow.new in let info = c.in-Ok.info in
-    let fits : SFits w32 matrix.n = search rules in let hold = option_copied a.hold in let chosen = c.control_of-control in let tell = c.tell in
+    let fits : SFits w32 matrix.n = search rules in let hold = option_copied a.hold in
+    let chosen = c.control_of-control in let tell = c.tell in
     let ordered = subst (λ n. IsOrderingHolding hold n chosen.result.dense chosen.result.aggressive
     (values matrix.a_p.now) (values matrix.a_i.now) (values new.p) (values new.p_inv) info) (to_z-of_z w32 matrix.n fits)
     c.in-Ok.ensures.ordering in
