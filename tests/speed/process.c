@@ -1,8 +1,8 @@
 /* A stand-in for the clock of the C library and for its requests for memory, to be loaded before a program that times calls:
      cc -O2 -shared -fPIC -o process.so process.c && LD_PRELOAD=./process.so PROGRAM ..
    Each clock tells the processor time of the process, so that other programs on the machine count less. What stands in memory is counted
-   from one reading of the clock to the next, which are the beginning and the end of a call. At the end of the program the greatest peak of
-   a call, in bytes, and how many requests that call made are told on standard error. */
+   from one reading of the clock to the next, which are the beginning and the end of a call; what came before the first reading is none. At
+   the end of the program the greatest peak of a call, in bytes, and how many requests that call made are told on standard error. */
 #include <malloc.h>
 #include <stdio.h>
 #include <sys/syscall.h>
@@ -13,6 +13,7 @@ void *__libc_malloc(size_t), *__libc_calloc(size_t, size_t), *__libc_realloc(voi
 void __libc_free(void *);
 
 static size_t now, base, peak, requests, most, most_requests;
+static int began;
 
 static void *met(void *p) {
     if (p) {
@@ -46,10 +47,11 @@ void free(void *p) {
 }
 
 int clock_gettime(clockid_t id, struct timespec *t) {
-    if (peak - base > most) {
+    if (began && peak - base > most) {
         most = peak - base;
         most_requests = requests;
     }
+    began = 1;
     base = peak = now;
     requests = 0;
     return syscall(SYS_clock_gettime, CLOCK_PROCESS_CPUTIME_ID, t);

@@ -5,33 +5,27 @@
 static struct rimopaku_parameters parameters;
 
 static uint64_t order_i32(const struct matrix *m, int64_t *p) {
+    static int32_t *found, *inverse;
     int64_t n = m->n, entries = m->pointers[n];
-    int32_t *pointers = (int32_t *)room(n + 1, 4), *found = (int32_t *)room(n, 4), *inverse = (int32_t *)room(n, 4);
     struct rimopaku_statistics told;
     uint64_t start, time;
-    for (int64_t k = 0; k <= n; k++) pointers[k] = m->pointers[k];
+    if (!found) found = (int32_t *)room(n, 4), inverse = (int32_t *)room(n, 4);
     start = now();
-    if (rimopaku_order_i32(n, pointers, n + 1, m->rows, entries, &parameters, found, n, inverse, n, &told) < 0) exit(1);
+    if (rimopaku_order_i32(n, m->narrow_pointers, n + 1, m->rows, entries, &parameters, found, n, inverse, n, &told) < 0) exit(1);
     time = now() - start;
     for (int64_t k = 0; k < n; k++) p[k] = found[k];
-    free(pointers);
-    free(found);
-    free(inverse);
     return time;
 }
 
 static uint64_t order_i64(const struct matrix *m, int64_t *p) {
+    static int64_t *inverse;
     int64_t n = m->n, entries = m->pointers[n];
-    int64_t *rows = (int64_t *)room(entries, 8), *inverse = (int64_t *)room(n, 8);
     struct rimopaku_statistics told;
-    uint64_t start, time;
-    for (int64_t k = 0; k < entries; k++) rows[k] = m->rows[k];
+    uint64_t start;
+    if (!inverse) inverse = (int64_t *)room(n, 8);
     start = now();
-    if (rimopaku_order_i64(n, m->pointers, n + 1, rows, entries, &parameters, p, n, inverse, n, &told) < 0) exit(1);
-    time = now() - start;
-    free(rows);
-    free(inverse);
-    return time;
+    if (rimopaku_order_i64(n, m->pointers, n + 1, m->wide_rows, entries, &parameters, p, n, inverse, n, &told) < 0) exit(1);
+    return now() - start;
 }
 
 static uint64_t order(const struct matrix *m, const char *kind, int64_t *p) {

@@ -11,10 +11,11 @@
 #include <string.h>
 #include <time.h>
 
-/* A matrix by columns: the number of its rows, its pointers and its rows. */
+/* A matrix by columns: the number of its rows, its pointers and its rows, in both widths. It is read once, before the first call, as a
+   solver has it: what a driver took and gave back at each call would change which pages the allocator keeps for the ordering. */
 struct matrix {
-    int64_t n, *pointers;
-    int32_t *rows;
+    int64_t n, *pointers, *wide_rows;
+    int32_t *rows, *narrow_pointers;
 };
 
 static uint64_t now(void) {
@@ -42,6 +43,10 @@ static struct matrix read_matrix(const char *path) {
     m.rows = (int32_t *)room(head[1], 4);
     if (fread(m.pointers, 8, head[0] + 1, file) != (size_t)head[0] + 1) exit(1);
     if (fread(m.rows, 4, head[1], file) != (size_t)head[1]) exit(1);
+    m.wide_rows = (int64_t *)room(head[1], 8);
+    m.narrow_pointers = (int32_t *)room(head[0] + 1, 4);
+    for (int64_t k = 0; k < head[1]; k++) m.wide_rows[k] = m.rows[k];
+    for (int64_t k = 0; k <= head[0]; k++) m.narrow_pointers[k] = (int32_t)m.pointers[k];
     fclose(file);
     return m;
 }

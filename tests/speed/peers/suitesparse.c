@@ -6,27 +6,18 @@
 static double control[AMD_CONTROL], info[AMD_INFO];
 
 static uint64_t order(const struct matrix *m, const char *kind, int64_t *p) {
-    int64_t n = m->n, entries = m->pointers[n];
+    static int *found;
+    int64_t n = m->n;
     uint64_t start, time;
-    if (!strcmp(kind, "i32")) {
-        int *pointers = (int *)room(n + 1, 4), *found = (int *)room(n, 4);
-        for (int64_t k = 0; k <= n; k++) pointers[k] = m->pointers[k];
-        start = now();
-        amd_order(n, pointers, m->rows, found, control, info);
-        time = now() - start;
-        for (int64_t k = 0; k < n; k++) p[k] = found[k];
-        free(pointers);
-        free(found);
-    } else {
-        SuiteSparse_long *rows = (SuiteSparse_long *)room(entries, 8), *found = (SuiteSparse_long *)room(n, 8);
-        for (int64_t k = 0; k < entries; k++) rows[k] = m->rows[k];
-        start = now();
-        amd_l_order(n, (SuiteSparse_long *)m->pointers, rows, found, control, info);
-        time = now() - start;
-        for (int64_t k = 0; k < n; k++) p[k] = found[k];
-        free(rows);
-        free(found);
+    if (!found) found = (int *)room(n, 4);
+    start = now();
+    if (strcmp(kind, "i32")) {
+        amd_l_order(n, (SuiteSparse_long *)m->pointers, (SuiteSparse_long *)m->wide_rows, (SuiteSparse_long *)p, control, info);
+        return now() - start;
     }
+    amd_order(n, m->narrow_pointers, m->rows, found, control, info);
+    time = now() - start;
+    for (int64_t k = 0; k < n; k++) p[k] = found[k];
     return time;
 }
 
