@@ -119,8 +119,8 @@ struct Remainder {
 }
 
 impl ListVisitor for Remainder {
-    ghost holds = { λ end all taken first now. IsRemainder taken first.words first.sizes first.visitor.left now.words
-        now.sizes now.visitor.left };
+    ghost holds = { λ end all taken first now. IsRemainder taken first.words first.sizes first.visitor.left
+        now.words now.sizes now.visitor.left };
 
     fn take<S: Signed>(
         &mut self,
