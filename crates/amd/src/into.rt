@@ -45,6 +45,7 @@ pub fn order_into<I: PrimInt, A: Allocator + Copy>(
         (map I.value a_i.now) (map I.value p.old) (map I.value p_inv.old)) }
     ensures kept { IfErr result (λ e. (p.new ≡ p.old) × (p_inv.new ≡ p_inv.old)) }
 {
+    let request = Request { control, hold };
     let Some((size, status)) = valid_rows(n, a_p, a_i, hold, p, p_inv) else {
         return Err(Status::Invalid);
     };
@@ -54,7 +55,6 @@ pub fn order_into<I: PrimInt, A: Allocator + Copy>(
     let Some(jumbled) = jumbled_of(&status) else {
         unreachable!()
     };
-    let request = Request { control, hold };
     let mut info = order_once(alloc, &Matrix { a_p, a_i, jumbled }, &request, p, p_inv)?;
     info.status = status;
     Ok(info)

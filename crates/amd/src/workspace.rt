@@ -225,21 +225,22 @@ impl<A: Allocator + Copy> Workspace<A> {
         n: I,
         a_p: &[I],
         a_i: &[I],
-        control: &Control,
-        hold: Option<&[bool]>,
+        request: &Request<'_>,
         p: &mut [I],
         p_inv: &mut [I],
     ) -> Result<Info, Refusal>
         requires fits { I.fits (I.value n) }
-        ensures ordering { IfOk result (λ info. IsOrderingHolding (option_copied hold.entry) (I.value n)
-            control.now.dense control.now.aggressive (map I.value a_p.now) (map I.value a_i.now) (map I.value p.new)
-            (map I.value p_inv.new) info) }
+        ensures ordering { IfOk result (λ info. IsOrderingHolding (option_copied request.now.hold) (I.value n)
+            request.now.control.now.dense request.now.control.now.aggressive (map I.value a_p.now) (map I.value a_i.now)
+            (map I.value p.new) (map I.value p_inv.new) info) }
         ensures inside { IfOk result (λ info. FitsIn (I.value n) (map I.value a_p.now) self.old.rows self.old.entries) }
-        ensures refusal { IfErr result (IsWithinRefusal (option_copied hold.entry) (I.value n) (map I.value a_p.now)
-            (map I.value a_i.now) (map I.value p.old) (map I.value p_inv.old) self.old.rows self.old.entries) }
+        ensures refusal { IfErr result (IsWithinRefusal (option_copied request.now.hold) (I.value n)
+            (map I.value a_p.now) (map I.value a_i.now) (map I.value p.old) (map I.value p_inv.old) self.old.rows
+            self.old.entries) }
         ensures kept { IfErr result (λ e. (p.new ≡ p.old) × (p_inv.new ≡ p_inv.old) × (self.new ≡ self.old)) }
         ensures made { (self.new.rows ≡ self.old.rows) × (self.new.entries ≡ self.old.entries) }
     {
+        let hold = request.hold;
         let (size, status) = fitting_rows(n, a_p, a_i, hold, p, p_inv, self.rows, self.entries)?;
         let mut info = Info::new(size);
         if size == 0 {
@@ -249,8 +250,7 @@ impl<A: Allocator + Copy> Workspace<A> {
             unreachable!()
         };
         info.status = status;
-        let request = Request { control, hold };
-        self.widths.order(&Matrix { a_p, a_i, jumbled }, &request, p, p_inv, &mut info);
+        self.widths.order(&Matrix { a_p, a_i, jumbled }, request, p, p_inv, &mut info);
         Ok(info)
     }
 
@@ -289,7 +289,8 @@ impl<A: Allocator + Copy> Workspace<A> {
         ensures kept { IfErr result (λ e. (p.new ≡ p.old) × (p_inv.new ≡ p_inv.old) × (self.new ≡ self.old)) }
         ensures made { (self.new.rows ≡ self.old.rows) × (self.new.entries ≡ self.old.entries) }
     {
-        self.order_marked(n, a_p, a_i, control, None, p, p_inv)
+        let hold = None;
+        self.order_marked(n, a_p, a_i, &Request { control, hold }, p, p_inv)
     }
 
     /// Orders as [`Workspace::order`] does, with the rows marked in `hold` held last beside the dense ones, as
@@ -321,6 +322,7 @@ impl<A: Allocator + Copy> Workspace<A> {
         ensures kept { IfErr result (λ e. (p.new ≡ p.old) × (p_inv.new ≡ p_inv.old) × (self.new ≡ self.old)) }
         ensures made { (self.new.rows ≡ self.old.rows) × (self.new.entries ≡ self.old.entries) }
     {
-        self.order_marked(n, a_p, a_i, control, Some(hold), p, p_inv)
+        let hold = Some(hold);
+        self.order_marked(n, a_p, a_i, &Request { control, hold }, p, p_inv)
     }
 }
