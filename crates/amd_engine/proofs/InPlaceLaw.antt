@@ -25,14 +25,9 @@ use Rattle.amd_workspace.proofs.Begun.{rows_of, begun_view, begun_laid, listed_r
 use Rattle.amd_workspace.proofs.AtStart.{stands_at_start}
 use Rattle.amd_workspace.specs.declared.rows.RowLists.{RowLists}
 use Rattle.amd_engine.specs.declared.running.Numbers.{Numbers}
-use Rattle.amd_engine.specs.declared.running.Told.{Told}
 use Rattle.amd_engine.specs.InPlace.{AreOver, LaysGraph, RunsInPlace, StandsAtStart, first_sums, workspace_in}
 use Rattle.amd_engine.proofs.EndingLaw.{is_over}
 use Rattle.amd_engine_law.proofs.EngineLaw.{degree_small}
-
--- what a run tells that ended with these numbers
-abbrev pub told_of : Numbers → Told
-told_of numbers = record { n_dense = numbers.n_dense; n_cmp_a = numbers.n_cmp_a; figures = numbers.figures }
 
 -- lists that are lent on are those that were lent
 pub keeps_rows : {S P U : Type 0} (a b c : RowLists S P U) → KeepsRows a b → KeepsRows b c → KeepsRows a c
@@ -147,11 +142,11 @@ module _ {S P U : Type 0} (hold : Option (List Bool)) (threshold : ℕ) (aggress
   pub is_sized : (g : Graph) (lists : ℕ → List ℕ) → LaysGraph g lists iw pe len → IsSized (length len) (workspace_in words rows numbers)
   is_sized g lists lays = subst (λ n. IsSized n after) (sym lays.neighbours.size) (reached g lists lays).1.2.laid.sized
 
-  pub packs_few : (g : Graph) (lists : ℕ → List ℕ) → LaysGraph g lists iw pe len → numbers.n_cmp_a ≤ length len
+  pub packs_few : (g : Graph) (lists : ℕ → List ℕ) → LaysGraph g lists iw pe len → numbers.told.n_cmp_a ≤ length len
   packs_few g lists lays = let p = (reached g lists lays).1.2.laid.packs in let s = lays.neighbours.size in omega (arith, p, s)
 
   module _ (over : NoRowIsLive (workspace_in words rows numbers)) where
-    pub runs_in_place : RunsInPlace hold threshold aggressive iw pe len (told_of numbers) rows
+    pub runs_in_place : RunsInPlace hold threshold aggressive iw pe len numbers.told rows
     runs_in_place g lists lays =
         let dense : ℕ → Bool = is_held_last hold g threshold in
         let from = start g lists lays in let to = reached g lists lays in let stands = to.1.2 in let k = stands.view.fronts in record {
@@ -187,7 +182,7 @@ module _ {S P U : Type 0} (hold : Option (List Bool)) (threshold : ℕ) (aggress
       words = (z.pe, z.e_len, z.nv, z.degree);
       counters = z.w;
       links = (z.head, z.len);
-      ends = λ link f_size blocks ends link_long f_size_long blocks_long. is_over hold threshold aggressive iw pe len (told_of numbers)
+      ends = λ link f_size blocks ends link_long f_size_long blocks_long. is_over hold threshold aggressive iw pe len numbers.told
           rows runs_in_place link f_size blocks ends link_long f_size_long blocks_long g lists lays;
     }
 

@@ -58,9 +58,9 @@ workspace_in iw rows numbers = record {
   least = numbers.least;
   flag = numbers.flag;
   most = numbers.most;
-  n_cmp_a = numbers.n_cmp_a;
-  n_dense = numbers.n_dense;
-  figures = numbers.figures;
+  n_cmp_a = numbers.told.n_cmp_a;
+  n_dense = numbers.told.n_dense;
+  figures = numbers.told.figures;
 }
 
 -- lists that are laid, and the others that are lent for their rows

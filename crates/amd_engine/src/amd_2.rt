@@ -33,10 +33,10 @@ use std::alloc::{AllocError, Allocator};
 fn eliminate_lent<S: Signed, P: Signed, U: Unsigned>(
     iw: &mut [Word<S>],
     laid: &mut Laid<'_, '_, '_, '_, P, U>,
-    e_len: &mut [Word<P>],
-    nv: &mut [Word<S>],
-    w: &mut [Cell<U>],
     head: &mut [Cell<U>],
+    w: &mut [Cell<U>],
+    nv: &mut [Word<S>],
+    e_len: &mut [Word<P>],
     sides: &mut [Sides<U>],
     hash: &mut [Cell<U>],
 ) -> Told
@@ -57,15 +57,15 @@ fn eliminate_lent<S: Signed, P: Signed, U: Unsigned>(
 {
     let threshold = dense_threshold(laid.len.len(), laid.choice.control);
     let mut rows = RowLists {
-        pe: laid.pe,
-        len: laid.len,
-        e_len,
-        nv,
-        degree: laid.degree,
-        w,
         head,
+        w,
+        nv,
+        e_len,
         sides,
         hash,
+        pe: laid.pe,
+        len: laid.len,
+        degree: laid.degree,
     };
     let told = run(iw, &mut rows, laid.free, threshold, laid.choice);
     list_rows(&mut rows);
@@ -132,10 +132,10 @@ pub fn amd_2_from<I: Index, S: Signed, P: Signed, U: Unsigned, A: Allocator + Co
     let told = eliminate_lent(
         iw,
         &mut laid,
-        &mut lists.e_len,
-        &mut nv,
-        &mut lists.w,
         &mut lists.head,
+        &mut lists.w,
+        &mut nv,
+        &mut lists.e_len,
         &mut lists.sides,
         &mut lists.hash,
     );

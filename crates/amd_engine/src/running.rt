@@ -25,6 +25,17 @@ use amd_workspace::rows::RowLists;
 use amd_workspace::starting::begin_rows;
 use std::alloc::Allocator;
 
+/// What a run tells, of the rounds so far or at its end.
+#[derive(Drop)]
+pub struct Told {
+    /// The number of rows held last.
+    pub n_dense: usize,
+    /// How often the workspace was compacted: at most once for each row.
+    pub n_cmp_a: usize,
+    /// The figures of the fronts.
+    pub figures: Figures,
+}
+
 /// The numbers of an elimination between two rounds, beside its lists.
 #[derive(Drop)]
 pub struct Numbers {
@@ -38,23 +49,8 @@ pub struct Numbers {
     pub flag: usize,
     /// The number of rows of the greatest border so far.
     pub most: usize,
-    /// How often the workspace was compacted.
-    pub n_cmp_a: usize,
-    /// The number of rows held last.
-    pub n_dense: usize,
-    /// The figures of the fronts so far.
-    pub figures: Figures,
-}
-
-/// What a run tells at its end.
-#[derive(Drop)]
-pub struct Told {
-    /// The number of rows held last.
-    pub n_dense: usize,
-    /// How often the workspace was compacted: at most once for each row.
-    pub n_cmp_a: usize,
-    /// The figures of the fronts.
-    pub figures: Figures,
+    /// What the rounds so far tell.
+    pub told: Told,
 }
 
 /// The figures before the first round: the rows held last are a front.
@@ -84,7 +80,7 @@ fn start<S: Signed, P: Signed, U: Unsigned>(
     requires flag { 2 ≤ choice.now.flag }
     ensures starts { (iw : List ℤ) → CanRun iw free rows.old → StandsAtStart (option_copied choice.now.hold) threshold
         iw rows.old.pe.now rows.old.len.now (workspace_in iw rows.new result) }
-    ensures unpacked { result.n_cmp_a ≡ 0 }
+    ensures unpacked { result.told.n_cmp_a ≡ 0 }
     ensures loans { KeepsRows rows.old rows.new }
 {
     let (live, n_dense) = begin_rows(rows, choice.hold, threshold);
@@ -94,9 +90,11 @@ fn start<S: Signed, P: Signed, U: Unsigned>(
         least: 0,
         flag: choice.flag,
         most: 0,
-        n_cmp_a: 0,
-        n_dense,
-        figures: first_figures(n_dense),
+        told: Told {
+            n_dense,
+            n_cmp_a: 0,
+            figures: first_figures(n_dense),
+        },
     }
 }
 
@@ -152,9 +150,9 @@ fn advance<S: Signed, P: Signed, U: Unsigned>(
         least: numbers.least,
         flag: numbers.flag,
         most: numbers.most,
-        n_cmp_a: numbers.n_cmp_a,
-        n_dense: numbers.n_dense,
-        figures: numbers.figures,
+        n_cmp_a: numbers.told.n_cmp_a,
+        n_dense: numbers.told.n_dense,
+        figures: numbers.told.figures,
     };
     eliminate_up_to(&mut work, control, room);
     Numbers {
@@ -163,9 +161,11 @@ fn advance<S: Signed, P: Signed, U: Unsigned>(
         least: work.least,
         flag: work.flag,
         most: work.most,
-        n_cmp_a: work.n_cmp_a,
-        n_dense: work.n_dense,
-        figures: work.figures,
+        told: Told {
+            n_dense: work.n_dense,
+            n_cmp_a: work.n_cmp_a,
+            figures: work.figures,
+        },
     }
 }
 
@@ -201,11 +201,7 @@ pub fn run<S: Signed, P: Signed, U: Unsigned>(
     let first = start(rows, free, threshold, choice);
     let room = iw.len();
     let last = advance(iw, rows, first, room, choice.control);
-    Told {
-        n_dense: last.n_dense,
-        n_cmp_a: last.n_cmp_a,
-        figures: last.figures,
-    }
+    last.told
 }
 
 /// Where fewer words than rows are live are free, appends as many as rows are live to the workspace, up to `room` words
@@ -262,9 +258,5 @@ pub fn run_growing<S: Signed, P: Signed, U: Unsigned, A: Allocator>(
         grow(iw, numbers.free, numbers.live, room);
         numbers = advance(iw, rows, numbers, room, choice.control);
     }
-    Told {
-        n_dense: numbers.n_dense,
-        n_cmp_a: numbers.n_cmp_a,
-        figures: numbers.figures,
-    }
+    numbers.told
 }

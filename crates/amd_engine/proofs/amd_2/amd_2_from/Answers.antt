@@ -9,9 +9,9 @@ use Rattle.amd_engine.proofs.amd_2.amd_2_from.Goals as goal
 
 pub eliminate_lent-told-requires-clause-can : goal.eliminate_lent-told-requires-clause-can
 eliminate_lent-told-requires-clause-can g c = let r = c.requires in record {
-  empty = lent_empty _ c.fill_lists.ensures.fresh refl c.deref_mut-2.ensures.value
-      (ap length (c.deref_mut-3.ensures.value ∙ c.in_ok-nv.ensures) ∙ length-replicate (length c.args.len.now) _)
-      c.deref_mut.ensures.value c.deref_mut-4.ensures.value c.deref_mut-5.ensures.value c.deref_mut-6.ensures.value
+  empty = lent_empty _ c.fill_lists.ensures.fresh refl c.deref_mut-5.ensures.value
+      (ap length (c.deref_mut-4.ensures.value ∙ c.in_ok-nv.ensures) ∙ length-replicate (length c.args.len.now) _)
+      c.deref_mut.ensures.value c.deref_mut-3.ensures.value c.deref_mut-2.ensures.value c.deref_mut-6.ensures.value
       c.deref_mut-7.ensures.value;
   laid = r.laid;
   room = r.room;
@@ -27,7 +27,7 @@ record AreListed (g : Over) (c : After-deref-2 g) : Type 0 where
 are_listed : (g : Over) (c : After-deref-2 g) → AreListed g c
 are_listed g c =
     let n : ℕ = length c.args.len.now in let told = c.eliminate_lent-told in let new = told.new in let l = c.fill_lists.new.lists in
-    let head = told.auto.head ∙ ap length c.deref_mut-5.ensures.value in let w = told.auto.w ∙ ap length c.deref_mut-4.ensures.value in
+    let head = told.auto.head ∙ ap length c.deref_mut-2.ensures.value in let w = told.auto.w ∙ ap length c.deref_mut-3.ensures.value in
     record {
       head = c.deref.ensures.value ∙ take_at new.head (drop (length new.head) l.head.items) l.head.len (head ∙ sym l.head.ok.0);
       w = c.deref-2.ensures.value ∙ take_at new.w (drop (length new.w) l.w.items) l.w.len (w ∙ sym l.w.ok.0);
@@ -61,8 +61,8 @@ returns-clause-orders g c = λ graph lists lays.
     let q_is = take_at new.p_inv (drop (length new.p_inv) c.in_ok-p_inv.p_inv.items) c.in_ok-p_inv.p_inv.len
     (c.finish.auto.p_inv ∙ ap length c.deref_mut-9.ensures.value ∙ sym c.in_ok-p_inv.p_inv.ok.0) in
     let nv_is = take_at told.new.nv (drop (length told.new.nv) c.in_ok-nv.nv.items) c.in_ok-nv.nv.len
-    (told.auto.nv ∙ ap length c.deref_mut-3.ensures.value ∙ sym c.in_ok-nv.nv.ok.0) in
+    (told.auto.nv ∙ ap length c.deref_mut-4.ensures.value ∙ sym c.in_ok-nv.nv.ok.0) in
     let e_len_is = take_at told.new.e_len (drop (length told.new.e_len) l.e_len.items) l.e_len.len
-    (told.auto.e_len ∙ ap length c.deref_mut-2.ensures.value ∙ sym l.e_len.ok.0) in
+    (told.auto.e_len ∙ ap length c.deref_mut-5.ensures.value ∙ sym l.e_len.ok.0) in
     rw (p_is, q_is, nv_is, e_len_is, order.0, order.1, c.finish.ensures.tells, b.head, b.w, c.pe-1.given.1.1 (sym told.ensures.loans.0))
     (told.ensures.orders graph lists c.args.info.now lays)

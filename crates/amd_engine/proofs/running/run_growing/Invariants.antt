@@ -13,7 +13,7 @@ invariant-growths g l = record {
       × StandsAtStart (option_copied l.choice.hold) l.threshold l.fn.iw.items l.fn.rows.pe.now l.fn.rows.len.now before
       × AreRounds l.choice.control.now.aggressive before (workspace_in l.iw.items l.rows l.numbers);
   room : (length l.iw.items ≤ l.room) × (l.room ≤ vec_capacity l.iw);
-  unpacked : length l.iw.items < l.room → l.numbers.n_cmp_a ≡ 0;
+  unpacked : length l.iw.items < l.room → l.numbers.told.n_cmp_a ≡ 0;
   capacity : vec_capacity l.iw ≡ vec_capacity l.fn.iw;
   loans : KeepsRows l.fn.rows l.rows;
 }
