@@ -140,8 +140,7 @@ pub extern "C" fn rimopaku_columns_within_i32(
 {
     let most = i32::MAX as usize;
     let matrix = Matrix { n, a_p, a_i };
-    let outcome = columns_within(lent, most, matrix, p, ptr, rows, parent);
-    number_of_end(&outcome)
+    number_of_end(&columns_within(lent, most, matrix, p, ptr, rows, parent))
 }
 
 /// Writes how many entries each column of a factor has, in memory that is lent, as `counts` of the crate `amd_symbolic`
@@ -174,6 +173,5 @@ pub extern "C" fn rimopaku_counts_within_i32(
         (tallies sizes.new parent.new needs.new) result }
 {
     let matrix = Matrix { n, a_p, a_i };
-    let outcome = counts_within(lent, matrix, p, sizes, parent, needs);
-    number_of_end(&outcome)
+    number_of_end(&counts_within(lent, matrix, p, sizes, parent, needs))
 }

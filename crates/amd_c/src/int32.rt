@@ -134,8 +134,7 @@ pub extern "C" fn rimopaku_columns_i32(
         (arrays ptr.new rows.new parent.new) result }
 {
     let matrix = Matrix { n, a_p, a_i };
-    let outcome = columns_into(alloc, matrix, p, ptr, rows, parent);
-    number_of_end(&outcome)
+    number_of_end(&columns_into(alloc, matrix, p, ptr, rows, parent))
 }
 
 /// Writes how many entries each column of a factor has, as `counts` of the crate `amd_symbolic` returns it, and returns
@@ -168,8 +167,7 @@ pub extern "C" fn rimopaku_counts_i32(
         (tallies sizes.new parent.new needs.new) result }
 {
     let matrix = Matrix { n, a_p, a_i };
-    let outcome = counts_into(alloc, matrix, p, sizes, parent, needs);
-    number_of_end(&outcome)
+    number_of_end(&counts_into(alloc, matrix, p, sizes, parent, needs))
 }
 
 /// Writes how much room the supernodes of a factor need, as `supernode_sizes` of the crate `amd_symbolic` returns it,
@@ -198,8 +196,7 @@ pub extern "C" fn rimopaku_supernode_sizes_i32(
     ensures { SizesInto n a_p.now a_i.now p.now sizes.old sizes.new result }
 {
     let matrix = Matrix { n, a_p, a_i };
-    let outcome = supernode_sizes_into(alloc, matrix, p, sizes);
-    number_of_end(&outcome)
+    number_of_end(&supernode_sizes_into(alloc, matrix, p, sizes))
 }
 
 /// Writes the supernodes of a factor, as `supernodes` of the crate `amd_symbolic` returns them, and returns 0.
@@ -236,8 +233,7 @@ pub extern "C" fn rimopaku_supernodes_i32(
 {
     let sizes = &mut sizes_of(0, 0);
     let matrix = Matrix { n, a_p, a_i };
-    let outcome = supernodes_and_sizes_into(alloc, matrix, p, first, ptr, rows, parent, sizes);
-    number_of_end(&outcome)
+    number_of_end(&supernodes_and_sizes_into(alloc, matrix, p, first, ptr, rows, parent, sizes))
 }
 
 /// Writes the supernodes of a factor as `rimopaku_supernodes_i32`, and how much room they need into `sizes`, and
@@ -266,8 +262,7 @@ pub extern "C" fn rimopaku_supernodes_and_sizes_i32(
         (blocks first.new ptr.new rows.new parent.new) sizes.old sizes.new result }
 {
     let matrix = Matrix { n, a_p, a_i };
-    let outcome = supernodes_and_sizes_into(alloc, matrix, p, first, ptr, rows, parent, sizes);
-    number_of_end(&outcome)
+    number_of_end(&supernodes_and_sizes_into(alloc, matrix, p, first, ptr, rows, parent, sizes))
 }
 
 /// Writes the degrees of the rows of a matrix by the pattern of `A + A'`, as `aat` of the crate `amd`, and returns 0.
@@ -295,8 +290,7 @@ pub extern "C" fn rimopaku_aat_i32(
         (counted degrees.new statistics.new) result }
 {
     let matrix = Matrix { n, a_p, a_i };
-    let outcome = degrees_into(alloc, matrix, degrees, statistics);
-    number_of_end(&outcome)
+    number_of_end(&degrees_into(alloc, matrix, degrees, statistics))
 }
 
 /// Writes the row form of a matrix, as `preprocess` of the crate `amd` returns it, and returns 0.
@@ -325,8 +319,7 @@ pub extern "C" fn rimopaku_preprocess_i32(
         (row_arrays pointers.new indices.new) result }
 {
     let matrix = Matrix { n, a_p, a_i };
-    let outcome = row_form_into(alloc, matrix, pointers, indices);
-    number_of_end(&outcome)
+    number_of_end(&row_form_into(alloc, matrix, pointers, indices))
 }
 
 /// Writes the postorder of an assembly tree, as `postorder` of the crate `amd_postorder`, and returns the number of the

@@ -6,6 +6,6 @@ use Rattle.amd_bare.proofs.int32.rimopaku_counts_within_i32.Goals as goal
 pub returns : goal.returns
 returns c =
     let a = c.args in
-    let call = c.counts_within-outcome in
+    let call = c.counts_within in
     counts_within _ a.n a.a_p.now a.a_i.now a.p.now a.lent.size a.sizes.now a.parent.now call.new.sizes call.new.parent a.needs.now
     call.new.needs call.result _ (to_z-of_z w32 a.n c.ranges.n) call.ensures.left call.ensures.block c.number_of_end.ensures

@@ -6,7 +6,7 @@ use Rattle.amd_c.proofs.int32.rimopaku_columns_i32.Goals as goal
 pub returns : goal.returns
 returns c =
     let a = c.args in
-    let call = c.columns_into-outcome in
+    let call = c.columns_into in
     columns_into _ a.n a.a_p.now a.a_i.now a.p.now a.ptr.now a.rows.now a.parent.now call.new.ptr call.new.rows call.new.parent
     call.result _
     (to_z-of_z w32 a.n c.ranges.n) call.ensures c.number_of_end.ensures

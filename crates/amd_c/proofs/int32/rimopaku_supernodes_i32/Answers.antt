@@ -6,6 +6,6 @@ use Rattle.amd_c.proofs.int32.rimopaku_supernodes_i32.Goals as goal
 pub returns : goal.returns
 returns c =
     let a = c.args in
-    let call = c.supernodes_and_sizes_into-outcome in
+    let call = c.supernodes_and_sizes_into in
     supernodes_into _ a.n a.a_p.now a.a_i.now a.p.now a.first.now a.ptr.now a.rows.now a.parent.now call.new.first call.new.ptr
     call.new.rows call.new.parent call.result _ (to_z-of_z w32 a.n c.ranges.n) call.ensures.left c.number_of_end.ensures

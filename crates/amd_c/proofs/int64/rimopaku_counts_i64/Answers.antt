@@ -6,7 +6,7 @@ use Rattle.amd_c.proofs.int64.rimopaku_counts_i64.Goals as goal
 pub returns : goal.returns
 returns c =
     let a = c.args in
-    let call = c.counts_into-outcome in
+    let call = c.counts_into in
     counts_into _ a.n a.a_p.now a.a_i.now a.p.now a.sizes.now a.parent.now call.new.sizes call.new.parent a.needs.now call.new.needs
     call.result _
     (to_z-of_z w64 a.n c.ranges.n) call.ensures c.number_of_end.ensures
