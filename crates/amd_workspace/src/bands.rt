@@ -18,11 +18,14 @@ use amd_types::internal::count_at;
 use amd_words::{Cell, Signed, Unsigned, Word, cell_at, cell_of, put_cell, row_at};
 use std::alloc::Allocator;
 
-/// In so many bands of rows the lists of a large matrix are written whose rows stand in any order.
+/// The most bands of rows in which the lists of a large matrix are written whose rows stand in any order.
 const BANDS: usize = 8;
 
+/// The lists of a band have so many words, where that makes no more bands.
+const BAND_WORDS: usize = 1 << 20;
+
 /// A workspace with so many words is large.
-const LARGE: usize = 1 << 20;
+const LARGE: usize = 1 << 21;
 
 /// So many columns are looked at.
 const SAMPLES: usize = 64;
@@ -81,6 +84,13 @@ fn spread_band<S: Signed, U: Unsigned>(
     }
 }
 
+/// In how many bands the lists are written that have so many words: two or more. Each band begins all columns anew.
+fn band_count(words: usize) -> usize
+    ensures { 0 < result }
+{
+    (words / BAND_WORDS).max(2).min(BANDS)
+}
+
 /// Writes the earlier neighbours of all rows as `spread_lists`, but of each column in turn only those of one band of
 /// rows, so that the words that are written are close together. The rows of each column below the diagonal stand from
 /// the word `heads[j]` on; what `heads` holds afterwards is not said.
@@ -98,7 +108,7 @@ fn spread_bands<S: Signed, U: Unsigned>(
         HoldsLists m.n m.ap m.ai degrees.now iw.new }
 {
     let n = degrees.len();
-    let width = n / BANDS + 1;
+    let width = n.div_ceil(band_count(iw.len())).max(1);
     let mut lo = 0;
     'bands: while lo < n {
         let hi = if n - lo < width { n } else { lo + width };
