@@ -562,7 +562,7 @@ test("by the keyboard alone", async () => {
   for (const [k, it] of wanted.entries()) assert.ok(met.includes(it), `${it} (${k}) is not met: ${met}`);
   await browser.press("Enter");
   await browser.until("document.getElementById('contracts').open");
-  assert.match(await text("#contracts"), /rimopaku_order_within_i32[^]*ensures[^]*OrdersWithin[^]*ColumnsInto[^]*CountsInto/);
+  assert.match(await text("#contracts"), /rimopaku_order_within_i32[^]*ensures[^]*OrdersWithin[^]*ColumnsWithin[^]*CountsWithin/);
 });
 
 test("what a screen reader is told has names", { skip: isFirefox && "Marionette tells no tree of accessibility" }, async () => {
