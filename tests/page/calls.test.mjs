@@ -1,5 +1,5 @@
 // Tests the calls that the page shows for C, Python, Rust and JavaScript, and the files that it writes: each is run as it stands,
-// and gives the order of the package in the folder RIMOPAKU_JS. PREBUILT is a folder with the archives of the C library. CC, PYTHON
+// and gives the order of the package in the folder RIMOPAKU_JS. ARCHIVES is a folder with the archives of the C library. CC, PYTHON
 // and CARGO name the programs.
 import assert from "node:assert/strict";
 import { execFileSync, spawnSync } from "node:child_process";
@@ -14,7 +14,7 @@ import { fileOf } from "./files.mjs";
 
 const top = resolve(dirname(fileURLToPath(import.meta.url)), "../..");
 const machine = process.arch === "arm64" ? "aarch64" : "x86_64";
-const { CC = "cc", CARGO = "cargo", PREBUILT = join(top, "prebuilt", `${machine}-linux`) } = process.env;
+const { CC = "cc", CARGO = "cargo", ARCHIVES = join(top, "prebuilt", `${machine}-linux`) } = process.env;
 const REGISTRY = process.env.CARGO_REGISTRY ?? "/usr/share/cargo/registry";
 const load = (name) => import(pathToFileURL(join(resolve(process.env.RIMOPAKU_JS), name)));
 const { order, orderHolding } = await load("index.js");
@@ -58,14 +58,14 @@ int main(void)
 }\n`;
     const [file, program] = [join(folder, "call.c"), join(folder, "call")];
     writeFileSync(file, source);
-    const archives = ["libamd_c.a", "liblibc_c.a"].map((it) => join(PREBUILT, it));
+    const archives = ["libamd_c.a", "liblibc_c.a"].map((it) => join(ARCHIVES, it));
     execFileSync(CC, ["-std=c99", "-Wall", "-Wextra", "-Werror", `-I${top}/include`, file, ...archives, "-o", program]);
     assert.deepEqual(execFileSync(program, { encoding: "utf8" }).trim().split(" ").map(Number), orderOf(options));
   }
 });
 
 test("the calls of Python", { skip: !PYTHON && "no Python with scipy here" }, () => {
-  const own = { PYTHONPATH: join(top, "bindings/python"), RIMOPAKU_LIBRARY: join(PREBUILT, "librimopaku.so.1") };
+  const own = { PYTHONPATH: join(top, "bindings/python"), RIMOPAKU_LIBRARY: join(ARCHIVES, "librimopaku.so.1") };
   const env = { ...process.env, ...own, PYTHONDONTWRITEBYTECODE: "1" };
   for (const options of OPTIONS) {
     const told = execFileSync(PYTHON, ["-c", `${CODE.python(options)}\nprint(list(map(int, p)))`], { encoding: "utf8", cwd: folder, env });
@@ -84,7 +84,7 @@ test("the calls of JavaScript", async () => {
 });
 
 const OFFLINE = ["-q", "--offline", "--config", 'source.crates-io.replace-with="local"', "--config", `source.local.directory="${REGISTRY}"`];
-const cargo = (at, ...words) => execFileSync(CARGO, [...words, ...OFFLINE], { encoding: "utf8", cwd: at, env: { ...process.env, RIMOPAKU_LIB_DIR: PREBUILT } });
+const cargo = (at, ...words) => execFileSync(CARGO, [...words, ...OFFLINE], { encoding: "utf8", cwd: at, env: { ...process.env, RIMOPAKU_LIB_DIR: ARCHIVES } });
 
 test("the calls of Rust", { skip: !(runs(CARGO, "--version") && runs("ls", REGISTRY)) && `no ${CARGO} or no ${REGISTRY} here` }, () => {
   const crate = join(folder, "crate");
