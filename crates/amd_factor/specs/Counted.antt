@@ -1,5 +1,5 @@
 -- What `counts` answers.
-use Rattle.std.specs.Prelude.{ℕ, ℤ, pos, ◌≡◌, ◌≢◌, ◌≤◌, ◌<◌, List, Option, unsigned_abs, min, sum, slice_index}
+use Rattle.std.specs.Prelude.{ℕ, ℤ, pos, ◌≡◌, ◌≢◌, ◌≤◌, ◌<◌, ◌+◌, ◌*◌, List, Option, unsigned_abs, min, sum, slice_index}
 use Rattle.amd_model.specs.Factor.{needed, needed_front}
 use Rattle.amd_model.specs.Figures.{entries, ldl_steps, lu_steps}
 use Rattle.amd_model.specs.Graph.{Graph}
@@ -7,6 +7,7 @@ use Rattle.amd_model.specs.Input.Columns.{IsInput}
 use Rattle.amd_model.specs.Input.Pattern.{graph_of}
 use Rattle.amd_factor.specs.Sizes.{HoldSizes}
 use Rattle.amd_factor.specs.Orders.{Permutes}
+use Rattle.amd_factor.specs.declared.counted.Sums.{Sums}
 use Rattle.amd_factor.specs.declared.factor.Fault.{Fault}
 use Rattle.amd_factor.specs.declared.factor.Fault.TheVariants.{NotColumnForm, NotPermutation, RoomTooSmall}
 use Rattle.amd_factor.specs.declared.factor.Fault.TheVariants.{OutOfMemory}
@@ -24,6 +25,13 @@ pub record IsCutNeed (columns : List (List ℕ)) (need : Need) : Type 0 where
   pub ldl : need.n_mult_subs_ldl ≡ wide_cut (needed ldl_steps columns)
   pub lu : need.n_mult_subs_lu ≡ wide_cut (needed lu_steps columns)
   pub greatest : need.d_max ≡ needed_front columns
+
+-- sums over these columns, of their entries and of the squares of these, from which the needs follow
+pub record SumUp (columns : List (List ℕ)) (sums : Sums) : Type 0 where
+  pub lnz : sums.entries ≡ needed entries columns
+  pub ldl : 2 * needed ldl_steps columns ≡ sums.squares + sums.entries
+  pub lu : sums.squares ≡ needed lu_steps columns
+  pub greatest : sums.greatest ≡ needed_front columns
 
 -- the sizes of the columns of the factor of the graph under the order p of its rows, the parents, and the needs
 pub record TellCounts (g : Graph) (p sizes : List ℕ) (parent : List (Option ℕ)) (need : Need) : Type 0 where

@@ -5,7 +5,7 @@ ghost use Rattle.std.specs.Prelude.{◌≡◌, ◌+◌, ◌*◌, ◌/◌, [], le
 ghost use Rattle.amd_model.specs.Graph.{IsGraph};
 ghost use Rattle.amd_factor.specs.Neighbours.{HasEarlier};
 ghost use Rattle.amd_factor.specs.Orders.{Order};
-ghost use Rattle.amd_factor.specs.Counted.{IsCutNeed, TellCounts, wide_cut};
+ghost use Rattle.amd_factor.specs.Counted.{IsCutNeed, SumUp, TellCounts, wide_cut};
 ghost use Rattle.amd_factor.specs.Sizes.{HoldSizes};
 ghost use Rattle.amd_factor.specs.Thinning.{HasThinned, Thins};
 ghost use Rattle.amd_factor.specs.Walks.{TellParents};
@@ -47,11 +47,8 @@ fn with_size(need: Need, size: usize) -> Need
     }
 }
 
-/// What a factor needs, by how many entries each of its columns has. Each sum is cut at `u128::MAX`; none reaches that
-/// where there are fewer than `2^42` columns.
-///
-/// Source: AMD user guide (the figures of `Info`).
-pub fn need_of_sizes(sizes: &[usize]) -> Need
+/// What a factor needs, by how many entries each of its columns has, where a sum may pass 64 bits.
+fn wide_need(sizes: &[usize]) -> Need
     ensures { (columns : List (List ℕ)) → sizes.now ≡ map length columns → IsCutNeed columns result }
 {
     let mut need = Need {
@@ -64,6 +61,72 @@ pub fn need_of_sizes(sizes: &[usize]) -> Need
         need = with_size(need, size);
     }
     need
+}
+
+/// Sums over the columns of a factor, in 64 bits.
+#[derive(Clone, Copy)]
+struct Sums {
+    /// Of their entries, and of the squares of these.
+    entries: usize,
+    squares: usize,
+    /// The entries of the largest column, with that on the diagonal; 0 where there are no columns.
+    greatest: usize,
+}
+
+/// The sums with one column more; none where one of them passes 64 bits.
+fn next_sums(sums: Sums, size: usize) -> Option<Sums>
+    ensures { MatchOption result (Unit {0}) (λ next. (next.entries ≡ sums.entries + size) ×
+        (next.squares ≡ sums.squares + size * size) × (next.greatest ≡ max sums.greatest (size + 1))) }
+{
+    Some(Sums {
+        entries: sums.entries.checked_add(size)?,
+        squares: sums.squares.checked_add(size.checked_mul(size)?)?,
+        greatest: sums.greatest.max(size.checked_add(1)?),
+    })
+}
+
+/// The sums over all columns, by how many entries each has; none where one of them passes 64 bits.
+fn sums_of(sizes: &[usize]) -> Option<Sums>
+    ensures { MatchOption result (Unit {0}) (λ sums. (columns : List (List ℕ)) → sizes.now ≡ map length columns →
+        SumUp columns sums) }
+{
+    let mut sums = Sums {
+        entries: 0,
+        squares: 0,
+        greatest: 0,
+    };
+    'columns: for &size in sizes {
+        sums = next_sums(sums, size)?;
+    }
+    Some(sums)
+}
+
+/// What a factor needs by these sums: a column of `s` entries takes `s * (s + 1) / 2` steps of a factorization `LDL'`,
+/// half of `s * s + s`.
+fn need_of_sums(sums: Sums) -> Need
+    ensures { (columns : List (List ℕ)) → SumUp columns sums → IsCutNeed columns result }
+{
+    let entries = sums.entries as u128;
+    let squares = sums.squares as u128;
+    Need {
+        lnz: entries,
+        n_mult_subs_ldl: (squares + entries) / 2,
+        n_mult_subs_lu: squares,
+        d_max: sums.greatest as u128,
+    }
+}
+
+/// What a factor needs, by how many entries each of its columns has. Each sum is cut at `u128::MAX`; none reaches that
+/// where there are fewer than `2^42` columns.
+///
+/// Source: AMD user guide (the figures of `Info`).
+pub fn need_of_sizes(sizes: &[usize]) -> Need
+    ensures { (columns : List (List ℕ)) → sizes.now ≡ map length columns → IsCutNeed columns result }
+{
+    match sums_of(sizes) {
+        Some(sums) => need_of_sums(sums),
+        None => wide_need(sizes),
+    }
 }
 
 /// The counts of a matrix without rows.

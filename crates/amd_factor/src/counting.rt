@@ -97,11 +97,11 @@ pub fn matrix_counts<I: Index, A: Allocator + Copy>(
 ///
 /// A column with nothing new has the entries of a child where they stand; only another one is written. There is room
 /// for eight numbers of 32 bits for each arc, that is, for each pair of rows that an entry off the diagonal joins, and
-/// for each row. This memory is asked for before the first column, whatever is used of it. Where it is not enough, where
-/// more rows than that have to be marked again, or where there are 2^31 rows, it is given back, and the arcs are counted
-/// by their meetings in the elimination tree: then no entry is written, and beside the lists of neighbours a few numbers
-/// a row are taken. So the steps are as many as there are rows and entries of the matrix, times at most the logarithm of
-/// the number of rows.
+/// for each row. Memory for a quarter of it is asked for before the first column, and more where this does not suffice,
+/// twice as much each time. Where all that room is not enough, where more rows than that have to be marked again, or
+/// where there are 2^31 rows, it is given back, and the arcs are counted by their meetings in the elimination tree: then
+/// no entry is written, and beside the lists of neighbours a few numbers a row are taken. So the steps are as many as
+/// there are rows and entries of the matrix, times at most the logarithm of the number of rows.
 ///
 /// # Errors
 ///

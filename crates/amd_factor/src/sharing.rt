@@ -4,7 +4,6 @@
 
 ghost use Rattle.std.specs.Prelude.{ℕ, ◌≡◌, ◌<◌, ◌≤◌, ◌+◌, ◌-◌, true, [], None, length, map, pos, slice_index, take};
 ghost use Rattle.std.specs.Prelude.{IfOk, MatchOption};
-ghost use Rattle.std.specs.Vec.{vec_capacity};
 ghost use Rattle.amd_model.specs.Graph.{IsGraph};
 ghost use Rattle.amd_types.specs.Naturals.{naturals};
 ghost use Rattle.amd_factor.specs.Counted.{TellCounts};
@@ -26,8 +25,11 @@ use amd_types::index::Index;
 use core::mem::replace_with;
 use std::alloc::{AllocError, Allocator};
 
-// How many numbers there is room for, for each arc and each row.
+// How many numbers there are at most, for each arc and each row, and how many there is memory for at first. It grows
+// where these do not suffice: memory for all would be fresh in each call of many.
 const ROWS: usize = 8;
+
+const FIRST_ROWS: usize = 2;
 
 // How many zeros are appended at once, where there is room for them: half of what a cache of the first level holds.
 const ZEROS: usize = 4096;
@@ -117,57 +119,72 @@ struct Placed {
 }
 
 /// Appends zeros to numbers until there are `long` of them, and more at once, so that few calls do it.
-fn lengthen<N: Index, A: Allocator>(long: usize, room: usize, rows: &mut Vec<N, A>)
-    requires room { (long ≤ room) × (length rows.old.items ≤ room) × (room ≤ vec_capacity rows.old) }
-    ensures long { (long ≤ length rows.new.items) × (length rows.new.items ≤ room) }
+///
+/// # Errors
+///
+/// A refused request for memory.
+fn lengthen<N: Index, A: Allocator>(
+    long: usize,
+    room: usize,
+    rows: &mut Vec<N, A>,
+) -> Result<(), AllocError>
+    requires room { (long ≤ room) × (length rows.old.items ≤ room) }
+    ensures long { IfOk result (λ done. long ≤ length rows.new.items) }
+    ensures room { length rows.new.items ≤ room }
     ensures kept { take (length rows.old.items) rows.new.items ≡ rows.old.items }
-    ensures capacity { vec_capacity rows.new ≡ vec_capacity rows.old }
 {
     let now = rows.len();
     if now < long {
-        let zeros = (long - now).max(ZEROS).min(room - now);
+        rows.reserve(long - now)?;
+        let most = room.min(rows.capacity()) - now;
+        let zeros = (long - now).max(ZEROS).min(most);
         replace_with(rows, zeros, with_zeros);
     }
+    Ok(())
 }
 
 /// Where the entries of a planned column stand: if nothing is new, those that it takes over; else they are written
 /// behind the numbers of the columns before it. None where there is no room.
+///
+/// # Errors
+///
+/// A refused request for memory.
 fn place_column<N: Index, A: Allocator>(
     plan: Plan,
     fresh: &[usize],
     used: usize,
     rows: &mut Vec<N, A>,
     room: usize,
-) -> Option<Placed>
+) -> Result<Option<Placed>, AllocError>
     requires planned { (o : Order) × (k : ℕ) × IsPlanned N.value o k plan fresh.now (take used rows.old.items) ×
         ((j : ℕ) → j < length o.rows → N.fits (pos j)) }
     requires used { used ≤ length rows.old.items }
-    requires room { (length rows.old.items ≤ room) × (room ≤ vec_capacity rows.old) }
-    ensures placed { MatchOption result (Unit {0}) (λ p. IsPlacedColumn N.value used p rows.new.items) }
-    ensures stands { MatchOption result (Unit {0}) (λ p. (o : Order) (k : ℕ) →
+    requires room { length rows.old.items ≤ room }
+    ensures placed { IfOk result (λ r. MatchOption r (Unit {0})
+        (λ p. IsPlacedColumn N.value used p rows.new.items)) }
+    ensures stands { IfOk result (λ r. MatchOption r (Unit {0}) (λ p. (o : Order) (k : ℕ) →
         IsPlanned N.value o k plan fresh.now (take used rows.old.items) →
-        StandsFrom N.value o k p.begin p.end (take p.used rows.new.items)) }
+        StandsFrom N.value o k p.begin p.end (take p.used rows.new.items))) }
     ensures kept { take used rows.new.items ≡ take used rows.old.items }
     ensures room { length rows.new.items ≤ room }
-    ensures capacity { vec_capacity rows.new ≡ vec_capacity rows.old }
 {
     let begin = plan.from;
     let end = plan.to;
     if fresh.is_empty() {
-        return Some(Placed { begin, end, used });
+        return Ok(Some(Placed { begin, end, used }));
     }
     let size = end - begin + fresh.len();
     if room - used < size {
-        return None;
+        return Ok(None);
     }
-    lengthen(used + size, room, rows);
+    lengthen(used + size, room, rows)?;
     let (done, free) = rows.split_at_mut(used);
     write_merged(&done[begin..end], fresh, &mut free[..size]);
-    Some(Placed {
+    Ok(Some(Placed {
         begin: used,
         end: used + size,
         used: used + size,
-    })
+    }))
 }
 
 /// Says where column `k` stands: from place `begin` on, before `end`. Its first entry is its parent.
@@ -204,23 +221,28 @@ fn marked_again(before: usize, k: usize, plan: Plan) -> usize {
     }
 }
 
-/// Makes the columns of a factor, in room for `room` numbers, for which `rows` has the capacity. Returns whether all of
-/// them stand: it ends where there is no room, and where more rows are marked again than that.
+/// Makes the columns of a factor, in at most `room` numbers. Returns whether all of them stand: it ends where there is
+/// no room, and where more rows are marked again than that.
 ///
 /// `later[starts[k]..starts[k + 1]]` names the places after `k` whose rows an edge joins with that at place `k`. The
 /// lists are as before the first column.
+///
+/// # Errors
+///
+/// A refused request for memory.
 fn share_columns<N: Index, A: Allocator>(
     starts: &[usize],
     later: &[usize],
     room: usize,
     lists: &mut SharedLists<A>,
     rows: &mut Vec<N, A>,
-) -> bool
+) -> Result<bool, AllocError>
     ghost o: { Order }
     requires fits { (j : ℕ) → j < length o.rows → N.fits (pos j) }
     requires columns { CanShare o starts.now later.now lists.old }
-    requires room { (rows.old.items ≡ []) × (room ≤ vec_capacity rows.old) }
-    ensures shared { result ≡ true → (used : ℕ) × Share N.value o (length o.rows) lists.new (take used rows.new.items) }
+    requires empty { rows.old.items ≡ [] }
+    ensures shared { IfOk result (λ all. all ≡ true → (used : ℕ) ×
+        Share N.value o (length o.rows) lists.new (take used rows.new.items)) }
     ensures places { HasColumnPlaces o lists.new }
 {
     let mut marked = Marked {
@@ -232,18 +254,19 @@ fn share_columns<N: Index, A: Allocator>(
     'columns: for k in 0..lists.parent.len() {
         let neighbours = &later[starts[k]..starts[k + 1]];
         let plan = plan_shared(k, neighbours, marked, lists, &rows[..used]);
-        let Some(placed) = place_column(plan, &lists.fresh[..plan.count], used, rows, room) else {
-            return false;
+        let fresh = &lists.fresh[..plan.count];
+        let Some(placed) = place_column(plan, fresh, used, rows, room)? else {
+            return Ok(false);
         };
         used = placed.used;
         stand_column(k, placed.begin, placed.end, &rows[..used], lists);
         marked = plan.marked;
         again = marked_again(again, k, plan);
         if again > room {
-            return false;
+            return Ok(false);
         }
     }
-    true
+    Ok(true)
 }
 
 /// Puts in the place of each end how many entries the column has that begins at its place in `starts`.
@@ -258,14 +281,14 @@ fn count_entries(starts: &[usize], ends: &mut [usize])
     }
 }
 
-/// The room for the entries of columns that share them, where the lists of neighbours have so many arcs.
-fn shared_room(columns: usize, arcs: usize) -> usize {
-    ROWS.saturating_mul(columns.saturating_add(arcs))
+/// So many numbers for each column and each arc of the lists of neighbours.
+fn shared_room(each: usize, columns: usize, arcs: usize) -> usize {
+    each.saturating_mul(columns.saturating_add(arcs))
 }
 
 /// Counts the entries of the columns of a factor and sums up what it needs, by the lists of later neighbours: the
 /// columns are made, and share their entries. None where there is no room for all of them, or more work than that, or
-/// where a row is no number of 32 bits. All memory is taken before the first column.
+/// where a row is no number of 32 bits.
 ///
 /// # Errors
 ///
@@ -285,10 +308,11 @@ pub fn shared_counts<A: Allocator + Copy>(
     if columns > i32::MAX as usize {
         return Ok(None);
     }
-    let room = shared_room(columns, later.len());
+    let room = shared_room(ROWS, columns, later.len());
     let mut lists = shared_lists(alloc, columns)?;
-    let mut rows: Vec<i32, A> = Vec::with_capacity(alloc, room)?;
-    if !share_columns(starts, later, room, &mut lists, &mut rows) {
+    let first = shared_room(FIRST_ROWS, columns, later.len());
+    let mut rows: Vec<i32, A> = Vec::with_capacity(alloc, first)?;
+    if !share_columns(starts, later, room, &mut lists, &mut rows)? {
         return Ok(None);
     }
     count_entries(&lists.starts, &mut lists.ends);

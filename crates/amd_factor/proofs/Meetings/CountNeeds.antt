@@ -1,18 +1,46 @@
 -- What columns need, by their sizes, one column after another.
-use Rattle.std.proofs.Common.{ℕ, ◌≡◌, ◌<◌, ◌≤◌, ◌+◌, ◌*◌, ◌/◌, refl, sym, ◌∙◌, ap, arith, max, length, map, take, take_all}
+use Rattle.std.proofs.Common.{ℕ, ◌≡◌, ◌<◌, ◌≤◌, ◌+◌, ◌*◌, ◌/◌, ◌^◌, refl, sym, ◌∙◌, ap, arith, max, length, map, take, take_all}
 use Rattle.std.proofs.Common.{List, []}
 use Rattle.std.specs.Prelude.{slice_index, slice_index_or, sum}
 use Rattle.std.proofs.lemmas.List.{take_more, get_or-map, length-map}
 use Rattle.std.proofs.lemmas.List.Sums.{sum_by_more, sum-map}
 use Rattle.amd_model.specs.Factor.{needed, needed_front}
-use Rattle.amd_model.specs.Figures.{entries, ldl_steps, lu_steps}
-use Rattle.amd_factor.specs.Counted.{IsCutNeed, wide_cut}
+use Rattle.amd_model.specs.Below.{sum_below}
+use Rattle.amd_model.specs.Figures.{entries, front_sum, ldl_steps, lu_steps}
+use Rattle.amd_model.proofs.Figures.Sums.{ldl_sum}
+use Rattle.amd_factor.specs.Counted.{IsCutNeed, SumUp, wide_cut}
+use Rattle.amd_factor.specs.declared.counted.Sums.{Sums}
 use Rattle.amd_factor.specs.declared.needs.Need.{Need}
 use Rattle.amd_factor.proofs.Factors.ColumnSizes.{front-more}
 
 -- a sum of a cut one
 cut-next : (a b x y : ℕ) → b ≡ wide_cut a → y ≡ wide_cut (b + x) → y ≡ wide_cut (a + x)
 cut-next a b x y is next = omega (arith, is, next)
+
+-- the steps of a column for LDL' are half of those for LU and its entries
+steps-twice : (c : ℕ) → 2 * ldl_steps c ≡ lu_steps c + entries c
+unfolding front_sum sum_below
+steps-twice c = let h = ldl_sum 1 c in let e : c + 0 ≡ c = omega arith in omega (arith, rw e at h)
+
+-- the sums over no columns
+pub sums-none : SumUp [] (record { entries = 0; squares = 0; greatest = 0 })
+unfolding needed_front
+sums-none = record { lnz = refl; ldl = refl; lu = refl; greatest = refl }
+
+-- what is needed by sums of 64 bits, of which none is cut
+pub need-of-sums : (columns : List (List ℕ)) (sums : Sums) → SumUp columns sums → sums.entries < 2 ^ 64 → sums.squares < 2 ^ 64 →
+    IsCutNeed columns (record {
+      lnz = sums.entries;
+      n_mult_subs_ldl = (sums.squares + sums.entries) / 2;
+      n_mult_subs_lu = sums.squares;
+      d_max = sums.greatest;
+    })
+need-of-sums columns sums h few small = record {
+  lnz = let is = h.lnz in omega (arith, is, few);
+  ldl = let is = h.ldl in omega (arith, is, few, small);
+  lu = let is = h.lu in omega (arith, is, small);
+  greatest = h.greatest;
+}
 
 -- all entries are as many as the sizes say
 pub entries-sum : (columns : List (List ℕ)) → needed entries columns ≡ sum (map length columns)
@@ -64,4 +92,19 @@ module _ (columns : List (List ℕ)) (sizes : List ℕ) (are : sizes ≡ map len
           lu = cut-next (needed lu_steps (take k columns)) need.n_mult_subs_lu (lu_steps (slice_index sizes k)) next.n_mult_subs_lu h.lu lu
               ∙ ap wide_cut (sym (needed-next lu_steps));
           greatest = greatest ∙ ap (λ z. max z (slice_index sizes k + 1)) h.greatest ∙ sym front-next;
+        }
+
+    -- the sums over the first k columns and the next one
+    pub sums-next : (sums next : Sums) → SumUp (take k columns) sums → next.entries ≡ sums.entries + slice_index sizes k
+        → next.squares ≡ sums.squares + slice_index sizes k * slice_index sizes k
+        → next.greatest ≡ max sums.greatest (slice_index sizes k + 1) → SumUp (take (k + 1) columns) next
+    unfolding entries lu_steps
+    sums-next sums next h more squares greatest =
+        let size = slice_index sizes k in
+        let twice = steps-twice size in let here = needed-next ldl_steps in let before = h.ldl in
+        record {
+          lnz = more ∙ ap (λ z. z + size) h.lnz ∙ sym (needed-next entries);
+          ldl = omega (arith, twice, here, before, more, squares);
+          lu = squares ∙ ap (λ z. z + size * size) h.lu ∙ sym (needed-next lu_steps);
+          greatest = greatest ∙ ap (λ z. max z (size + 1)) h.greatest ∙ sym front-next;
         }

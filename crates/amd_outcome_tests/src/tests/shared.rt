@@ -110,12 +110,12 @@ fn each_request_where_columns_share_all(rt: HostRuntime) -> Result<(), Fail> {
     Ok(())
 }
 
-/// These, and then those of the count by meetings: the places once more, two lists for each side's neighbours, the
-/// parents, the work and the sizes.
+/// These, two for more rows, and then those of the count by meetings: the places once more, two lists for each side's
+/// neighbours, the parents, the work and the sizes.
 #[test]
 fn each_request_where_columns_share_too_little(rt: HostRuntime) -> Result<(), Fail> {
     let matrix = fan(rt.alloc())?;
     let refusals = each_refused(rt.alloc(), |heap| asks(&rt, heap, &matrix));
-    check!(&rt; refusals == Ok(18));
+    check!(&rt; refusals == Ok(20));
     Ok(())
 }

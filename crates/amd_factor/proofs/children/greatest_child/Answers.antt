@@ -1,4 +1,4 @@
-use Rattle.std.proofs.Common.{◌≤◌, ◌+◌, ◌-◌, ◌⊎◌, ℕ, inl, inr, subst, sym, arith}
+use Rattle.std.proofs.Common.{◌≤◌, ◌-◌, ◌⊎◌, ℕ, inl, inr, subst, sym, arith}
 use Rattle.std.specs.Prelude.{slice_index, slice_index_or, None}
 use Rattle.std.proofs.lemmas.Bool.{cases_eq}
 use Rattle.std.proofs.lemmas.Grind.{common_steps}

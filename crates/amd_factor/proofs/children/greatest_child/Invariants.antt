@@ -1,4 +1,4 @@
-use Rattle.std.proofs.Common.{ℕ, ◌≤◌, ◌+◌, ◌-◌, ◌⊎◌}
+use Rattle.std.proofs.Common.{ℕ, ◌≤◌, ◌-◌, ◌⊎◌}
 use Rattle.std.specs.Prelude.{slice_index}
 use Rattle.amd_factor.specs.Gathering.{IsChild}
 use Rattle.amd_factor.proofs.Trees.Descent.{IsAhead, LeadsTo, steps_left}

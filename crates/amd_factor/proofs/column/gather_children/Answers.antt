@@ -1,7 +1,6 @@
 use Rattle.std.proofs.Common.{ℕ, ◌≡◌, ◌⊎◌, inl, inr, subst, sym, ◌∙◌, map, arith}
 use Rattle.std.specs.Prelude.{slice_index_or, None, Contains}
 use Rattle.std.proofs.lemmas.Bool.{cases_eq}
-use Rattle.std.proofs.lemmas.Grind.{common_steps}
 use Rattle.amd_factor.specs.Trees.{Entry}
 use Rattle.amd_factor.specs.Gathering.{IsChild, IsLastChild}
 use Rattle.amd_factor.proofs.Trees.ByChildren.{entry_by_child}

@@ -1,4 +1,4 @@
-use Rattle.std.proofs.Common.{◌+◌, arith}
+use Rattle.std.proofs.Common.{arith}
 use Rattle.amd_factor.proofs.Factors.Tails.{tail_begins, tail_ends, tail_rises, tail_has}
 use Rattle.amd_factor.proofs.column.inherited.Goals as goal
 

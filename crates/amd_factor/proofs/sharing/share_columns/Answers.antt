@@ -41,7 +41,9 @@ stand_column-requires g c κs inside =
     let low : c.columns.k < length g.o.rows = (let t = c.columns-test.true in let p = q.0.places.parents in omega (arith, t, p)) in
     let small : length g.o.rows < 2 ^ 64 = grind (arith, common_steps) in
     let plan = c.plan_shared-plan.result in let lists = c.plan_shared-plan.new.lists in let used = c.columns.used in
-    let rows = take used c.columns.rows.items in let placed = c.in-Some.placed in let is = c.in-Some.ensures.placed in
+    let rows = take used c.columns.rows.items in let placed = c.in-Some.placed in
+    let told = c.in_ok-placed.ensures.placed in let is = (rw c.in-Some.is at told) in
+    let stand = c.in_ok-placed.ensures.stands in let stands = (rw c.in-Some.is at stand) in
     let fresh = take plan.count c.deref-in-columns.result.now in
     let planned : IsPlanned value g.o c.columns.k plan fresh rows = record {
       plans = subst (λ ys. Plans g.o c.columns.k (naturals (map value rows)) plan.from plan.to (take plan.count ys))
@@ -67,7 +69,7 @@ stand_column-requires g c κs inside =
               (share_kept value g.o c.columns.k c.columns.lists lists rows kept i.columns)
               (still_first used placed.used c.columns.rows.items written i.used is.more c.place_column.ensures.kept) is.numbers);
           stands = subst (λ xs. StandsFrom value g.o c.columns.k placed.begin placed.end (take placed.used xs)) (sym after)
-              (c.in-Some.ensures.stands g.o c.columns.k planned);
+              (stands g.o c.columns.k planned);
         },
       ),
     )

@@ -1,5 +1,4 @@
-use Rattle.std.proofs.Common.{◌≡◌, ◌≤◌, length, take}
-use Rattle.std.specs.Vec.{vec_capacity}
+use Rattle.std.proofs.Common.{◌≤◌, length, take}
 use Rattle.amd_factor.specs.Gathering.{MarksTell}
 use Rattle.amd_factor.specs.Sharing.{HasColumnPlaces, Share}
 use Rattle.amd_factor.proofs.sharing.share_columns.Given as goal
@@ -17,5 +16,4 @@ invariant-columns g l = record {
   room : length l.rows.items ≤ l.fn.room;
   places : HasColumnPlaces g.o l.lists;
   marks : MarksTell g.o l.k l.marked.column l.marked.stamp l.lists.mark.items;
-  capacity : vec_capacity l.rows ≡ vec_capacity l.fn.rows;
 }

@@ -1,4 +1,4 @@
-use Rattle.std.proofs.Common.{ℕ, ◌≡◌, ◌<◌, ◌-◌, ◌++◌, ◌∙◌, ap, arith, drop, length, refl, take}
+use Rattle.std.proofs.Common.{ℕ, ◌≡◌, ◌<◌, ◌-◌, ◌++◌, ◌∙◌, ap, arith, drop, length, take}
 use Rattle.std.specs.Prelude.{slice_index}
 use Rattle.std.proofs.lemmas.Grind.{common_steps}
 use Rattle.std.proofs.lemmas.List.{take_at}
@@ -19,7 +19,7 @@ returns g c =
     (λ k low. ap (λ xs. slice_index xs k) same ∙ counted.1 k (omega (arith, low, rows))
     ∙ ap (λ xs. slice_index xs k - slice_index c.deref.result.now k) ends
     ∙ ap (λ xs. slice_index lists.ends.items k - slice_index xs k) starts) in
-    let shared = c.if-not-share_columns.ensures.shared refl in
+    let shared = c.in_ok-share_columns.ensures.shared c.if-not-branch.false in
     let holds = shared_sizes _ g.o c.requires.1.0 lists (take shared.0 c.share_columns.new.rows.items) shared.1 sizes
     (ap length same ∙ counted.0 ∙ rows) each in
     record { holds = holds; needs = c.need_of_sizes-need.ensures holds.columns (c.deref-2.ensures.value ∙ holds.sizes_are) }

@@ -2,7 +2,7 @@
 use Rattle.std.proofs.Common.{subst}
 use Rattle.amd_factor.specs.Counted.{IsCutNeed}
 use Rattle.amd_factor.proofs.Meetings.CountNeeds.{all-columns, cut-need-next, cut-need-none}
-use Rattle.amd_factor.proofs.counted.need_of_sizes.Goals as goal
+use Rattle.amd_factor.proofs.counted.wide_need.Goals as goal
 
 pub columns-init : goal.columns-init
 columns-init c = λ columns h. cut-need-none
