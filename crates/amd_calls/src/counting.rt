@@ -5,9 +5,10 @@ ghost use Rattle.std.specs.Prelude.{◌≡◌, map};
 ghost use Rattle.amd_model.specs.Figures.{cut};
 ghost use Rattle.amd_calls.specs.Counting.{LeavesCounts, needs_of, tallies};
 
-use crate::factors::{has_numbers, has_parents, write_numbers, write_parents};
+use crate::factors::{write_numbers, write_parents};
 use crate::matrix::Matrix;
 use crate::records::Needs;
+use crate::signed::SignedIndex;
 use crate::writing::have_places;
 use amd_factor::needs::Need;
 use amd_factor::{Fault, counts};
@@ -42,7 +43,8 @@ pub fn needs_of(need: &Need) -> Needs
 ///
 /// # Errors
 ///
-/// Those of `counts`; all stays as it was. `NotColumnForm` also where `sizes` or `parent` has not `n` places.
+/// Those of `counts`; all stays as it was. `NotColumnForm` also where `sizes` or `parent` has not `n` places, and
+/// `OutOfMemory` also where the type has no -1.
 ///
 /// Source: Rose, Tarjan and Lueker 1976; Liu 1986; Gilbert, Ng and Peyton 1994.
 pub fn counts_into<I: PrimInt, A: Allocator + Copy>(
@@ -65,9 +67,9 @@ pub fn counts_into<I: PrimInt, A: Allocator + Copy>(
         return Err(Fault::NotColumnForm);
     }
     let counted = counts(alloc, n, a_p, a_i, p)?;
-    if !has_numbers::<I>(&counted.sizes) || !has_parents::<I>(&counted.parent) {
+    let Some(_) = I::from_signed(-1) else {
         return Err(Fault::OutOfMemory);
-    }
+    };
     write_numbers(&counted.sizes, sizes);
     write_parents(&counted.parent, parent);
     *needs = needs_of(&counted.need);
