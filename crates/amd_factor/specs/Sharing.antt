@@ -19,11 +19,10 @@ pub record TellFirstAt (o : Order) (k : ℕ) (starts ends rows : List ℕ) (pare
   pub each : (m : ℕ) → m < k → slice_index_or parent m None ≡ first_of
       (slice_range rows (slice_index starts m) (slice_index ends m))
 
--- the columns before place k stand in numbers that are not negative, with their parents and children
+-- the columns before place k stand in numbers that are not negative, with their children
 pub record Share {A N : Type 0} (value : N → ℤ) (o : Order) (k : ℕ) (l : SharedLists A) (rows : List N) : Type 0 where
   pub numbers : AreNonNegative (map value rows)
   pub stand : StandAt o k l.starts.items l.ends.items (naturals (map value rows))
-  pub parents : TellFirstAt o k l.starts.items l.ends.items (naturals (map value rows)) l.parent.items
   pub links : LinkChildren o k l.link.items
 
 -- column k stands from place begin on, before end
@@ -49,7 +48,6 @@ pub record IsPlacedColumn {N : Type 0} (value : N → ℤ) (used : ℕ) (placed 
 pub record HasColumnPlaces {A : Type 0} (o : Order) (l : SharedLists A) : Type 0 where
   pub starts : length l.starts.items ≡ length o.rows
   pub ends : length l.ends.items ≡ length o.rows
-  pub parents : length l.parent.items ≡ length o.rows
   pub links : length l.link.items ≡ length o.rows
   pub marks : length l.mark.items ≡ length o.rows
   pub fresh : length l.fresh.items ≡ length o.rows
@@ -57,7 +55,7 @@ pub record HasColumnPlaces {A : Type 0} (o : Order) (l : SharedLists A) : Type 0
 -- but for marks and new rows, the lists are as they were
 abbrev pub KeepsColumns : {A : Type 0} → SharedLists A → SharedLists A → Type 0
 KeepsColumns old new = (new.starts.items ≡ old.starts.items) × (new.ends.items ≡ old.ends.items) ×
-    (new.parent.items ≡ old.parent.items) × (new.link.items ≡ old.link.items)
+    (new.link.items ≡ old.link.items)
 
 -- it can be said of column k that it stands from place begin on, before end
 pub record CanStand {A N : Type 0} (value : N → ℤ) (o : Order) (k begin end : ℕ) (l : SharedLists A) (rows : List N) : Type 0
@@ -68,6 +66,15 @@ pub record CanStand {A N : Type 0} (value : N → ℤ) (o : Order) (k begin end 
     pub places : HasColumnPlaces o l
     pub columns : Share value o k l rows
     pub stands : StandsFrom value o k begin end rows
+
+-- all columns stand, and there is an end and a link for each: its size and its parent can be told
+pub record CanTell {N : Type 0} (value : N → ℤ) (o : Order) (starts : List ℕ) (rows : List N) (ends : List ℕ)
+    (link : List (Option ℕ)) : Type 0 where
+  pub small : length o.rows < 2 ^ 64
+  pub numbers : AreNonNegative (map value rows)
+  pub stand : StandAt o (length o.rows) starts ends (naturals (map value rows))
+  pub stops : length ends ≡ length o.rows
+  pub links : length link ≡ length o.rows
 
 -- the columns can be made, by lists of later neighbours: no column stands yet, and none is marked
 pub record CanShare {A : Type 0} (o : Order) (starts later : List ℕ) (l : SharedLists A) : Type 0 where

@@ -39,7 +39,7 @@ fn form_shared<I: Index, A: Allocator + Copy>(
         return Err(Fault::NotPermutation);
     };
     let lists = later_lists(alloc, size, a_p, a_i, &places)?;
-    Ok(shared_counts(alloc, &lists.starts, &lists.neighbours)?)
+    Ok(shared_counts(alloc, &lists.starts, &lists.neighbours, places)?)
 }
 
 /// The counts of a column form with `size` rows and columns: by columns that share entries, or where these would take
@@ -99,9 +99,9 @@ pub fn matrix_counts<I: Index, A: Allocator + Copy>(
 /// for eight numbers of 32 bits for each arc, that is, for each pair of rows that an entry off the diagonal joins, and
 /// for each row. Memory for a quarter of it is asked for before the first column, and more where this does not suffice,
 /// twice as much each time. Where all that room is not enough, where more rows than that have to be marked again, or
-/// where there are 2^31 rows, it is given back, and the arcs are counted by their meetings in the elimination tree: then
-/// no entry is written, and beside the lists of neighbours a few numbers a row are taken. So the steps are as many as
-/// there are rows and entries of the matrix, times at most the logarithm of the number of rows.
+/// where there are 2^31 rows, it is given back. Then the arcs are counted by their meetings in the elimination tree: no
+/// entry is written, and beside the lists of neighbours a few numbers a row are taken. So the steps are as many as there
+/// are rows and entries of the matrix, times at most the logarithm of the number of rows.
 ///
 /// # Errors
 ///

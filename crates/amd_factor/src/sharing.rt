@@ -2,18 +2,19 @@
 // the columns can be counted in room that does not grow with the factor, as long as few of them have something new. The
 // rows are numbers of 32 bits. Source: Sherman 1975 (compressed subscripts); George and Liu 1981.
 
-ghost use Rattle.std.specs.Prelude.{ℕ, ◌≡◌, ◌<◌, ◌≤◌, ◌+◌, ◌-◌, true, [], None, length, map, pos, slice_index, take};
-ghost use Rattle.std.specs.Prelude.{IfOk, MatchOption};
+ghost use Rattle.std.specs.Prelude.{ℕ, ◌≡◌, ◌<◌, ◌≤◌, ◌+◌, ◌-◌, ◌^◌, [], None, length, map, pos, slice_index};
+ghost use Rattle.std.specs.Prelude.{slice_range, take, IfOk, MatchOption};
 ghost use Rattle.amd_model.specs.Graph.{IsGraph};
 ghost use Rattle.amd_types.specs.Naturals.{naturals};
+ghost use Rattle.amd_factor.specs.Columns.{first_of};
 ghost use Rattle.amd_factor.specs.Counted.{TellCounts};
 ghost use Rattle.amd_factor.specs.Gathering.{LinkChildren, MarksTell};
 ghost use Rattle.amd_factor.specs.Neighbours.{HasLater};
 ghost use Rattle.amd_factor.specs.Numbers.{AreNonNegative, Plans};
 ghost use Rattle.amd_factor.specs.Orders.{Order};
 ghost use Rattle.amd_factor.specs.Planning.{CanPlan};
-ghost use Rattle.amd_factor.specs.Sharing.{CanShare, CanStand, HasColumnPlaces, IsPlanned, IsPlacedColumn};
-ghost use Rattle.amd_factor.specs.Sharing.{KeepsColumns, Share, StandsFrom};
+ghost use Rattle.amd_factor.specs.Sharing.{CanShare, CanStand, CanTell, HasColumnPlaces, IsPlanned, IsPlacedColumn};
+ghost use Rattle.amd_factor.specs.Sharing.{KeepsColumns, Share, StandsFrom, TellFirstAt};
 
 use crate::children::link_child;
 use crate::column::{Columns, Marked, Plan, plan_column};
@@ -26,7 +27,7 @@ use core::mem::replace_with;
 use std::alloc::{AllocError, Allocator};
 
 // How many numbers there are at most, for each arc and each row, and how many there is memory for at first. It grows
-// where these do not suffice: memory for all would be fresh in each call of many.
+// where these do not suffice: a block for all of them would be taken from the system anew in each call.
 const ROWS: usize = 8;
 
 const FIRST_ROWS: usize = 2;
@@ -40,38 +41,39 @@ pub struct SharedLists<A: Allocator> {
     /// Where the entries of each column begin, and where they end.
     pub starts: Vec<usize, A>,
     pub ends: Vec<usize, A>,
-    /// The parent of each, its first entry.
-    pub parent: Vec<Option<usize>, A>,
-    /// For the work alone: marks, the children in lists, and the new rows of a column.
-    pub mark: Vec<usize, A>,
+    /// The children of each in a list, as in [`Columns`].
     pub link: Vec<Option<usize>, A>,
+    /// For the work alone: marks, and the new rows of a column.
+    pub mark: Vec<usize, A>,
     pub fresh: Vec<usize, A>,
 }
 
-/// Takes the memory for these lists, as they are before the first column.
+/// Takes the memory for these lists, as they are before the first column. That for new rows is there: any numbers, one
+/// for each column.
 ///
 /// # Errors
 ///
 /// A refused request for memory.
-fn shared_lists<A: Allocator + Copy>(alloc: A, columns: usize) -> Result<SharedLists<A>, AllocError>
+fn shared_lists<A: Allocator + Copy>(
+    alloc: A,
+    fresh: Vec<usize, A>,
+) -> Result<SharedLists<A>, AllocError>
     ghost o: { Order }
-    requires { columns ≡ length o.rows }
+    requires { length fresh.items ≡ length o.rows }
     ensures places { IfOk result (λ l. HasColumnPlaces o l) }
     ensures links { IfOk result (λ l. LinkChildren o 0 l.link.items) }
     ensures marks { IfOk result (λ l. MarksTell o 0 None 0 l.mark.items) }
 {
+    let columns = fresh.len();
     let starts = vec![in alloc; 0; columns]?;
     let ends = vec![in alloc; 0; columns]?;
-    let parent = vec![in alloc; None; columns]?;
-    let mark = vec![in alloc; 0; columns]?;
     let link = vec![in alloc; None; columns]?;
-    let fresh = vec![in alloc; 0; columns]?;
+    let mark = vec![in alloc; 0; columns]?;
     Ok(SharedLists {
         starts,
         ends,
-        parent,
-        mark,
         link,
+        mark,
         fresh,
     })
 }
@@ -187,7 +189,21 @@ fn place_column<N: Index, A: Allocator>(
     }))
 }
 
-/// Says where column `k` stands: from place `begin` on, before `end`. Its first entry is its parent.
+/// The first of the entries from place `begin` on, before `end`: the parent of their column. None where there is none.
+fn first_entry<N: Index>(rows: &[N], begin: usize, end: usize) -> Option<usize>
+    requires numbers { AreNonNegative (map N.value rows.now) }
+    requires range { begin ≤ end }
+    requires within { end ≤ length rows.now }
+    requires small { begin < end → slice_index (naturals (map N.value rows.now)) begin < 2 ^ 64 }
+    ensures { result ≡ first_of (slice_range (naturals (map N.value rows.now)) begin end) }
+{
+    if begin == end {
+        return None;
+    }
+    Some(place_at(rows, begin))
+}
+
+/// Says where column `k` stands: from place `begin` on, before `end`. It is a child of its first entry.
 fn stand_column<N: Index, A: Allocator>(
     k: usize,
     begin: usize,
@@ -203,13 +219,9 @@ fn stand_column<N: Index, A: Allocator>(
 {
     lists.starts[k] = begin;
     lists.ends[k] = end;
-    if begin == end {
-        lists.parent[k] = None;
-        return;
+    if let Some(parent) = first_entry(rows, begin, end) {
+        link_child(k, parent, &mut lists.link);
     }
-    let first = place_at(rows, begin);
-    lists.parent[k] = Some(first);
-    link_child(k, first, &mut lists.link);
 }
 
 /// How many rows were marked anew for columns that the marks did not tell, with those of column `k`.
@@ -221,7 +233,7 @@ fn marked_again(before: usize, k: usize, plan: Plan) -> usize {
     }
 }
 
-/// Makes the columns of a factor, in at most `room` numbers. Returns whether all of them stand: it ends where there is
+/// Makes the columns of a factor, in at most `room` numbers, and returns how many of them they have. None where there is
 /// no room, and where more rows are marked again than that.
 ///
 /// `later[starts[k]..starts[k + 1]]` names the places after `k` whose rows an edge joins with that at place `k`. The
@@ -236,13 +248,14 @@ fn share_columns<N: Index, A: Allocator>(
     room: usize,
     lists: &mut SharedLists<A>,
     rows: &mut Vec<N, A>,
-) -> Result<bool, AllocError>
+) -> Result<Option<usize>, AllocError>
     ghost o: { Order }
     requires fits { (j : ℕ) → j < length o.rows → N.fits (pos j) }
     requires columns { CanShare o starts.now later.now lists.old }
     requires empty { rows.old.items ≡ [] }
-    ensures shared { IfOk result (λ all. all ≡ true → (used : ℕ) ×
-        Share N.value o (length o.rows) lists.new (take used rows.new.items)) }
+    ensures used { IfOk result (λ r. MatchOption r (Unit {0}) (λ used. used ≤ length rows.new.items)) }
+    ensures shared { IfOk result (λ r. MatchOption r (Unit {0})
+        (λ used. Share N.value o (length o.rows) lists.new (take used rows.new.items))) }
     ensures places { HasColumnPlaces o lists.new }
 {
     let mut marked = Marked {
@@ -251,33 +264,42 @@ fn share_columns<N: Index, A: Allocator>(
     };
     let mut again = 0;
     let mut used = 0;
-    'columns: for k in 0..lists.parent.len() {
+    'columns: for k in 0..lists.starts.len() {
         let neighbours = &later[starts[k]..starts[k + 1]];
         let plan = plan_shared(k, neighbours, marked, lists, &rows[..used]);
         let fresh = &lists.fresh[..plan.count];
         let Some(placed) = place_column(plan, fresh, used, rows, room)? else {
-            return Ok(false);
+            return Ok(None);
         };
         used = placed.used;
         stand_column(k, placed.begin, placed.end, &rows[..used], lists);
         marked = plan.marked;
         again = marked_again(again, k, plan);
         if again > room {
-            return Ok(false);
+            return Ok(None);
         }
     }
-    Ok(true)
+    Ok(Some(used))
 }
 
-/// Puts in the place of each end how many entries the column has that begins at its place in `starts`.
-fn count_entries(starts: &[usize], ends: &mut [usize])
-    requires places { length starts.now ≡ length ends.old }
-    requires range { (k : ℕ) → k < length ends.old → slice_index starts.now k ≤ slice_index ends.old k }
-    ensures { (length ends.new ≡ length ends.old) × ((k : ℕ) → k < length ends.old →
+/// Puts in the place of each end how many entries its column has, and in that of each link the parent of the column.
+fn tell_columns<N: Index>(
+    starts: &[usize],
+    rows: &[N],
+    ends: &mut [usize],
+    link: &mut [Option<usize>],
+)
+    ghost o: { Order }
+    requires { CanTell N.value o starts.now rows.now ends.old link.old }
+    ensures sizes { (length ends.new ≡ length o.rows) × ((k : ℕ) → k < length o.rows →
         slice_index ends.new k ≡ slice_index ends.old k - slice_index starts.now k) }
+    ensures parents { TellFirstAt o (length o.rows) starts.now ends.old (naturals (map N.value rows.now)) link.new }
 {
     'columns: for k in 0..ends.len() {
-        ends[k] -= starts[k];
+        let begin = starts[k];
+        let end = ends[k];
+        link[k] = first_entry(rows, begin, end);
+        ends[k] = end - begin;
     }
 }
 
@@ -288,7 +310,7 @@ fn shared_room(each: usize, columns: usize, arcs: usize) -> usize {
 
 /// Counts the entries of the columns of a factor and sums up what it needs, by the lists of later neighbours: the
 /// columns are made, and share their entries. None where there is no room for all of them, or more work than that, or
-/// where a row is no number of 32 bits.
+/// where a row is no number of 32 bits. `work` is any numbers, one for each column, for the work alone.
 ///
 /// # Errors
 ///
@@ -297,29 +319,36 @@ pub fn shared_counts<A: Allocator + Copy>(
     alloc: A,
     starts: &[usize],
     later: &[usize],
+    work: Vec<usize, A>,
 ) -> Result<Option<Counts<A>>, AllocError>
     ghost o: { Order }
     requires laws { IsGraph o.graph }
     requires later { HasLater o starts.now later.now }
+    requires work { length work.items ≡ length o.rows }
     ensures { IfOk result (λ r. MatchOption r (Unit {0})
         (λ c. TellCounts o.graph o.rows c.sizes.items c.parent.items c.need)) }
 {
-    let columns = starts.len() - 1;
+    let columns = work.len();
     if columns > i32::MAX as usize {
         return Ok(None);
     }
     let room = shared_room(ROWS, columns, later.len());
-    let mut lists = shared_lists(alloc, columns)?;
+    let mut lists = shared_lists(alloc, work)?;
     let first = shared_room(FIRST_ROWS, columns, later.len());
     let mut rows: Vec<i32, A> = Vec::with_capacity(alloc, first)?;
-    if !share_columns(starts, later, room, &mut lists, &mut rows)? {
+    let Some(used) = share_columns(starts, later, room, &mut lists, &mut rows)? else {
         return Ok(None);
-    }
-    count_entries(&lists.starts, &mut lists.ends);
+    };
+    tell_columns(
+        &lists.starts,
+        &rows[..used],
+        &mut lists.ends,
+        &mut lists.link,
+    );
     let need = need_of_sizes(&lists.ends);
     Ok(Some(Counts {
         sizes: lists.ends,
-        parent: lists.parent,
+        parent: lists.link,
         need,
     }))
 }

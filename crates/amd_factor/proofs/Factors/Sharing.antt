@@ -132,7 +132,6 @@ module _ {A N : Type 0} (value : N → ℤ) (o : Order) (k : ℕ) (l : SharedLis
           let e = ap length same in let t = length-take (length rows) rows' in omega (arith, w, n, n', e, t));
       each = λ m low. subst (IsColumn o.graph o.rows m) (part_same m low) (h.stand.each m low);
     };
-    parents = record { room = h.parents.room; each = λ m low. h.parents.each m low ∙ ap first_of (part_same m low) };
     links = h.links;
   }
 
@@ -178,37 +177,37 @@ module _ (o : Order) (k begin end : ℕ) (starts ends rows : List ℕ) (h : Stan
     ];
   }
 
-  pub tell_next : (parent : List (Option ℕ)) (first : Option ℕ) → TellFirstAt o k starts ends rows parent →
-      first ≡ first_of (slice_range rows begin end) →
-      TellFirstAt o (k + 1) (set starts k begin) (set ends k end) rows (set parent k first)
-  tell_next parent first t is = record {
-    room = length-set parent k first ∙ t.room;
-    each = λ m l. elim (cases_eq m k) [
-      | inl q ↦ rw q (get_or-set_same parent k first None (let r = t.room in omega (arith, r, low)) ∙ is ∙ ap first_of part_is)
-      | inr ne ↦ get_or-set_other parent k m first None ne ∙ t.each m (omega (arith, l, ne)) ∙ ap first_of (part_kept m ne)
-    ];
-  }
-
 -- they stand also where marks and new rows are others
 pub share_kept : {A N : Type 0} (value : N → ℤ) (o : Order) (k : ℕ) (l l' : SharedLists A) (rows : List N) → KeepsColumns l l' →
     Share value o k l rows → Share value o k l' rows
-share_kept value o k l l' rows (starts, ends, parents, links) h = record {
+share_kept value o k l l' rows (starts, ends, links) h = record {
   numbers = h.numbers;
   stand = rw (starts, ends) h.stand;
-  parents = rw (starts, ends, parents) h.parents;
   links = rw links h.links;
 }
 
 pub places_kept : {A : Type 0} (o : Order) (l l' : SharedLists A) → KeepsColumns l l' → HasColumnPlaces o l →
     length l'.mark.items ≡ length o.rows → length l'.fresh.items ≡ length o.rows → HasColumnPlaces o l'
-places_kept o l l' (starts, ends, parents, links) h marks fresh = record {
+places_kept o l l' (starts, ends, links) h marks fresh = record {
   starts = ap length starts ∙ h.starts;
   ends = ap length ends ∙ h.ends;
-  parents = ap length parents ∙ h.parents;
   links = ap length links ∙ h.links;
   marks = marks;
   fresh = fresh;
 }
+
+-- the parents of columns, with one more
+module _ (o : Order) (starts ends rows : List ℕ) (k : ℕ) (parent : List (Option ℕ)) (tell : TellFirstAt o k starts ends rows parent)
+    (low : k < length o.rows) where
+  pub tell_next : (first : Option ℕ) → first ≡ first_of (slice_range rows (slice_index starts k) (slice_index ends k)) →
+      TellFirstAt o (k + 1) starts ends rows (set parent k first)
+  tell_next first is = record {
+    room = length-set parent k first ∙ tell.room;
+    each = λ m l. elim (cases_eq m k) [
+      | inl q ↦ rw q (get_or-set_same parent k first None (let r = tell.room in omega (arith, r, low)) ∙ is)
+      | inr ne ↦ get_or-set_other parent k m first None ne ∙ tell.each m (omega (arith, l, ne))
+    ];
+  }
 
 -- all columns stand: how many entries each has, and the parents
 module _ {A N : Type 0} (value : N → ℤ) (o : Order) (laws : IsGraph o.graph) (l : SharedLists A) (rows : List N)
@@ -232,8 +231,10 @@ module _ {A N : Type 0} (value : N → ℤ) (o : Order) (laws : IsGraph o.graph)
 
   pub shared_sizes : (sizes : List ℕ) → length sizes ≡ length o.rows →
       ((k : ℕ) → k < length o.rows → slice_index sizes k ≡ slice_index l.ends.items k - slice_index l.starts.items k) →
-      HoldSizes o.graph o.rows sizes l.parent.items
-  shared_sizes sizes long each =
+      (parent : List (Option ℕ)) →
+      TellFirstAt o (length o.rows) l.starts.items l.ends.items (naturals (map value rows)) parent →
+      HoldSizes o.graph o.rows sizes parent
+  shared_sizes sizes long each parent tell =
       let places = factor.places in record {
         columns = cols;
         factor = factor;
@@ -241,8 +242,8 @@ module _ {A N : Type 0} (value : N → ℤ) (o : Order) (laws : IsGraph o.graph)
             (λ k d low. let row : k < length o.rows = omega (arith, low, long) in
             get_or_default sizes k d 0 low ∙ each k row ∙ size_is k row
             ∙ sym (get_or-map length cols k [] d (omega (arith, row, places))));
-        parents = same_lists l.parent.items (map first_of cols) (h.parents.room ∙ sym places ∙ sym (length-map cols first_of))
-            (λ k d low. let room = h.parents.room in let row : k < length o.rows = omega (arith, low, room) in
-            get_or_default l.parent.items k d None low ∙ h.parents.each k row ∙ ap first_of (column_is k [] row)
+        parents = same_lists parent (map first_of cols) (tell.room ∙ sym places ∙ sym (length-map cols first_of))
+            (λ k d low. let room = tell.room in let row : k < length o.rows = omega (arith, low, room) in
+            get_or_default parent k d None low ∙ tell.each k row ∙ ap first_of (column_is k [] row)
             ∙ sym (get_or-map first_of cols k [] d (omega (arith, row, places))));
       }

@@ -101,12 +101,12 @@ fn asks(rt: &impl Abort, heap: &Refusing<Global>, matrix: &Sized) -> bool {
     }
 }
 
-/// The place of each row, two lists for the neighbours, and seven for the columns.
+/// The place of each row, two lists for the neighbours, and five for the columns.
 #[test]
 fn each_request_where_columns_share_all(rt: HostRuntime) -> Result<(), Fail> {
     let matrix = clique(rt.alloc())?;
     let refusals = each_refused(rt.alloc(), |heap| asks(&rt, heap, &matrix));
-    check!(&rt; refusals == Ok(10));
+    check!(&rt; refusals == Ok(8));
     Ok(())
 }
 
@@ -116,6 +116,6 @@ fn each_request_where_columns_share_all(rt: HostRuntime) -> Result<(), Fail> {
 fn each_request_where_columns_share_too_little(rt: HostRuntime) -> Result<(), Fail> {
     let matrix = fan(rt.alloc())?;
     let refusals = each_refused(rt.alloc(), |heap| asks(&rt, heap, &matrix));
-    check!(&rt; refusals == Ok(20));
+    check!(&rt; refusals == Ok(18));
     Ok(())
 }

@@ -17,7 +17,7 @@ still_first used more rows written low rises kept =
 pub plan_shared-plan-requires : goal.plan_shared-plan-requires
 plan_shared-plan-requires g c κs inside =
     let q = c.requires.1.1.1 in let i = c.columns.invariant in
-    let low : c.columns.k < length g.o.rows = (let t = c.columns-test.true in let p = q.0.places.parents in omega (arith, t, p)) in (
+    let low : c.columns.k < length g.o.rows = (let t = c.columns-test.true in let p = q.0.places.starts in omega (arith, t, p)) in (
       inside.0,
       (
         inside.1,
@@ -38,7 +38,7 @@ plan_shared-plan-requires g c κs inside =
 pub stand_column-requires : goal.stand_column-requires
 stand_column-requires g c κs inside =
     let q = c.requires.1.1.1 in let i = c.columns.invariant in let value = g.N.Index.value in
-    let low : c.columns.k < length g.o.rows = (let t = c.columns-test.true in let p = q.0.places.parents in omega (arith, t, p)) in
+    let low : c.columns.k < length g.o.rows = (let t = c.columns-test.true in let p = q.0.places.starts in omega (arith, t, p)) in
     let small : length g.o.rows < 2 ^ 64 = grind (arith, common_steps) in
     let plan = c.plan_shared-plan.result in let lists = c.plan_shared-plan.new.lists in let used = c.columns.used in
     let rows = take used c.columns.rows.items in let placed = c.in-Some.placed in
