@@ -1,7 +1,7 @@
 // What is counted of the columns of a factor: the number of entries of each, the parents, and the figures of the AMD
 // user guide, summed over the columns. Source: Liu 1986 and 1990; AMD user guide (the figures of `Info`).
 
-ghost use Rattle.std.specs.Prelude.{◌≡◌, ◌+◌, ◌*◌, ◌/◌, [], length, map, max, List, ℕ, IfOk, MatchOption};
+ghost use Rattle.std.specs.Prelude.{◌≡◌, ◌≤◌, ◌+◌, ◌*◌, ◌/◌, [], length, map, max, List, ℕ, IfOk, MatchOption};
 ghost use Rattle.amd_model.specs.Graph.{IsGraph};
 ghost use Rattle.amd_factor.specs.Neighbours.{HasEarlier};
 ghost use Rattle.amd_factor.specs.Orders.{Order};
@@ -47,7 +47,7 @@ fn with_size(need: Need, size: usize) -> Need
     }
 }
 
-/// What a factor needs, by how many entries each of its columns has, where a sum may pass 64 bits.
+/// What a factor needs, by how many entries each of its columns has, where 64 bits may not tell how many there are.
 fn wide_need(sizes: &[usize]) -> Need
     ensures { (columns : List (List ℕ)) → sizes.now ≡ map length columns → IsCutNeed columns result }
 {
@@ -63,32 +63,37 @@ fn wide_need(sizes: &[usize]) -> Need
     need
 }
 
-/// Sums over the columns of a factor, in 64 bits.
+/// Sums over the columns of a factor. That of the entries has 64 bits, so that of their squares does not pass 128.
 #[derive(Clone, Copy)]
 struct Sums {
     /// Of their entries, and of the squares of these.
     entries: usize,
-    squares: usize,
+    squares: u128,
     /// The entries of the largest column, with that on the diagonal; 0 where there are no columns.
     greatest: usize,
 }
 
-/// The sums with one column more; none where one of them passes 64 bits.
+/// The sums with one column more; none where there are more entries than 64 bits tell.
 fn next_sums(sums: Sums, size: usize) -> Option<Sums>
+    requires { sums.squares ≤ sums.entries * sums.entries }
     ensures { MatchOption result (Unit {0}) (λ next. (next.entries ≡ sums.entries + size) ×
         (next.squares ≡ sums.squares + size * size) × (next.greatest ≡ max sums.greatest (size + 1))) }
 {
+    let entries = sums.entries.checked_add(size)?;
+    let greatest = sums.greatest.max(size.checked_add(1)?);
+    let size = size as u128;
     Some(Sums {
-        entries: sums.entries.checked_add(size)?,
-        squares: sums.squares.checked_add(size.checked_mul(size)?)?,
-        greatest: sums.greatest.max(size.checked_add(1)?),
+        entries,
+        squares: sums.squares + size * size,
+        greatest,
     })
 }
 
-/// The sums over all columns, by how many entries each has; none where one of them passes 64 bits.
+/// The sums over all columns, by how many entries each has; none where there are more than 64 bits tell.
 fn sums_of(sizes: &[usize]) -> Option<Sums>
-    ensures { MatchOption result (Unit {0}) (λ sums. (columns : List (List ℕ)) → sizes.now ≡ map length columns →
+    ensures sums { MatchOption result (Unit {0}) (λ sums. (columns : List (List ℕ)) → sizes.now ≡ map length columns →
         SumUp columns sums) }
+    ensures few { MatchOption result (Unit {0}) (λ sums. sums.squares ≤ sums.entries * sums.entries) }
 {
     let mut sums = Sums {
         entries: 0,
@@ -104,14 +109,14 @@ fn sums_of(sizes: &[usize]) -> Option<Sums>
 /// What a factor needs by these sums: a column of `s` entries takes `s * (s + 1) / 2` steps of a factorization `LDL'`,
 /// half of `s * s + s`.
 fn need_of_sums(sums: Sums) -> Need
+    requires { sums.squares ≤ sums.entries * sums.entries }
     ensures { (columns : List (List ℕ)) → SumUp columns sums → IsCutNeed columns result }
 {
     let entries = sums.entries as u128;
-    let squares = sums.squares as u128;
     Need {
         lnz: entries,
-        n_mult_subs_ldl: (squares + entries) / 2,
-        n_mult_subs_lu: squares,
+        n_mult_subs_ldl: (sums.squares + entries) / 2,
+        n_mult_subs_lu: sums.squares,
         d_max: sums.greatest as u128,
     }
 }

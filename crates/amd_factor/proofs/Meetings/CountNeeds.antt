@@ -4,6 +4,7 @@ use Rattle.std.proofs.Common.{List, []}
 use Rattle.std.specs.Prelude.{slice_index, slice_index_or, sum}
 use Rattle.std.proofs.lemmas.List.{take_more, get_or-map, length-map}
 use Rattle.std.proofs.lemmas.List.Sums.{sum_by_more, sum-map}
+use Rattle.std.proofs.lemmas.Nat.{mul-le}
 use Rattle.amd_model.specs.Factor.{needed, needed_front}
 use Rattle.amd_model.specs.Below.{sum_below}
 use Rattle.amd_model.specs.Figures.{entries, front_sum, ldl_steps, lu_steps}
@@ -27,17 +28,27 @@ pub sums-none : SumUp [] (record { entries = 0; squares = 0; greatest = 0 })
 unfolding needed_front
 sums-none = record { lnz = refl; ldl = refl; lu = refl; greatest = refl }
 
--- what is needed by sums of 64 bits, of which none is cut
-pub need-of-sums : (columns : List (List ℕ)) (sums : Sums) → SumUp columns sums → sums.entries < 2 ^ 64 → sums.squares < 2 ^ 64 →
+-- a sum of squares does not pass the square of the sum, with one more of each
+pub squares-few : (all squares x : ℕ) → squares ≤ all * all → squares + x * x ≤ (all + x) * (all + x)
+squares-few all squares x few = omega (arith, few)
+
+-- and so has 128 bits where the sum has 64, also with the sum
+pub squares-fit : (all squares : ℕ) → all < 2 ^ 64 → squares ≤ all * all → squares + all < 2 ^ 128
+squares-fit all squares low few =
+    let most = mul-le all (all + 1) 18446744073709551615 18446744073709551616 (omega (arith, low)) (omega (arith, low)) in
+    omega (arith, few, most)
+
+-- what is needed by these sums, of which none is cut
+pub need-of-sums : (columns : List (List ℕ)) (sums : Sums) → SumUp columns sums → sums.squares + sums.entries < 2 ^ 128 →
     IsCutNeed columns (record {
       lnz = sums.entries;
       n_mult_subs_ldl = (sums.squares + sums.entries) / 2;
       n_mult_subs_lu = sums.squares;
       d_max = sums.greatest;
     })
-need-of-sums columns sums h few small = record {
-  lnz = let is = h.lnz in omega (arith, is, few);
-  ldl = let is = h.ldl in omega (arith, is, few, small);
+need-of-sums columns sums h small = record {
+  lnz = let is = h.lnz in omega (arith, is, small);
+  ldl = let is = h.ldl in omega (arith, is, small);
   lu = let is = h.lu in omega (arith, is, small);
   greatest = h.greatest;
 }
