@@ -266,7 +266,8 @@ module _ {A : Type 0} (g : Graph) (dense : ℕ → Bool) (aggressive : Bool) (w 
             least = w1.least;
             front_is = m.front_is;
             absorbed = subst (λ p. views.Absorbed aggressive c front
-                (counts_of (plain_counts w.size.items w.block.items w.front.items)) (lists_of w.lists) (lists_of w1.lists) (some_at w.parent.items) p (num w1.scratch.beyond.items))
+                (counts_of (plain_counts w.size.items w.block.items w.front.items)) (lists_of w.lists) (lists_of w1.lists)
+                (some_at w.parent.items) p (num w1.scratch.beyond.items))
                 (sym (ap (λ p. some_at p.items) parent_same)) m.absorbed.classes;
             rest_is = k.rest_is;
             border_is = border_is;

@@ -111,18 +111,17 @@ returns g c =
     c.absorb.new.lists w.parent.items c.absorb.new.parent.items c.absorb.new.scratch.beyond.items) c.deref-4.ensures.value
     c.in_ok-absorb.ensures.absorbed in
     let of_blocks = subst (λ b. PlainAbsorbed c.args.aggressive p front (plain_counts c.deref-5.result.now b c.deref-7.result.now) w.lists
-    c.absorb.new.lists
-    w.parent.items c.absorb.new.parent.items c.absorb.new.scratch.beyond.items) c.deref-6.ensures.value absorbed in
-    let of_fronts = subst (λ f. PlainAbsorbed c.args.aggressive p front (plain_counts c.deref-5.result.now w.block.items f) w.lists c.absorb.new.lists
-    w.parent.items c.absorb.new.parent.items c.absorb.new.scratch.beyond.items) c.deref-7.ensures.value of_blocks in
+    c.absorb.new.lists w.parent.items c.absorb.new.parent.items c.absorb.new.scratch.beyond.items) c.deref-6.ensures.value absorbed in
+    let of_fronts = subst (λ f. PlainAbsorbed c.args.aggressive p front (plain_counts c.deref-5.result.now w.block.items f) w.lists
+    c.absorb.new.lists w.parent.items c.absorb.new.parent.items c.absorb.new.scratch.beyond.items) c.deref-7.ensures.value of_blocks in
     record {
       makes = record {
         chosen = subst (λ s. Chosen s w.bound.items w.placed.items c.choose-pivot.new.lists.items w.least c.choose-pivot.new.least p)
             c.deref.ensures.value chosen;
         front_is = list ∙ ap (λ s. gathered s w.lists p) c.deref-3.ensures.value;
-        absorbed = subst (λ s. PlainAbsorbed c.args.aggressive p front (plain_counts s w.block.items w.front.items) w.lists c.absorb.new.lists
-            w.parent.items
-            c.absorb.new.parent.items c.absorb.new.scratch.beyond.items) c.deref-5.ensures.value of_fronts;
+        absorbed = subst (λ s. PlainAbsorbed c.args.aggressive p front (plain_counts s w.block.items w.front.items) w.lists
+            c.absorb.new.lists w.parent.items c.absorb.new.parent.items c.absorb.new.scratch.beyond.items)
+            c.deref-5.ensures.value of_fronts;
         rows = record { size = refl; bound = refl; link = refl; live = refl };
         elements = record { block = refl; front = refl; n_dense = refl; figures = refl };
         sized = record {
