@@ -1,5 +1,5 @@
 -- Columns that share entries: one with nothing new has those of a child where they stand.
-use Rattle.std.specs.Prelude.{ℕ, ℤ, ◌≡◌, ◌<◌, ◌≤◌, ◌^◌, List, Option, None, map, length, slice_index, slice_index_or}
+use Rattle.std.specs.Prelude.{ℕ, ℤ, ◌≡◌, ◌<◌, ◌≤◌, ◌^◌, List, None, Some, map, length, slice_index}
 use Rattle.std.specs.Prelude.{slice_range, take}
 use Rattle.amd_model.specs.Factor.{IsColumn}
 use Rattle.amd_model.specs.Graph.{IsGraph}
@@ -13,11 +13,11 @@ use Rattle.amd_factor.specs.declared.column.Plan.{Plan}
 use Rattle.amd_factor.specs.declared.sharing.Placed.{Placed}
 use Rattle.amd_factor.specs.declared.sharing.SharedLists.{SharedLists}
 
--- the parents of the columns before place k are the first of the entries that stand for them
-pub record TellFirstAt (o : Order) (k : ℕ) (starts ends rows : List ℕ) (parent : List (Option ℕ)) : Type 0 where
-  pub room : length parent ≡ length o.rows
-  pub each : (m : ℕ) → m < k → slice_index_or parent m None ≡ first_of
-      (slice_range rows (slice_index starts m) (slice_index ends m))
+-- where a column before place k has entries, the number at its place is the first of them
+pub record TellFirsts (o : Order) (k : ℕ) (starts ends rows firsts : List ℕ) : Type 0 where
+  pub room : length o.rows ≤ length firsts
+  pub each : (m : ℕ) → m < k → slice_index starts m < slice_index ends m →
+      first_of (slice_range rows (slice_index starts m) (slice_index ends m)) ≡ Some (slice_index firsts m)
 
 -- the columns before place k stand in numbers that are not negative, with their children
 pub record Share {A N : Type 0} (value : N → ℤ) (o : Order) (k : ℕ) (l : SharedLists A) (rows : List N) : Type 0 where
@@ -58,23 +58,15 @@ KeepsColumns old new = (new.starts.items ≡ old.starts.items) × (new.ends.item
     (new.link.items ≡ old.link.items)
 
 -- it can be said of column k that it stands from place begin on, before end
-pub record CanStand {A N : Type 0} (value : N → ℤ) (o : Order) (k begin end : ℕ) (l : SharedLists A) (rows : List N) : Type 0
-  where
-    pub laws : IsGraph o.graph
-    pub place : k < length o.rows
-    pub small : length o.rows < 2 ^ 64
-    pub places : HasColumnPlaces o l
-    pub columns : Share value o k l rows
-    pub stands : StandsFrom value o k begin end rows
-
--- all columns stand, and there is an end and a link for each: its size and its parent can be told
-pub record CanTell {N : Type 0} (value : N → ℤ) (o : Order) (starts : List ℕ) (rows : List N) (ends : List ℕ)
-    (link : List (Option ℕ)) : Type 0 where
+pub record CanStand {A N : Type 0} (value : N → ℤ) (o : Order) (k begin end : ℕ) (l : SharedLists A) (rows : List N)
+    (firsts : List ℕ) : Type 0 where
+  pub laws : IsGraph o.graph
+  pub place : k < length o.rows
   pub small : length o.rows < 2 ^ 64
-  pub numbers : AreNonNegative (map value rows)
-  pub stand : StandAt o (length o.rows) starts ends (naturals (map value rows))
-  pub stops : length ends ≡ length o.rows
-  pub links : length link ≡ length o.rows
+  pub places : HasColumnPlaces o l
+  pub columns : Share value o k l rows
+  pub told : TellFirsts o k l.starts.items l.ends.items (naturals (map value rows)) firsts
+  pub stands : StandsFrom value o k begin end rows
 
 -- the columns can be made, by lists of later neighbours: no column stands yet, and none is marked
 pub record CanShare {A : Type 0} (o : Order) (starts later : List ℕ) (l : SharedLists A) : Type 0 where

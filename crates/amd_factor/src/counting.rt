@@ -38,8 +38,9 @@ fn form_shared<I: Index, A: Allocator + Copy>(
     let Some(places) = places(alloc, size, p)? else {
         return Err(Fault::NotPermutation);
     };
-    let lists = later_lists(alloc, size, a_p, a_i, &places)?;
-    Ok(shared_counts(alloc, &lists.starts, &lists.neighbours, places)?)
+    let mut lists = later_lists(alloc, size, a_p, a_i, &places)?;
+    let later = &lists.neighbours;
+    Ok(shared_counts(alloc, &mut lists.starts, later, places)?)
 }
 
 /// The counts of a column form with `size` rows and columns: by columns that share entries, or where these would take

@@ -2,19 +2,18 @@
 // the columns can be counted in room that does not grow with the factor, as long as few of them have something new. The
 // rows are numbers of 32 bits. Source: Sherman 1975 (compressed subscripts); George and Liu 1981.
 
-ghost use Rattle.std.specs.Prelude.{ℕ, ◌≡◌, ◌<◌, ◌≤◌, ◌+◌, ◌-◌, ◌^◌, [], None, length, map, pos, slice_index};
-ghost use Rattle.std.specs.Prelude.{slice_range, take, IfOk, MatchOption};
+ghost use Rattle.std.specs.Prelude.{ℕ, ◌≡◌, ◌<◌, ◌≤◌, ◌+◌, ◌-◌, [], None, Some, length, map, pos, slice_index};
+ghost use Rattle.std.specs.Prelude.{slice_index_or, take, IfOk, MatchOption};
 ghost use Rattle.amd_model.specs.Graph.{IsGraph};
 ghost use Rattle.amd_types.specs.Naturals.{naturals};
-ghost use Rattle.amd_factor.specs.Columns.{first_of};
 ghost use Rattle.amd_factor.specs.Counted.{TellCounts};
 ghost use Rattle.amd_factor.specs.Gathering.{LinkChildren, MarksTell};
 ghost use Rattle.amd_factor.specs.Neighbours.{HasLater};
 ghost use Rattle.amd_factor.specs.Numbers.{AreNonNegative, Plans};
 ghost use Rattle.amd_factor.specs.Orders.{Order};
 ghost use Rattle.amd_factor.specs.Planning.{CanPlan};
-ghost use Rattle.amd_factor.specs.Sharing.{CanShare, CanStand, CanTell, HasColumnPlaces, IsPlanned, IsPlacedColumn};
-ghost use Rattle.amd_factor.specs.Sharing.{KeepsColumns, Share, StandsFrom, TellFirstAt};
+ghost use Rattle.amd_factor.specs.Sharing.{CanShare, CanStand, HasColumnPlaces, IsPlanned, IsPlacedColumn};
+ghost use Rattle.amd_factor.specs.Sharing.{KeepsColumns, Share, StandsFrom, TellFirsts};
 
 use crate::children::link_child;
 use crate::column::{Columns, Marked, Plan, plan_column};
@@ -189,39 +188,34 @@ fn place_column<N: Index, A: Allocator>(
     }))
 }
 
-/// The first of the entries from place `begin` on, before `end`: the parent of their column. None where there is none.
-fn first_entry<N: Index>(rows: &[N], begin: usize, end: usize) -> Option<usize>
-    requires numbers { AreNonNegative (map N.value rows.now) }
-    requires range { begin ≤ end }
-    requires within { end ≤ length rows.now }
-    requires small { begin < end → slice_index (naturals (map N.value rows.now)) begin < 2 ^ 64 }
-    ensures { result ≡ first_of (slice_range (naturals (map N.value rows.now)) begin end) }
-{
-    if begin == end {
-        return None;
-    }
-    Some(place_at(rows, begin))
-}
-
-/// Says where column `k` stands: from place `begin` on, before `end`. It is a child of its first entry.
+/// Says where column `k` stands: from place `begin` on, before `end`. It is a child of its first entry, which is put in
+/// its place in `firsts`; if it has none, nothing is.
 fn stand_column<N: Index, A: Allocator>(
     k: usize,
     begin: usize,
     end: usize,
     rows: &[N],
     lists: &mut SharedLists<A>,
+    firsts: &mut [usize],
 )
     ghost o: { Order }
-    requires { CanStand N.value o k begin end lists.old rows.now }
+    requires { CanStand N.value o k begin end lists.old rows.now firsts.old }
     ensures columns { Share N.value o (k + 1) lists.new rows.now }
+    ensures firsts { TellFirsts o (k + 1) lists.new.starts.items lists.new.ends.items (naturals (map N.value rows.now))
+        firsts.new }
     ensures places { HasColumnPlaces o lists.new }
     ensures marks { lists.new.mark.items ≡ lists.old.mark.items }
+    ensures left { (length firsts.new ≡ length firsts.old) × ((m : ℕ) → k < m →
+        slice_index firsts.new m ≡ slice_index firsts.old m) }
 {
     lists.starts[k] = begin;
     lists.ends[k] = end;
-    if let Some(parent) = first_entry(rows, begin, end) {
-        link_child(k, parent, &mut lists.link);
+    if begin == end {
+        return;
     }
+    let first = place_at(rows, begin);
+    firsts[k] = first;
+    link_child(k, first, &mut lists.link);
 }
 
 /// How many rows were marked anew for columns that the marks did not tell, with those of column `k`.
@@ -233,17 +227,17 @@ fn marked_again(before: usize, k: usize, plan: Plan) -> usize {
     }
 }
 
-/// Makes the columns of a factor, in at most `room` numbers, and returns how many of them they have. None where there is
-/// no room, and where more rows are marked again than that.
+/// Makes the columns of a factor, in at most `room` numbers, and returns how many of them they take. None where there
+/// is no room, and where more rows are marked again than that.
 ///
 /// `later[starts[k]..starts[k + 1]]` names the places after `k` whose rows an edge joins with that at place `k`. The
-/// lists are as before the first column.
+/// lists are as before the first column. Afterwards `starts[k]` is the first entry of column `k`, if it has one.
 ///
 /// # Errors
 ///
 /// A refused request for memory.
 fn share_columns<N: Index, A: Allocator>(
-    starts: &[usize],
+    starts: &mut [usize],
     later: &[usize],
     room: usize,
     lists: &mut SharedLists<A>,
@@ -251,11 +245,13 @@ fn share_columns<N: Index, A: Allocator>(
 ) -> Result<Option<usize>, AllocError>
     ghost o: { Order }
     requires fits { (j : ℕ) → j < length o.rows → N.fits (pos j) }
-    requires columns { CanShare o starts.now later.now lists.old }
+    requires columns { CanShare o starts.old later.now lists.old }
     requires empty { rows.old.items ≡ [] }
-    ensures used { IfOk result (λ r. MatchOption r (Unit {0}) (λ used. used ≤ length rows.new.items)) }
     ensures shared { IfOk result (λ r. MatchOption r (Unit {0})
         (λ used. Share N.value o (length o.rows) lists.new (take used rows.new.items))) }
+    ensures firsts { IfOk result (λ r. MatchOption r (Unit {0})
+        (λ used. TellFirsts o (length o.rows) lists.new.starts.items lists.new.ends.items
+        (naturals (map N.value (take used rows.new.items))) starts.new)) }
     ensures places { HasColumnPlaces o lists.new }
 {
     let mut marked = Marked {
@@ -272,7 +268,8 @@ fn share_columns<N: Index, A: Allocator>(
             return Ok(None);
         };
         used = placed.used;
-        stand_column(k, placed.begin, placed.end, &rows[..used], lists);
+        let entries = &rows[..used];
+        stand_column(k, placed.begin, placed.end, entries, lists, starts);
         marked = plan.marked;
         again = marked_again(again, k, plan);
         if again > room {
@@ -282,24 +279,23 @@ fn share_columns<N: Index, A: Allocator>(
     Ok(Some(used))
 }
 
-/// Puts in the place of each end how many entries its column has, and in that of each link the parent of the column.
-fn tell_columns<N: Index>(
-    starts: &[usize],
-    rows: &[N],
-    ends: &mut [usize],
-    link: &mut [Option<usize>],
-)
-    ghost o: { Order }
-    requires { CanTell N.value o starts.now rows.now ends.old link.old }
-    ensures sizes { (length ends.new ≡ length o.rows) × ((k : ℕ) → k < length o.rows →
+/// Puts in the place of each end how many entries its column has, and in that of each link the parent of the column, its
+/// first entry.
+fn tell_columns(starts: &[usize], firsts: &[usize], ends: &mut [usize], link: &mut [Option<usize>])
+    requires places { (length starts.now ≡ length ends.old) × (length ends.old ≤ length firsts.now) ×
+        (length link.old ≡ length ends.old) }
+    requires range { (k : ℕ) → k < length ends.old → slice_index starts.now k ≤ slice_index ends.old k }
+    ensures sizes { (length ends.new ≡ length ends.old) × ((k : ℕ) → k < length ends.old →
         slice_index ends.new k ≡ slice_index ends.old k - slice_index starts.now k) }
-    ensures parents { TellFirstAt o (length o.rows) starts.now ends.old (naturals (map N.value rows.now)) link.new }
+    ensures none { (length link.new ≡ length ends.old) × ((k : ℕ) → k < length ends.old →
+        slice_index starts.now k ≡ slice_index ends.old k → slice_index_or link.new k None ≡ None) }
+    ensures parents { (k : ℕ) → k < length ends.old → slice_index starts.now k < slice_index ends.old k →
+        slice_index_or link.new k None ≡ Some (slice_index firsts.now k) }
 {
     'columns: for k in 0..ends.len() {
-        let begin = starts[k];
-        let end = ends[k];
-        link[k] = first_entry(rows, begin, end);
-        ends[k] = end - begin;
+        let size = ends[k] - starts[k];
+        link[k] = if size == 0 { None } else { Some(firsts[k]) };
+        ends[k] = size;
     }
 }
 
@@ -310,20 +306,21 @@ fn shared_room(each: usize, columns: usize, arcs: usize) -> usize {
 
 /// Counts the entries of the columns of a factor and sums up what it needs, by the lists of later neighbours: the
 /// columns are made, and share their entries. None where there is no room for all of them, or more work than that, or
-/// where a row is no number of 32 bits. `work` is any numbers, one for each column, for the work alone.
+/// where a row is no number of 32 bits. `work` is any numbers, one for each column, for the work alone. What `starts`
+/// then holds means nothing.
 ///
 /// # Errors
 ///
 /// A refused request for memory.
 pub fn shared_counts<A: Allocator + Copy>(
     alloc: A,
-    starts: &[usize],
+    starts: &mut [usize],
     later: &[usize],
     work: Vec<usize, A>,
 ) -> Result<Option<Counts<A>>, AllocError>
     ghost o: { Order }
     requires laws { IsGraph o.graph }
-    requires later { HasLater o starts.now later.now }
+    requires later { HasLater o starts.old later.now }
     requires work { length work.items ≡ length o.rows }
     ensures { IfOk result (λ r. MatchOption r (Unit {0})
         (λ c. TellCounts o.graph o.rows c.sizes.items c.parent.items c.need)) }
@@ -336,15 +333,10 @@ pub fn shared_counts<A: Allocator + Copy>(
     let mut lists = shared_lists(alloc, work)?;
     let first = shared_room(FIRST_ROWS, columns, later.len());
     let mut rows: Vec<i32, A> = Vec::with_capacity(alloc, first)?;
-    let Some(used) = share_columns(starts, later, room, &mut lists, &mut rows)? else {
+    let Some(_) = share_columns(starts, later, room, &mut lists, &mut rows)? else {
         return Ok(None);
     };
-    tell_columns(
-        &lists.starts,
-        &rows[..used],
-        &mut lists.ends,
-        &mut lists.link,
-    );
+    tell_columns(&lists.starts, starts, &mut lists.ends, &mut lists.link);
     let need = need_of_sizes(&lists.ends);
     Ok(Some(Counts {
         sizes: lists.ends,

@@ -1,7 +1,7 @@
 -- Columns that share entries: one with nothing new, one that is written behind all others, and one more of them.
 use Rattle.std.proofs.Common.{ℕ, ℤ, ◌≡◌, ◌≢◌, ◌<◌, ◌≤◌, ◌+◌, ◌-◌, ◌++◌, inl, inr, refl, sym, ◌∙◌, ap, subst, arith, List, map, length}
 use Rattle.std.proofs.Common.{pos, set, take, take_all, drop, []}
-use Rattle.std.specs.Prelude.{slice_index, slice_index_or, slice_range, Option, None}
+use Rattle.std.specs.Prelude.{slice_index, slice_index_or, slice_range, Option, None, Some}
 use Rattle.std.proofs.lemmas.Bool.{cases_eq}
 use Rattle.std.proofs.lemmas.List.{
   append_assoc,
@@ -28,7 +28,7 @@ use Rattle.amd_factor.specs.Gathering.{LinkChildren, StandAt}
 use Rattle.amd_factor.specs.Merging.{merged}
 use Rattle.amd_factor.specs.Numbers.{AreNonNegative, Plans}
 use Rattle.amd_factor.specs.Orders.{Order}
-use Rattle.amd_factor.specs.Sharing.{HasColumnPlaces, KeepsColumns, Share, StandsFrom, TellFirstAt}
+use Rattle.amd_factor.specs.Sharing.{HasColumnPlaces, KeepsColumns, Share, StandsFrom, TellFirsts}
 use Rattle.amd_factor.specs.Sizes.{HoldSizes}
 use Rattle.amd_factor.specs.Trees.{IsParent}
 use Rattle.amd_factor.specs.declared.sharing.SharedLists.{SharedLists}
@@ -135,6 +135,13 @@ module _ {A N : Type 0} (value : N → ℤ) (o : Order) (k : ℕ) (l : SharedLis
     links = h.links;
   }
 
+  pub firsts_longer : (firsts : List ℕ) → TellFirsts o k l.starts.items l.ends.items (naturals (map value rows)) firsts →
+      TellFirsts o k l.starts.items l.ends.items (naturals (map value rows')) firsts
+  firsts_longer firsts tell = record {
+    room = tell.room;
+    each = λ m low some. ap first_of (sym (part_same m low)) ∙ tell.each m low some;
+  }
+
 -- one column more stands
 module _ (o : Order) (k begin end : ℕ) (starts ends rows : List ℕ) (h : StandAt o k starts ends rows)
     (low : k < length o.rows) (range : begin ≤ end) (within : end ≤ length rows)
@@ -177,6 +184,21 @@ module _ (o : Order) (k begin end : ℕ) (starts ends rows : List ℕ) (h : Stan
     ];
   }
 
+  -- and its first entry is told
+  pub firsts_next : (firsts firsts' : List ℕ) → TellFirsts o k starts ends rows firsts → length firsts' ≡ length firsts →
+      ((m : ℕ) → m < k → slice_index firsts' m ≡ slice_index firsts m) →
+      (begin < end → first_of (slice_range rows begin end) ≡ Some (slice_index firsts' k)) →
+      TellFirsts o (k + 1) (set starts k begin) (set ends k end) rows firsts'
+  firsts_next firsts firsts' tell long kept is = record {
+    room = (let r = tell.room in omega (arith, r, long));
+    each = λ m l some. elim (cases_eq m k) [
+      | inl q ↦ rw q (ap first_of (sym part_is)
+          ∙ is (let s = start_is in let e = end_is in let b = (rw q at some) in omega (arith, s, e, b)))
+      | inr ne ↦ (let s = start_same m ne in let e = end_same m ne in let low : m < k = omega (arith, l, ne) in
+          ap first_of (sym (part_kept m ne)) ∙ tell.each m low (omega (arith, s, e, some)) ∙ ap Some (sym (kept m low)))
+    ];
+  }
+
 -- they stand also where marks and new rows are others
 pub share_kept : {A N : Type 0} (value : N → ℤ) (o : Order) (k : ℕ) (l l' : SharedLists A) (rows : List N) → KeepsColumns l l' →
     Share value o k l rows → Share value o k l' rows
@@ -196,22 +218,10 @@ places_kept o l l' (starts, ends, links) h marks fresh = record {
   fresh = fresh;
 }
 
--- the parents of columns, with one more
-module _ (o : Order) (starts ends rows : List ℕ) (k : ℕ) (parent : List (Option ℕ)) (tell : TellFirstAt o k starts ends rows parent)
-    (low : k < length o.rows) where
-  pub tell_next : (first : Option ℕ) → first ≡ first_of (slice_range rows (slice_index starts k) (slice_index ends k)) →
-      TellFirstAt o (k + 1) starts ends rows (set parent k first)
-  tell_next first is = record {
-    room = length-set parent k first ∙ tell.room;
-    each = λ m l. elim (cases_eq m k) [
-      | inl q ↦ rw q (get_or-set_same parent k first None (let r = tell.room in omega (arith, r, low)) ∙ is)
-      | inr ne ↦ get_or-set_other parent k m first None ne ∙ tell.each m (omega (arith, l, ne))
-    ];
-  }
-
 -- all columns stand: how many entries each has, and the parents
 module _ {A N : Type 0} (value : N → ℤ) (o : Order) (laws : IsGraph o.graph) (l : SharedLists A) (rows : List N)
-    (h : Share value o (length o.rows) l rows) where
+    (h : Share value o (length o.rows) l rows) (firsts : List ℕ)
+    (tell : TellFirsts o (length o.rows) l.starts.items l.ends.items (naturals (map value rows)) firsts) where
   cols : List (List ℕ)
   cols = columns o.graph o.rows
 
@@ -229,12 +239,28 @@ module _ {A N : Type 0} (value : N → ℤ) (o : Order) (laws : IsGraph o.graph)
       let part = length-between (naturals (map value rows)) (slice_index l.starts.items k) (slice_index l.ends.items k) w in
       let same = ap length (column_is k [] low) in omega (arith, part, same)
 
+  -- the parent of a column without entries is none, that of another one its first
+  parent_is : (parent : List (Option ℕ)) →
+      ((k : ℕ) → k < length o.rows → slice_index l.starts.items k ≡ slice_index l.ends.items k → slice_index_or parent k None ≡ None) →
+      ((k : ℕ) → k < length o.rows → slice_index l.starts.items k < slice_index l.ends.items k →
+      slice_index_or parent k None ≡ Some (slice_index firsts k)) → (k : ℕ) → k < length o.rows →
+      slice_index_or parent k None ≡
+      first_of (slice_range (naturals (map value rows)) (slice_index l.starts.items k) (slice_index l.ends.items k))
+  parent_is parent none some k low =
+      let begin = slice_index l.starts.items k in let end = slice_index l.ends.items k in elim (cases_eq begin end) [
+        | inl e ↦ none k low e ∙ sym (ap first_of (no_part (naturals (map value rows)) begin end e))
+        | inr ne ↦ (let r = h.stand.range k low in let has : begin < end = omega (arith, ne, r) in
+            some k low has ∙ sym (tell.each k low has))
+      ]
+
   pub shared_sizes : (sizes : List ℕ) → length sizes ≡ length o.rows →
       ((k : ℕ) → k < length o.rows → slice_index sizes k ≡ slice_index l.ends.items k - slice_index l.starts.items k) →
-      (parent : List (Option ℕ)) →
-      TellFirstAt o (length o.rows) l.starts.items l.ends.items (naturals (map value rows)) parent →
+      (parent : List (Option ℕ)) → length parent ≡ length o.rows →
+      ((k : ℕ) → k < length o.rows → slice_index l.starts.items k ≡ slice_index l.ends.items k → slice_index_or parent k None ≡ None) →
+      ((k : ℕ) → k < length o.rows → slice_index l.starts.items k < slice_index l.ends.items k →
+      slice_index_or parent k None ≡ Some (slice_index firsts k)) →
       HoldSizes o.graph o.rows sizes parent
-  shared_sizes sizes long each parent tell =
+  shared_sizes sizes long each parent room none some =
       let places = factor.places in record {
         columns = cols;
         factor = factor;
@@ -242,8 +268,8 @@ module _ {A N : Type 0} (value : N → ℤ) (o : Order) (laws : IsGraph o.graph)
             (λ k d low. let row : k < length o.rows = omega (arith, low, long) in
             get_or_default sizes k d 0 low ∙ each k row ∙ size_is k row
             ∙ sym (get_or-map length cols k [] d (omega (arith, row, places))));
-        parents = same_lists parent (map first_of cols) (tell.room ∙ sym places ∙ sym (length-map cols first_of))
-            (λ k d low. let room = tell.room in let row : k < length o.rows = omega (arith, low, room) in
-            get_or_default parent k d None low ∙ tell.each k row ∙ ap first_of (column_is k [] row)
+        parents = same_lists parent (map first_of cols) (room ∙ sym places ∙ sym (length-map cols first_of))
+            (λ k d low. let row : k < length o.rows = omega (arith, low, room) in
+            get_or_default parent k d None low ∙ parent_is parent none some k row ∙ ap first_of (column_is k [] row)
             ∙ sym (get_or-map first_of cols k [] d (omega (arith, row, places))));
       }

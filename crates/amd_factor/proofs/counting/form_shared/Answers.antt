@@ -13,8 +13,8 @@ shared_counts-requires g c κs within =
       (
         laws c.args.size a_p a_i p g.o q.graph q.rows,
         (
-          later_of c.args.size a_p a_i p g.o q.graph q.rows c.deref-2.result.now c.deref-3.result.now
-              (rw (c.deref-2.ensures.value, c.deref-3.ensures.value)
+          later_of c.args.size a_p a_i p g.o q.graph q.rows c.deref_mut.result.now c.deref-2.result.now
+              (rw (c.deref_mut.ensures.value, c.deref-2.ensures.value)
               (c.in_ok-lists.ensures (naturals p) (rw c.deref.ensures.value places))),
           places.room ∙ sym (ap length q.rows ∙ places.listing.places),
         ),

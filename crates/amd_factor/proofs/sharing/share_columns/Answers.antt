@@ -1,11 +1,11 @@
-use Rattle.std.proofs.Common.{ℕ, List, ◌≡◌, ◌<◌, ◌≤◌, ◌∙◌, ap, arith, length, map, subst, sym, take}
+use Rattle.std.proofs.Common.{ℕ, List, ◌≡◌, ◌<◌, ◌≤◌, ◌+◌, ◌∙◌, ap, arith, length, map, subst, sym, take}
 use Rattle.std.specs.Prelude.{◌^◌}
 use Rattle.std.proofs.lemmas.Grind.{common_steps}
 use Rattle.std.proofs.lemmas.List.{length-take-le, take-take}
 use Rattle.amd_types.specs.Naturals.{naturals}
 use Rattle.amd_factor.specs.Numbers.{Plans}
-use Rattle.amd_factor.specs.Sharing.{IsPlanned, Share, StandsFrom}
-use Rattle.amd_factor.proofs.Factors.Sharing.{places_kept, share_kept, share_longer}
+use Rattle.amd_factor.specs.Sharing.{IsPlanned, Share, StandsFrom, TellFirsts}
+use Rattle.amd_factor.proofs.Factors.Sharing.{firsts_longer, places_kept, share_kept, share_longer}
 use Rattle.amd_factor.proofs.sharing.share_columns.Goals as goal
 
 -- the numbers of the columns so far are the first of those that were written
@@ -25,7 +25,7 @@ plan_shared-plan-requires g c κs inside =
           record {
             laws = q.0.laws;
             place = low;
-            later = q.0.neighbours.each c.columns.k low;
+            later = rw (i.left c.columns.k (omega arith), i.left (c.columns.k + 1) (omega arith)) (q.0.neighbours.each c.columns.k low);
             marks = i.marks;
             long = i.places.fresh;
           },
@@ -68,6 +68,12 @@ stand_column-requires g c κs inside =
               (share_longer value g.o c.columns.k lists rows (take placed.used written)
               (share_kept value g.o c.columns.k c.columns.lists lists rows kept i.columns)
               (still_first used placed.used c.columns.rows.items written i.used is.more c.place_column.ensures.kept) is.numbers);
+          told = subst (λ xs. TellFirsts g.o c.columns.k lists.starts.items lists.ends.items (naturals (map value (take placed.used xs)))
+              c.columns.starts) (sym after)
+              (firsts_longer value g.o c.columns.k lists rows (take placed.used written)
+              (share_kept value g.o c.columns.k c.columns.lists lists rows kept i.columns)
+              (still_first used placed.used c.columns.rows.items written i.used is.more c.place_column.ensures.kept) c.columns.starts
+              (rw (kept.0, kept.1) i.firsts));
           stands = subst (λ xs. StandsFrom value g.o c.columns.k placed.begin placed.end (take placed.used xs)) (sym after)
               (stands g.o c.columns.k planned);
         },

@@ -1,6 +1,8 @@
-use Rattle.std.proofs.Common.{◌≤◌, length, take}
+use Rattle.std.proofs.Common.{ℕ, ◌≡◌, ◌≤◌, length, map, take}
+use Rattle.std.specs.Prelude.{slice_index}
+use Rattle.amd_types.specs.Naturals.{naturals}
 use Rattle.amd_factor.specs.Gathering.{MarksTell}
-use Rattle.amd_factor.specs.Sharing.{HasColumnPlaces, Share}
+use Rattle.amd_factor.specs.Sharing.{HasColumnPlaces, Share, TellFirsts}
 use Rattle.amd_factor.proofs.sharing.share_columns.Given as goal
 
 abbrev pub ghost-plan_shared : goal.ghost-plan_shared
@@ -15,5 +17,9 @@ invariant-columns g l = record {
   used : l.used ≤ length l.rows.items;
   room : length l.rows.items ≤ l.fn.room;
   places : HasColumnPlaces g.o l.lists;
+  firsts : TellFirsts g.o l.k l.lists.starts.items l.lists.ends.items (naturals (map g.N.Index.value (take l.used l.rows.items)))
+      l.starts;
+  long : length l.starts ≡ length l.fn.starts;
+  left : (m : ℕ) → l.k ≤ m → slice_index l.starts m ≡ slice_index l.fn.starts m;
   marks : MarksTell g.o l.k l.marked.column l.marked.stamp l.lists.mark.items;
 }

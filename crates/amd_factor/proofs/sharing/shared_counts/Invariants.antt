@@ -5,6 +5,3 @@ ghost-shared_lists g a = g.o
 
 abbrev pub ghost-share_columns : goal.ghost-share_columns
 ghost-share_columns g a = g.o
-
-abbrev pub ghost-tell_columns : goal.ghost-tell_columns
-ghost-tell_columns g a = g.o
