@@ -13,8 +13,8 @@
  *     cholmod_*  CHOLMOD: cholmod_l_analyze_p under the order, simplicial and with no postorder of its own; for the columns the parts of
  *                that call, and the rows of the factor by cholmod_l_row_subtree
  *
- * All write numbers of 64 bits into memory that is asked for within the time and given back outside it. Then each result is compared with
- * that of rimopaku_columns, the columns entry by entry.
+ * All write numbers of 64 bits into memory that is asked for within the time and given back outside it. Before each call other numbers
+ * are written, more than the caches hold. After it the result is compared with that of rimopaku_columns, the columns entry by entry.
  *
  *     cc -O2 -I OUT/include tests/speed/factor.c -o factor OUT/lib/librimopaku.a -lcholmod -lcxsparse
  *
@@ -43,6 +43,13 @@ static size_t room;
 
 /* The factor that the others are compared with. */
 static number *ptr, *factor, *parent, *sizes;
+
+/* Writes 64 MB, so that no call finds in a cache what the one before it left. */
+static void cool(void) {
+    static number other[1 << 23];
+    for (size_t k = 0; k < sizeof other / sizeof *other; k += 8)
+        other[k]++;
+}
 
 static double now(void) {
     struct timespec time;
@@ -88,6 +95,7 @@ static void time_order(void) {
     struct rimopaku_parameters parameters;
     struct rimopaku_statistics statistics;
     rimopaku_defaults(&parameters);
+    cool();
     double start = now();
     int32_t status = rimopaku_order_i64(n, pointers, n + 1, rows, entries, &parameters, p, n, p_inv, n, &statistics);
     took(ORDER, start);
@@ -97,6 +105,7 @@ static void time_order(void) {
 
 static void time_columns(void) {
     free(ptr), free(factor), free(parent);
+    cool();
     double start = now();
     ptr = memory(n + 1), factor = memory(room), parent = memory(n);
     int32_t status = rimopaku_columns_i64(n, pointers, n + 1, rows, entries, p, n, ptr, n + 1, factor, room, parent, n);
@@ -108,6 +117,7 @@ static void time_counts(void) {
     struct rimopaku_needs needs;
     number *parents;
     free(sizes);
+    cool();
     double start = now();
     sizes = memory(n), parents = memory(n);
     int32_t status = rimopaku_counts_i64(n, pointers, n + 1, rows, entries, p, n, sizes, n, parents, n, &needs);
@@ -157,6 +167,7 @@ static void symbolic_done(struct symbolic *it) {
 }
 
 static void time_cs_counts(const cs_dl *upper) {
+    cool();
     double start = now();
     struct symbolic it = cs_symbolic(upper);
     took(CS_COUNTS, start);
@@ -166,6 +177,7 @@ static void time_cs_counts(const cs_dl *upper) {
 }
 
 static void time_cs_columns(const cs_dl *upper) {
+    cool();
     double start = now();
     struct symbolic it = cs_symbolic(upper);
     integer *begin = begins(it.count), *next = memory(n), *stack = memory(n), *mark = memory(n);
@@ -182,6 +194,7 @@ static void time_cs_columns(const cs_dl *upper) {
 }
 
 static void time_cholmod_counts(cholmod_sparse *lower, cholmod_common *common) {
+    cool();
     double start = now();
     cholmod_factor *it = cholmod_l_analyze_p(lower, (integer *)p, NULL, 0, common);
     took(CHOLMOD_COUNTS, start);
@@ -192,6 +205,7 @@ static void time_cholmod_counts(cholmod_sparse *lower, cholmod_common *common) {
 }
 
 static void time_cholmod_columns(cholmod_sparse *lower, cholmod_common *common) {
+    cool();
     double start = now();
     integer *tree = memory(n), *post = memory(n), *count = memory(n), *first = memory(n), *level = memory(n), *next = memory(n);
     cholmod_sparse *upper = cholmod_l_ptranspose(lower, 0, (integer *)p, NULL, 0, common);
