@@ -3,7 +3,8 @@
  *     factor MATRIX ROUNDS
  *
  * MATRIX is a file of matrices.py that has one entry for each edge: a lower triangle. The order is that of rimopaku_order by the default
- * parameters, for all three. Each round makes every call once, in turn, and the least processor time of each is printed, in milliseconds:
+ * parameters, for all three. Each round makes every call once, in turn. Printed is the least processor time of each, in milliseconds, and
+ * how much of the time of columns, and of CHOLMOD's counts, counts takes: the median over the rounds, as the clock of a machine changes.
  *
  *     order      rimopaku_order
  *     columns    rimopaku_columns, with the bound of the ordering as room
@@ -34,7 +35,9 @@ typedef SuiteSparse_long integer;
 
 enum call { ORDER, COLUMNS, COUNTS, CS_COLUMNS, CS_COUNTS, CHOLMOD_COLUMNS, CHOLMOD_COUNTS, CALLS };
 static const char *const names[CALLS] = {"order", "columns", "counts", "cs_columns", "cs_counts", "cholmod_columns", "cholmod_counts"};
-static double least[CALLS];
+enum { ROUNDS = 1000 };
+static double times[CALLS][ROUNDS];
+static int done;
 
 /* A matrix by its lower triangle, and an order of its rows. */
 static number n, entries;
@@ -58,9 +61,29 @@ static double now(void) {
 }
 
 static void took(enum call call, double start) {
-    double time = now() - start;
-    if (least[call] == 0 || time < least[call])
-        least[call] = time;
+    times[call][done] = now() - start;
+}
+
+static int rising(const void *a, const void *b) {
+    double difference = *(const double *)a - *(const double *)b;
+    return (difference > 0) - (difference < 0);
+}
+
+static double least(enum call call) {
+    double time = times[call][0];
+    for (int k = 1; k < done; k++)
+        if (times[call][k] < time)
+            time = times[call][k];
+    return time;
+}
+
+/* The median over the rounds of the ratio of two calls in one round. */
+static double ratio(enum call call, enum call other) {
+    static double ratios[ROUNDS];
+    for (int k = 0; k < done; k++)
+        ratios[k] = times[call][k] / times[other][k];
+    qsort(ratios, done, sizeof(double), rising);
+    return done % 2 ? ratios[done / 2] : (ratios[done / 2 - 1] + ratios[done / 2]) / 2;
 }
 
 static void need(int holds, const char *what) {
@@ -243,14 +266,15 @@ static cholmod_sparse *triangle(cholmod_common *common) {
 }
 
 int main(int count, char **words) {
-    need(count == 3, "factor MATRIX ROUNDS");
+    int rounds = count == 3 ? atoi(words[2]) : 0;
+    need(0 < rounds && rounds <= ROUNDS, "factor MATRIX ROUNDS, of which there may be 1 to 1000");
     read_matrix(words[1]);
     cholmod_common common;
     cholmod_l_start(&common);
     common.nmethods = 1, common.method[0].ordering = CHOLMOD_GIVEN, common.postorder = 0, common.supernodal = CHOLMOD_SIMPLICIAL;
     cholmod_sparse *lower = triangle(&common), *transposed = cholmod_l_ptranspose(lower, 0, NULL, NULL, 0, &common);
     cs_dl upper = {transposed->nzmax, n, n, transposed->p, transposed->i, NULL, -1};
-    for (int round = atoi(words[2]); round > 0; round--) {
+    for (; done < rounds; done++) {
         time_order();
         time_columns();
         time_counts();
@@ -261,7 +285,7 @@ int main(int count, char **words) {
     }
     printf("%s entries=%lld", strrchr(words[1], '/') ? strrchr(words[1], '/') + 1 : words[1], (long long)ptr[n]);
     for (int call = 0; call < CALLS; call++)
-        printf(" %s=%.2f", names[call], least[call] * 1e3);
-    putchar('\n');
+        printf(" %s=%.2f", names[call], least(call) * 1e3);
+    printf(" counts/columns=%.3f counts/cholmod_counts=%.3f\n", ratio(COUNTS, COLUMNS), ratio(COUNTS, CHOLMOD_COUNTS));
     return 0;
 }
