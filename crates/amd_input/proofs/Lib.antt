@@ -10,3 +10,4 @@ pub mod ColumnLists
 pub mod RowReads
 pub mod RowForms
 pub mod MirroredRows
+pub mod LowerRows

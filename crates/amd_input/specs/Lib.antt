@@ -4,3 +4,4 @@ pub mod PatternFigures
 pub mod Transposes
 pub mod Degrees
 pub mod Mirrors
+pub mod LowerRows

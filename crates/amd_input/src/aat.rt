@@ -2,7 +2,7 @@
 // and Duff 2004). `aat_within` writes them into lists that are handed in, and `aat` takes the memory for them.
 
 ghost use Rattle.std.specs.Prelude.{◌≡◌, ◌<◌, ◌^◌, ◌-◌, ◌*◌, ◌==◌, map, length, slice_index, slice_set, unsigned_abs};
-ghost use Rattle.std.specs.Prelude.{◌≤◌, ◌∷◌, [], IfOk, IfErr, OnOk, OnErr, pos};
+ghost use Rattle.std.specs.Prelude.{◌≤◌, ◌∷◌, [], IfOk, IfErr, IfSome, OnOk, OnErr, pos};
 ghost use Rattle.std.specs.Vec.{vec_capacity};
 ghost use Rattle.amd_model.specs.Input.Columns.{IsColumnForm, IsInput, IsSorted, IsSortedInput};
 ghost use Rattle.amd_model.specs.Input.Pattern.{graph_of, diagonal_count};
@@ -13,6 +13,7 @@ ghost use Rattle.amd_input.specs.PatternFigures.{HasPatternFigures};
 ghost use Rattle.amd_types.specs.declared.amd.Status.TheVariants.{OutOfMemory};
 
 use crate::cells::{numbers_of, total, zeros};
+use crate::lower::lower_degrees;
 use crate::mirrors::mirrored_degrees;
 use amd_edges::walk::{Visitor, walk};
 use amd_types::amd::{Info, Status};
@@ -55,9 +56,38 @@ impl<U: Unsigned, A: Allocator> Visitor for DegreeCounter<U, A> {
     }
 }
 
+/// Appends the degree of each of `size` rows to an empty list, and returns the number of diagonal entries, from the
+/// columns alone; or `None`, where the pattern is not found to be symmetric and has an entry above the diagonal.
+fn degrees_by_columns<I: Index, U: Unsigned, A: Allocator>(
+    size: usize,
+    a_p: &[I],
+    a_i: &[I],
+    next: &mut Vec<Cell<U>, A>,
+    degrees: &mut Vec<Cell<U>, A>,
+) -> Option<usize>
+    requires form { IsColumnForm (pos size) size (map I.value a_p.now) (map I.value a_i.now) }
+    requires sorted { IsSorted size (map I.value a_p.now) (map I.value a_i.now) }
+    requires fits { (size ≤ U.MOST) × (slice_index (naturals (map I.value a_p.now)) size ≤ U.MOST) }
+    requires empty { (length next.old.items ≡ 0) × (length degrees.old.items ≡ 0) }
+    requires room { (size ≤ vec_capacity next.old) × (size ≤ vec_capacity degrees.old) }
+    ensures degrees { IfSome result (λ diagonals. AreCounts (graph_of size (map I.value a_p.now) (map I.value a_i.now))
+        ((graph_of size (map I.value a_p.now) (map I.value a_i.now)).edge) degrees.new.items) }
+    ensures diagonals { IfSome result (λ diagonals. diagonals ≡
+        diagonal_count size (map I.value a_p.now) (map I.value a_i.now)) }
+    ensures room { (vec_capacity next.new ≡ vec_capacity next.old) ×
+        (vec_capacity degrees.new ≡ vec_capacity degrees.old) }
+{
+    let mirrored = mirrored_degrees(size, a_p, a_i, next, degrees);
+    if mirrored.is_some() {
+        return mirrored;
+    }
+    degrees.clear();
+    lower_degrees(size, a_p, a_i, degrees)
+}
+
 /// Writes the degree of each of `size` rows, and returns the number of diagonal entries: from the columns alone where
-/// the pattern is found to be symmetric, and else by a walk over the edges. Both lists are taken out of their places
-/// while they are written, since behind a reference each step loads where they stand.
+/// that is possible, and else by a walk over the edges. Both lists are taken out of their places while they are
+/// written, since behind a reference each step loads where they stand.
 fn count_degrees<I: Index, U: Unsigned, A: Allocator + Copy>(
     size: usize,
     a_p: &[I],
@@ -82,7 +112,7 @@ fn count_degrees<I: Index, U: Unsigned, A: Allocator + Copy>(
     };
     ends.clear();
     own.degrees.clear();
-    let diagonals = match mirrored_degrees(size, a_p, a_i, &mut ends, &mut own.degrees) {
+    let diagonals = match degrees_by_columns(size, a_p, a_i, &mut ends, &mut own.degrees) {
         Some(diagonals) => diagonals,
         None => {
             ends.clear();

@@ -4,6 +4,7 @@
 
 pub mod aat;
 mod cells;
+mod lower;
 mod mirrors;
 pub mod preprocess;
 pub mod valid;
