@@ -1,5 +1,5 @@
 -- Columns that share entries: one with nothing new has those of a child where they stand.
-use Rattle.std.specs.Prelude.{ℕ, ℤ, ◌≡◌, ◌<◌, ◌≤◌, ◌^◌, List, None, Some, map, length, slice_index}
+use Rattle.std.specs.Prelude.{ℕ, ℤ, ◌≡◌, ◌<◌, ◌≤◌, ◌-◌, ◌^◌, List, None, Some, map, length, slice_index}
 use Rattle.std.specs.Prelude.{slice_range, take}
 use Rattle.amd_model.specs.Factor.{IsColumn}
 use Rattle.amd_model.specs.Graph.{IsGraph}
@@ -37,6 +37,11 @@ pub record IsPlanned {N : Type 0} (value : N → ℤ) (o : Order) (k : ℕ) (pla
     pub plans : Plans o k (naturals (map value rows)) plan.from plan.to fresh
     pub numbers : AreNonNegative (map value rows)
     pub small : length o.rows < 2 ^ 64
+
+-- what stands from place from on, before to, is nothing, or stands behind all other rows and before the fresh ones
+pub record Follows (rows : List ℕ) (from to : ℕ) (fresh : List ℕ) : Type 0 where
+  pub last : from < to → to ≡ length rows
+  pub less : from < to → slice_index rows (to - 1) < slice_index fresh 0
 
 -- the columns then have the first numbers, which are not negative: at least as many as before
 pub record IsPlacedColumn {N : Type 0} (value : N → ℤ) (used : ℕ) (placed : Placed) (rows : List N) : Type 0 where

@@ -2,8 +2,8 @@
 // the columns can be counted in room that does not grow with the factor, as long as few of them have something new. The
 // rows are numbers of 32 bits. Source: Sherman 1975 (compressed subscripts); George and Liu 1981.
 
-ghost use Rattle.std.specs.Prelude.{ℕ, ◌≡◌, ◌<◌, ◌≤◌, ◌+◌, ◌-◌, [], None, Some, length, map, pos, slice_index};
-ghost use Rattle.std.specs.Prelude.{slice_index_or, take, IfOk, MatchOption};
+ghost use Rattle.std.specs.Prelude.{ℕ, ◌≡◌, ◌<◌, ◌≤◌, ◌+◌, ◌-◌, ◌^◌, [], None, Some, length, map, pos, slice_index};
+ghost use Rattle.std.specs.Prelude.{slice_index_or, take, true, IfOk, MatchOption};
 ghost use Rattle.amd_model.specs.Graph.{IsGraph};
 ghost use Rattle.amd_types.specs.Naturals.{naturals};
 ghost use Rattle.amd_factor.specs.Counted.{TellCounts};
@@ -12,7 +12,7 @@ ghost use Rattle.amd_factor.specs.Neighbours.{HasLater};
 ghost use Rattle.amd_factor.specs.Numbers.{AreNonNegative, Plans};
 ghost use Rattle.amd_factor.specs.Orders.{Order};
 ghost use Rattle.amd_factor.specs.Planning.{CanPlan};
-ghost use Rattle.amd_factor.specs.Sharing.{CanShare, CanStand, HasColumnPlaces, IsPlanned, IsPlacedColumn};
+ghost use Rattle.amd_factor.specs.Sharing.{CanShare, CanStand, Follows, HasColumnPlaces, IsPlanned, IsPlacedColumn};
 ghost use Rattle.amd_factor.specs.Sharing.{KeepsColumns, Share, StandsFrom, TellFirsts};
 
 use crate::children::link_child;
@@ -20,7 +20,7 @@ use crate::column::{Columns, Marked, Plan, plan_column};
 use crate::counted::{Counts, need_of_sizes};
 use crate::fill::with_zeros;
 use crate::merge::write_merged;
-use crate::numbers::place_at;
+use crate::numbers::{place_at, write_places};
 use amd_types::index::Index;
 use core::mem::replace_with;
 use std::alloc::{AllocError, Allocator};
@@ -144,8 +144,66 @@ fn lengthen<N: Index, A: Allocator>(
     Ok(())
 }
 
-/// Where the entries of a planned column stand: if nothing is new, those that it takes over; else they are written
-/// behind the numbers of the columns before it. None where there is no room.
+/// Whether the new rows of a planned column can be appended to what it takes over: that is nothing, or it stands behind
+/// all other entries and ends with a row less than the first new one.
+fn can_append<N: Index>(plan: Plan, fresh: &[usize], done: &[N]) -> bool
+    requires numbers { AreNonNegative (map N.value done.now) }
+    requires range { plan.from ≤ plan.to }
+    requires small { plan.from < plan.to → plan.to ≡ length done.now →
+        slice_index (naturals (map N.value done.now)) (plan.to - 1) < 2 ^ 64 }
+    requires new { 0 < length fresh.now }
+    ensures { result ≡ true → Follows (naturals (map N.value done.now)) plan.from plan.to fresh.now }
+{
+    plan.from == plan.to || (plan.to == done.len() && place_at(done, plan.to - 1) < fresh[0])
+}
+
+/// Appends the new rows of a planned column to what it takes over, which is not written again. None where there is no
+/// room.
+///
+/// # Errors
+///
+/// A refused request for memory.
+fn append_rows<N: Index, A: Allocator>(
+    plan: Plan,
+    fresh: &[usize],
+    used: usize,
+    rows: &mut Vec<N, A>,
+    room: usize,
+) -> Result<Option<Placed>, AllocError>
+    requires planned { (o : Order) × (k : ℕ) × IsPlanned N.value o k plan fresh.now (take used rows.old.items) ×
+        ((j : ℕ) → j < length o.rows → N.fits (pos j)) }
+    requires follows { Follows (naturals (map N.value (take used rows.old.items))) plan.from plan.to fresh.now }
+    requires used { used ≤ length rows.old.items }
+    requires room { length rows.old.items ≤ room }
+    ensures placed { IfOk result (λ r. MatchOption r (Unit {0})
+        (λ p. IsPlacedColumn N.value used p rows.new.items)) }
+    ensures stands { IfOk result (λ r. MatchOption r (Unit {0}) (λ p. (o : Order) (k : ℕ) →
+        IsPlanned N.value o k plan fresh.now (take used rows.old.items) →
+        StandsFrom N.value o k p.begin p.end (take p.used rows.new.items))) }
+    ensures kept { take used rows.new.items ≡ take used rows.old.items }
+    ensures room { length rows.new.items ≤ room }
+{
+    let size = fresh.len();
+    if room - used < size {
+        return Ok(None);
+    }
+    lengthen(used + size, room, rows)?;
+    let (_, free) = rows.split_at_mut(used);
+    write_places(fresh, &mut free[..size]);
+    let begin = if plan.from == plan.to {
+        used
+    } else {
+        plan.from
+    };
+    Ok(Some(Placed {
+        begin,
+        end: used + size,
+        used: used + size,
+    }))
+}
+
+/// Where the entries of a planned column stand: if nothing is new, those that it takes over; else what is new is
+/// appended, or all are written behind the numbers of the columns before it. None where there is no room.
 ///
 /// # Errors
 ///
@@ -169,10 +227,12 @@ fn place_column<N: Index, A: Allocator>(
     ensures kept { take used rows.new.items ≡ take used rows.old.items }
     ensures room { length rows.new.items ≤ room }
 {
-    let begin = plan.from;
-    let end = plan.to;
+    let (begin, end) = (plan.from, plan.to);
     if fresh.is_empty() {
         return Ok(Some(Placed { begin, end, used }));
+    }
+    if can_append(plan, fresh, &rows[..used]) {
+        return append_rows(plan, fresh, used, rows, room);
     }
     let size = end - begin + fresh.len();
     if room - used < size {

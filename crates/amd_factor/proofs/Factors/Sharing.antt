@@ -1,10 +1,13 @@
 -- Columns that share entries: one with nothing new, one that is written behind all others, and one more of them.
 use Rattle.std.proofs.Common.{ℕ, ℤ, ◌≡◌, ◌≢◌, ◌<◌, ◌≤◌, ◌+◌, ◌-◌, ◌++◌, inl, inr, refl, sym, ◌∙◌, ap, subst, arith, List, map, length}
-use Rattle.std.proofs.Common.{pos, set, take, take_all, drop, []}
+use Rattle.std.proofs.Common.{pos, set, take, take_all, drop, [], ◌∷◌, zero, suc, append-nil, get_or-take}
 use Rattle.std.specs.Prelude.{slice_index, slice_index_or, slice_range, Option, None, Some}
+use Rattle.std.specs.List.Sorted.{IsStrictlyIncreasing}
 use Rattle.std.proofs.lemmas.Bool.{cases_eq}
 use Rattle.std.proofs.lemmas.List.{
   append_assoc,
+  drop-append-le,
+  get_or-drop,
   get_or-map,
   get_or-set_other,
   get_or-set_same,
@@ -19,6 +22,8 @@ use Rattle.std.proofs.lemmas.List.{
   take_at,
 }
 use Rattle.std.proofs.lemmas.List.Edits.{length-between}
+use Rattle.std.proofs.lemmas.List.Elements.{Contains-get_or}
+use Rattle.std.proofs.lemmas.Slice.{between_is}
 use Rattle.amd_model.specs.Factor.{IsColumn, IsFactor}
 use Rattle.amd_model.specs.Graph.{IsGraph}
 use Rattle.amd_model.proofs.Listings.ReachTest.{columns, factor_of}
@@ -28,16 +33,21 @@ use Rattle.amd_factor.specs.Gathering.{LinkChildren, StandAt}
 use Rattle.amd_factor.specs.Merging.{merged}
 use Rattle.amd_factor.specs.Numbers.{AreNonNegative, Plans}
 use Rattle.amd_factor.specs.Orders.{Order}
-use Rattle.amd_factor.specs.Sharing.{HasColumnPlaces, KeepsColumns, Share, StandsFrom, TellFirsts}
+use Rattle.amd_factor.specs.Sharing.{Follows, HasColumnPlaces, KeepsColumns, Share, StandsFrom, TellFirsts}
 use Rattle.amd_factor.specs.Sizes.{HoldSizes}
 use Rattle.amd_factor.specs.Trees.{IsParent}
 use Rattle.amd_factor.specs.declared.sharing.SharedLists.{SharedLists}
 use Rattle.amd_factor.proofs.Trees.Descent.{last_later}
 use Rattle.amd_factor.proofs.Trees.FactorOnce.{column_once}
-use Rattle.amd_factor.proofs.Factors.Merging.{merged_is}
+use Rattle.amd_factor.proofs.Factors.Merging.{merged_append, merged_is, merged_none}
 use Rattle.amd_factor.proofs.Factors.PlaceNumbers.{are_append, counts_append, counts_long, counts_take}
 use Rattle.amd_factor.proofs.Factors.Standing.{merged_column}
 use Rattle.amd_factor.proofs.Factors.Tails.{range_last, range_same}
+
+-- the first numbers of a list that was made longer
+pub same_front : {N : Type 0} (used : ℕ) (rows longer done : List N) → used ≤ length rows → take (length rows) longer ≡ rows →
+    done ≡ take used longer → done ≡ take used rows
+same_front used rows longer done low kept is = is ∙ sym (take-take used (length rows) longer low) ∙ ap (take used) kept
 
 -- two lists, in front of all that follows them
 pub written_front : {N : Type 0} (n most : ℕ) (xs ys rest behind : List N) → n ≡ length xs + length ys → n ≤ most →
@@ -92,9 +102,100 @@ module _ {N : Type 0} (value : N → ℤ) (o : Order) (k : ℕ) (rows : List N) 
     pub numbers_behind : AreNonNegative (map value rows) → AreNonNegative (map value (rows ++ out))
     numbers_behind numbers = are_append value rows out (merged (slice_range (naturals (map value rows)) from to) fresh) numbers written
 
+-- what is in a part of a list
+module _ (rows : List ℕ) (from to : ℕ) (within : to ≤ length rows) where
+  part_at : (k : ℕ) → from + k < to → slice_index (slice_range rows from to) k ≡ slice_index rows (from + k)
+  part_at k l = ap (λ xs. slice_index xs k) (between_is rows from to) ∙ get_or-drop from (take to rows) k 0 ∙
+      get_or-take to rows (from + k) 0 l
+
+  -- a part that rises, rises up to its last number
+  up_to : IsStrictlyIncreasing (slice_range rows from to) → (n k : ℕ) → from + k + n + 1 ≡ to →
+      slice_index (slice_range rows from to) k ≤ slice_index rows (to - 1)
+  up_to rising zero k e =
+      let is = part_at k (omega (arith, e)) in let last : from + k ≡ to - 1 = omega (arith, e) in
+      let same = ap (slice_index rows) last in omega (arith, is, same)
+  up_to rising (suc n) k e =
+      let next = up_to rising n (k + 1) (omega (arith, e)) in let long = length-between rows from to within in
+      let up = rising k (omega (arith, e, long)) in omega (arith, next, up)
+
+-- the last row that a column takes over is one of the order
+pub last_row : (o : Order) (k : ℕ) (rows : List ℕ) (from to : ℕ) (fresh : List ℕ) → Plans o k rows from to fresh → from < to →
+    slice_index rows (to - 1) < length o.rows
+last_row o k rows from to fresh plans some =
+    let part = slice_range rows from to in let at = to - 1 - from in
+    let long = length-between rows from to plans.within in
+    let entry = (plans.completes.members (slice_index part at)).0 (inl (Contains-get_or part at 0 (omega (arith, long, some)))) in
+    let is = part_at rows from to plans.within at (omega (arith, some)) in
+    let place : from + at ≡ to - 1 = omega (arith, some) in let same = ap (slice_index rows) place in
+    let low = entry.1 in omega (arith, is, same, low)
+
 -- a part without places is empty
 pub no_part : (xs : List ℕ) (i j : ℕ) → i ≡ j → slice_range xs i j ≡ []
 no_part xs i j e = let none : j - i ≡ 0 = omega (arith, e) in ap (λ n. take n (drop i xs)) none
+
+-- a rising part, whose last number is less than the first of other ones, merged with these
+part_merged : (rows : List ℕ) (from to : ℕ) (fresh : List ℕ) → to ≤ length rows → IsStrictlyIncreasing (slice_range rows from to) →
+    (from < to → slice_index rows (to - 1) < slice_index fresh 0) →
+    merged (slice_range rows from to) fresh ≡ slice_range rows from to ++ fresh
+part_merged rows from to fresh within rising less = go fresh refl
+  where
+    part : List ℕ
+    part = slice_range rows from to
+
+    go : (ys : List ℕ) → fresh ≡ ys → merged part ys ≡ part ++ ys
+    go [] e = merged_none part ∙ sym (append-nil part)
+    go (y ∷ ys) e =
+        let long = length-between rows from to within in let is = ap (λ xs. slice_index xs 0) e in merged_append part y ys
+        (λ k l. let last = up_to rows from to within rising (to - from - k - 1) k (omega (arith, l, long)) in
+        let low = less (omega (arith, l, long)) in omega (arith, last, low, is))
+
+-- the end of a list, and what is appended to it
+range_append : (rows fresh : List ℕ) (begin : ℕ) → begin ≤ length rows →
+    slice_range (rows ++ fresh) begin (length rows + length fresh) ≡ slice_range rows begin (length rows) ++ fresh
+range_append rows fresh begin range =
+    let sum = length-append rows fresh in
+    between_is (rows ++ fresh) begin (length rows + length fresh)
+    ∙ ap (drop begin) (take_all (length rows + length fresh) (rows ++ fresh) (omega (arith, sum)))
+    ∙ drop-append-le begin rows fresh range
+    ∙ ap (λ xs. xs ++ fresh) (sym (between_is rows begin (length rows) ∙ ap (drop begin) (take_all (length rows) rows (omega arith))))
+
+-- what is new in a planned column, appended to what it takes over, or alone behind all rows
+module _ {N : Type 0} (value : N → ℤ) (o : Order) (k : ℕ) (rows : List N) (from to : ℕ) (fresh : List ℕ)
+    (plans : Plans o k (naturals (map value rows)) from to fresh) (follows : Follows (naturals (map value rows)) from to fresh)
+    (out : List N) (written : map value out ≡ map pos fresh) where
+  old : List ℕ
+  old = naturals (map value rows)
+
+  -- what it takes over stands from a place on up to the end
+  stands_so : (begin : ℕ) → begin ≤ length rows → slice_range old begin (length old) ≡ slice_range old from to →
+      StandsFrom value o k begin (length rows + length fresh) (rows ++ out)
+  unfolding old
+  stands_so begin range taken =
+      let is : naturals (map value (rows ++ out)) ≡ old ++ fresh = counts_append value rows out fresh written in
+      let all = ap length is in let sum = length-append old fresh in
+      let n = counts_long value rows in let m = counts_long value (rows ++ out) in record {
+        range = omega (arith, range);
+        within = omega (arith, all, sum, n, m);
+        column = subst (IsColumn o.graph o.rows k)
+            (sym (ap (λ xs. slice_range xs begin (length rows + length fresh)) is
+            ∙ ap (λ b. slice_range (old ++ fresh) begin (b + length fresh)) (sym n)
+            ∙ range_append old fresh begin (omega (arith, range, n))
+            ∙ ap (λ xs. xs ++ fresh) taken
+            ∙ sym (part_merged old from to fresh plans.within plans.rising follows.less)))
+            (merged_column (record { order = o; place = k; inherited = slice_range old from to }) fresh plans.rising plans.completes);
+      }
+
+  pub stands_alone : from ≡ to → StandsFrom value o k (length rows) (length rows + length fresh) (rows ++ out)
+  unfolding old
+  stands_alone none =
+      let n = counts_long value rows in
+      stands_so (length rows) (omega arith) (no_part old (length rows) (length old) (sym n) ∙ sym (no_part old from to none))
+
+  pub stands_appended : from ≢ to → StandsFrom value o k from (length rows + length fresh) (rows ++ out)
+  unfolding old
+  stands_appended some =
+      let range = plans.range in let n = counts_long value rows in let last = follows.last (omega (arith, some, range)) in
+      stands_so from (omega (arith, n, last, range)) (ap (slice_range old from) (sym last))
 
 -- a place that has no parent is no child
 pub links_later : (o : Order) (k : ℕ) (link : List (Option ℕ)) → ((q : ℕ) → IsParent o.graph o.rows k q → ⊥) →

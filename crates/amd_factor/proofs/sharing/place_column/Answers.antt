@@ -1,27 +1,29 @@
-use Rattle.std.proofs.Common.{ℕ, ◌≡◌, ◌≤◌, ◌+◌, ◌-◌, ◌++◌, ◌∙◌, ap, arith, inl, inr, length, List, map, pos, subst, sym, take}
+use Rattle.std.proofs.Common.{◌≡◌, ◌≤◌, ◌+◌, ◌-◌, ◌++◌, ◌∙◌, ap, arith, inl, inr, length, map, pos, subst, sym, take}
 use Rattle.std.specs.Prelude.{Contains, slice_index, slice_range}
 use Rattle.std.proofs.lemmas.Bool.{eqb-true}
 use Rattle.std.proofs.lemmas.Grind.{common_steps}
-use Rattle.std.proofs.lemmas.List.{length-take-le, take-take}
+use Rattle.std.proofs.lemmas.List.{length-take-le}
 use Rattle.std.proofs.lemmas.List.Elements.{Contains-get_or}
 use Rattle.amd_types.specs.Naturals.{naturals}
 use Rattle.amd_factor.specs.Merging.{merged}
 use Rattle.amd_factor.specs.Numbers.{AreNonNegative, Plans}
 use Rattle.amd_factor.specs.Sharing.{StandsFrom}
 use Rattle.amd_factor.proofs.Factors.PlaceNumbers.{are_range, counts_range, place_of}
-use Rattle.amd_factor.proofs.Factors.Sharing.{numbers_behind, stands_behind, stands_shared, written_front}
+use Rattle.amd_factor.proofs.Factors.Sharing.{last_row, numbers_behind, same_front, stands_behind, stands_shared, written_front}
 use Rattle.amd_factor.proofs.sharing.place_column.Goals as goal
-
--- the first numbers of a list that was made longer
-same_front : {N : Type 0} (used : ℕ) (rows longer done : List N) → used ≤ length rows → take (length rows) longer ≡ rows →
-    done ≡ take used longer → done ≡ take used rows
-same_front used rows longer done low kept is = is ∙ sym (take-take used (length rows) longer low) ∙ ap (take used) kept
 
 pub returns-then-is_empty-clause-stands : goal.returns-then-is_empty-clause-stands
 returns-then-is_empty-clause-stands g c =
     let empty = c.is_empty.ensures in let t = c.if-is_empty.true in λ o k planned.
     stands_shared g.N.Index.value o k (take c.args.used c.args.rows.now.items) c.args.plan.from c.args.plan.to c.args.fresh.now
     planned.plans (eqb-true (length c.args.fresh.now) 0 (sym empty ∙ t))
+
+pub can_append-requires-clause-small : goal.can_append-requires-clause-small
+can_append-requires-clause-small g c = λ some last. (
+    let planned = c.requires.planned.2 in
+    let plans = subst (λ xs. Plans c.requires.planned.0 c.requires.planned.1 (naturals (map g.N.Index.value (take c.args.used xs)))
+    c.args.plan.from c.args.plan.to c.args.fresh.now) (sym c.deref.ensures.value) planned.plans in
+    let low = last_row _ _ _ _ _ _ plans some in let small = planned.small in omega (arith, low, small))
 
 pub write_merged-requires-clause-numbers : goal.write_merged-requires-clause-numbers
 write_merged-requires-clause-numbers g c =
