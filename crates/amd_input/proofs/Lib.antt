@@ -1,4 +1,5 @@
 pub mod Classes
+pub mod Descents
 pub mod Counting
 pub mod Symmetry
 pub mod PatternLemmas

@@ -1,5 +1,6 @@
--- What a scan over one column finds.
-use Rattle.std.specs.Prelude.{◌+◌, ◌<◌, ◌≤◌, ◌≤ℤ◌, ◌<ℤ◌, ℕ, ℤ, List}
+-- What a scan over one column finds, and one over the rows of all.
+use Rattle.std.specs.Prelude.{◌+◌, ◌-◌, ◌<◌, ◌≤◌, ◌≤ℤ◌, ◌<ℤ◌, ◌&&◌, ℕ, ℤ, Bool, List, nat_lt, int_le}
+use Rattle.amd_model.specs.Below.{count_below}
 use Rattle.amd_model.specs.Input.Columns.{at, IsRow}
 use Rattle.amd_types.specs.declared.amd.Status.{Status}
 use Rattle.amd_types.specs.declared.amd.Status.TheVariants.{OK, Invalid, OkButJumbled, OutOfMemory}
@@ -26,3 +27,11 @@ IsColumnClass m ai a b OK = AreRowNumbers m ai a b × Rise ai a b
 IsColumnClass m ai a b Invalid = HaveNoRow m ai a b
 IsColumnClass m ai a b OkButJumbled = AreRowNumbers m ai a b × HaveDescent ai a b
 IsColumnClass m ai a b OutOfMemory = ⊥
+
+-- the number at place k is not greater than the one before it, and there is one before it
+abbrev pub is_descent : List ℤ → ℕ → Bool
+is_descent ai k = nat_lt 0 k && int_le (at ai k) (at ai (k - 1))
+
+-- how many places before b are such descents
+abbrev pub descents_below : List ℤ → ℕ → ℕ
+descents_below ai b = count_below b (is_descent ai)
