@@ -8,4 +8,6 @@ pub mod Ends
 pub mod Arcs
 pub mod Orders
 pub mod RowLists
+pub mod Walked
+pub mod LowerWalks
 pub mod Listing

@@ -1,5 +1,5 @@
 -- How far the rows of a column were read.
-use Rattle.std.proofs.Common.{◌≡◌, ◌+◌, ◌<◌, ◌≤◌, inl, inr, ℕ, List, get_or, arith, le_trans, le_of_eq, le_of_lt, lt_of_lt_of_le}
+use Rattle.std.proofs.Common.{◌≡◌, ◌+◌, ◌<◌, ◌≤◌, inl, inr, ℕ, List, get_or, arith, sym, subst, le_trans, le_of_eq, le_of_lt, lt_of_lt_of_le}
 use Rattle.std.proofs.lemmas.Bool.{cases_lt}
 use Rattle.amd_edges.specs.Walk.{IsScan}
 use Rattle.amd_edges.proofs.Forms.{IsSortedForm}
@@ -65,3 +65,12 @@ pub row_in : {n : ℕ} {ap' ai t : List ℕ} {k m j q row : ℕ} → IsSortedFor
     get_or t j 0 ≤ q → q < get_or ap' (j + 1) 0 → row ≡ get_or ai q 0 → row < n
 row_in {j} {q} form scan j_in before from inside same =
     (let w = form.rows j q j_in (le_trans (scan.start j before j_in) from) inside in omega (arith, w, same))
+
+-- a reading from where the pointer of its column stands
+pub reading_of : (t : List ℕ) (j : ℕ) {ai : List ℕ} {first end k m p : ℕ} → get_or t j 0 ≡ first → IsReading ai first end k m p →
+    IsReading ai (get_or t j 0) end k m p
+reading_of t j {ai} {first} {end} {k} {m} {p} is so = subst (λ x. IsReading ai x end k m p) (sym is) so
+
+-- a place that is not before the end of what was to be read is that end
+pub reading_end : {ai : List ℕ} {start end k m p : ℕ} → IsReading ai start end k m p → end ≤ p → p ≡ end
+reading_end so past = let to = so.to in omega (arith, past, to)

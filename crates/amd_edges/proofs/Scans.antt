@@ -272,3 +272,12 @@ module _ (n : ℕ) (ap' ai : List ℕ) (form : IsSortedForm n ap' ai) where
           | inl same ↦ rw same at stop (omega arith)
           | inr other ↦ (let w = form.ascend j q r (omega arith) (omega arith) (omega arith) z in let v = stop (omega arith) in omega arith)
         ]
+
+  -- a column that was read to its end
+  pub scan_ended : (t : List ℕ) (j : ℕ) → j < n → IsScan n ap' ai t n j → IsScan n ap' ai (set t j (get_or ap' (j + 1) 0)) n (j + 1)
+  scan_ended t j j_in scan =
+      let to = scan.stop j j_in j_in in
+      scan_swept t n j (get_or ap' (j + 1) 0) j_in j_in to (omega arith) (λ x. absurd (omega (arith, x)))
+      (λ r from below. let low = scan.start j j_in j_in in let row = form.rows j r j_in (omega (arith, low, from)) below in
+      omega (arith, row))
+      (λ r past below. absurd (omega (arith, past, below))) scan

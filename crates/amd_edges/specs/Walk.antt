@@ -58,3 +58,13 @@ met_read n ap ai t k m = met n (naturals ap) (naturals ai) t k m
 -- has it
 abbrev pub IsScanOf : ℕ → List ℤ → List ℤ → List ℕ → ℕ → ℕ → Type 0
 IsScanOf n ap ai t k m = IsScan n (naturals ap) (naturals ai) t k m
+
+-- the columns before j were read to their ends, and column j up to the place first
+pub record IsReadTo (n : ℕ) (ap ai : List ℤ) (t : List ℕ) (j first : ℕ) : Type 0 where
+  pub scan : IsScanOf n ap ai t n j
+  pub place : slice_index t j ≡ first
+
+-- behind the diagonal entry of column j, which is its first one, or where it has none at its start
+unfoldable pub lower_start : List ℕ → List ℕ → ℕ → ℕ
+lower_start ap ai j = cond (nat_lt (slice_index ap j) (slice_index ap (j + 1)) && nat_eq (slice_index ai (slice_index ap j)) j)
+    (slice_index ap j + 1) (slice_index ap j)

@@ -4,7 +4,7 @@
 // and Duff 2004 (the forming of A + A').
 
 ghost use Rattle.std.specs.Prelude.{◌≡◌, ◌<◌, ◌≤◌, ◌+◌, ◌++◌, ◌∷◌, ℕ, Bool, List, [], true, false, pos, map, length};
-ghost use Rattle.std.specs.Prelude.{slice_index};
+ghost use Rattle.std.specs.Prelude.{slice_index, slice_set};
 ghost use Rattle.std.specs.Vec.{vec_capacity};
 ghost use Rattle.amd_model.specs.Graph.{Graph};
 ghost use Rattle.amd_model.specs.Input.Columns.{IsColumnForm, IsSorted};
@@ -12,7 +12,7 @@ ghost use Rattle.amd_model.specs.Input.Pattern.{graph_of, diagonal_count, is_pai
 ghost use Rattle.amd_model.specs.Quotient.{met_below, met_edges};
 ghost use Rattle.amd_types.specs.Naturals.{naturals};
 ghost use Rattle.amd_edges.specs.Visits.{IsNew, IsNewEdge, arcs_of, with_arc, with_edge};
-ghost use Rattle.amd_edges.specs.Walk.{IsScanOf, edges_before, entry_read, graph_read, met_read};
+ghost use Rattle.amd_edges.specs.Walk.{IsReadTo, IsScanOf, edges_before, entry_read, graph_read, lower_start, met_read};
 
 use amd_types::index::Index;
 use amd_types::internal::count_at;
@@ -149,8 +149,42 @@ fn column<I: Index, V: Visitor, U: Unsigned, A: Allocator>(
     diagonal
 }
 
-/// Reads the lower entries of column `j`, one of `size`, that were not read yet. They are all that is left of it, so no
-/// row is compared.
+/// Reads the rows of column `j`, one of `size`, from the place `first` on. They are all that is left of it, so no row is
+/// compared.
+fn column_end<I: Index, V: Visitor>(
+    size: usize,
+    j: usize,
+    first: usize,
+    a_p: &[I],
+    a_i: &[I],
+    visitor: &mut V,
+)
+    requires form { IsColumnForm (pos size) size (map I.value a_p.now) (map I.value a_i.now) }
+    requires sorted { IsSorted size (map I.value a_p.now) (map I.value a_i.now) }
+    requires row { j < size }
+    requires held { (t : List ℕ) × (arcs : List (ℕ × ℕ)) ×
+        IsReadTo size (map I.value a_p.now) (map I.value a_i.now) t j first ×
+        V.holds (graph_read size (map I.value a_p.now) (map I.value a_i.now))
+        (met_read size (map I.value a_p.now) (map I.value a_i.now) t size (j + 1)) arcs visitor.old }
+    ensures held { (t : List ℕ) (arcs : List (ℕ × ℕ)) →
+        IsReadTo size (map I.value a_p.now) (map I.value a_i.now) t j first →
+        V.holds (graph_read size (map I.value a_p.now) (map I.value a_i.now))
+        (met_read size (map I.value a_p.now) (map I.value a_i.now) t size (j + 1)) arcs visitor.old →
+        V.holds (graph_read size (map I.value a_p.now) (map I.value a_i.now))
+        (met_read size (map I.value a_p.now) (map I.value a_i.now)
+        (slice_set t j (slice_index (naturals (map I.value a_p.now)) (j + 1))) size (j + 1))
+        (arcs ++ arcs_of (met_below (entry_read size (map I.value a_p.now) (map I.value a_i.now)) size j)) visitor.new }
+    ensures kept { V.room visitor.new ≡ V.room visitor.old }
+{
+    let end = count_at(a_p, j + 1);
+    let mut mark = visitor.begin(j);
+    'rows: for place in first..end {
+        mark = visitor.edge(count_at(a_i, place), j, mark);
+    }
+    visitor.end(j, mark);
+}
+
+/// Reads the lower entries of column `j`, one of `size`, that were not read yet.
 fn column_rest<I: Index, V: Visitor, U: Unsigned, A: Allocator>(
     size: usize,
     j: usize,
@@ -175,14 +209,9 @@ fn column_rest<I: Index, V: Visitor, U: Unsigned, A: Allocator>(
     ensures room { vec_capacity next.new ≡ vec_capacity next.old }
     ensures kept { V.room visitor.new ≡ V.room visitor.old }
 {
-    let end = count_at(a_p, j + 1);
     let first = number_of(&next[j]);
-    let mut mark = visitor.begin(j);
-    'rows: for place in first..end {
-        mark = visitor.edge(count_at(a_i, place), j, mark);
-    }
-    visitor.end(j, mark);
-    next[j] = cell_of(end);
+    column_end(size, j, first, a_p, a_i, visitor);
+    next[j] = cell_of(count_at(a_p, j + 1));
 }
 
 /// Reads the lower entries of each of the `size` columns that were not read yet.
@@ -247,4 +276,37 @@ pub fn walk<I: Index, V: Visitor, U: Unsigned, A: Allocator>(
     }
     rest(size, a_p, a_i, next, visitor);
     diagonals
+}
+
+/// The place of the first row of column `j`, one of `size`, below the diagonal, or the end of the column. No row stands
+/// above the diagonal.
+fn lower_first<I: Index>(size: usize, j: usize, a_p: &[I], a_i: &[I]) -> usize
+    requires form { IsColumnForm (pos size) size (map I.value a_p.now) (map I.value a_i.now) }
+    requires row { j < size }
+    ensures { result ≡ lower_start (naturals (map I.value a_p.now)) (naturals (map I.value a_i.now)) j }
+{
+    let first = count_at(a_p, j);
+    if first < count_at(a_p, j + 1) && count_at(a_i, first) == j {
+        first + 1
+    } else {
+        first
+    }
+}
+
+/// As `walk`, where no entry of the matrix is above the diagonal: no column waits for another one, so no pointer is kept
+/// of how far it was read.
+pub fn walk_lower<I: Index, V: Visitor>(size: usize, a_p: &[I], a_i: &[I], visitor: &mut V)
+    requires form { IsColumnForm (pos size) size (map I.value a_p.now) (map I.value a_i.now) }
+    requires sorted { IsSorted size (map I.value a_p.now) (map I.value a_i.now) }
+    requires lower { (i j : ℕ) → is_pair size (map I.value a_p.now) (map I.value a_i.now) i j ≡ true → j ≤ i }
+    requires held { V.holds (graph_of size (map I.value a_p.now) (map I.value a_i.now)) (λ a b. false) [] visitor.old }
+    ensures held { V.holds (graph_of size (map I.value a_p.now) (map I.value a_i.now))
+        ((graph_of size (map I.value a_p.now) (map I.value a_i.now)).edge)
+        (arcs_of (met_edges size (is_pair size (map I.value a_p.now) (map I.value a_i.now)))) visitor.new }
+    ensures kept { V.room visitor.new ≡ V.room visitor.old }
+{
+    'columns: for j in 0..size {
+        let first = lower_first(size, j, a_p, a_i);
+        column_end(size, j, first, a_p, a_i, visitor);
+    }
 }

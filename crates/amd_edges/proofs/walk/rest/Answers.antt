@@ -1,13 +1,12 @@
 -- Once the last column was read, every edge was met.
-use Rattle.std.proofs.Common.{◌≡◌, ◌+◌, map, arith, ap, sym, refl, ◌∙◌, subst, subst₂}
-use Rattle.amd_model.specs.Input.Pattern.{is_pair}
-use Rattle.amd_model.specs.Quotient.{met_edges}
+use Rattle.std.proofs.Common.{◌+◌, map, arith, sym, refl, ◌∙◌, subst}
 use Rattle.amd_types.specs.Naturals.{naturals, count_graph, is_entry}
 use Rattle.amd_edges.specs.Visits.{arcs_of}
-use Rattle.amd_edges.specs.Walk.{IsScan, met}
-use Rattle.amd_edges.proofs.Forms.{sorted_form, same_graph}
-use Rattle.amd_edges.proofs.Ends.{rest_met, done_met}
-use Rattle.amd_edges.proofs.Orders.{edges_after, after_start, after_next, after_end, same_edges}
+use Rattle.amd_edges.specs.Walk.{met}
+use Rattle.amd_edges.proofs.Forms.{sorted_form}
+use Rattle.amd_edges.proofs.Ends.{rest_met}
+use Rattle.amd_edges.proofs.Orders.{edges_after, after_start, after_next}
+use Rattle.amd_edges.proofs.Walked.{all_walked}
 use Rattle.amd_edges.proofs.walk.rest.Goals as goal
 
 pub column_rest-requires-clause-form : goal.column_rest-requires-clause-form
@@ -69,21 +68,10 @@ columns-preserved g c =
 
 pub returns : goal.returns
 returns g c =
-    let n = c.args.size in let j = c.columns.j in let t = c.columns.next.items in
-    let ap' = naturals (map g.I.Index.value c.args.a_p.now) in let ai = naturals (map g.I.Index.value c.args.a_i.now) in
-    let form = sorted_form n (map g.I.Index.value c.args.a_p.now) (map g.I.Index.value c.args.a_i.now) c.requires.form
-    c.requires.sorted in
-    let i = c.columns.invariant in
-    let pair = is_pair n (map g.I.Index.value c.args.a_p.now) (map g.I.Index.value c.args.a_i.now) in
-    let end : j ≡ n = (let x = c.columns-test.false in let y = c.columns.auto.j-end in omega (arith, x, y)) in
-    let all = done_met n ap' ai form t (subst (λ x. IsScan n ap' ai t n x) end i.scan) in
-    let edges = ap (edges_after (is_entry n ap' ai) n) end ∙ after_end (is_entry n ap' ai) n
-    ∙ sym (same_edges n (map g.I.Index.value c.args.a_p.now) (map g.I.Index.value c.args.a_i.now) c.requires.form) in
+    let r = c.requires in let i = c.columns.invariant in let x = c.columns-test.false in let y = c.columns.auto.j-end in
     record {
-      held = subst (λ h. g.V.Visitor.holds h h.edge (arcs_of (met_edges n pair)) c.columns.visitor)
-          (sym (same_graph n (map g.I.Index.value c.args.a_p.now) (map g.I.Index.value c.args.a_i.now) c.requires.form))
-          (subst₂ (λ s l. g.V.Visitor.holds (count_graph n ap' ai) s (arcs_of l) c.columns.visitor) (ap (met n ap' ai t n) end ∙ all)
-          edges i.held);
+      held = all_walked c.args.size (map g.I.Index.value c.args.a_p.now) (map g.I.Index.value c.args.a_i.now) r.form r.sorted
+          (λ h s l. g.V.Visitor.holds h s l c.columns.visitor) c.columns.j c.columns.next.items (omega (arith, x, y)) i.scan i.held;
       room = i.room;
       kept = i.kept;
     }
