@@ -1,10 +1,10 @@
 -- Degrees where no row stands above the diagonal: how often a row stands in the columns, and the neighbours of a row.
 use Rattle.std.proofs.Common.{◌≡◌, ◌+◌, ◌-◌, ◌<◌, ◌≤◌, inl, inr, ℕ, zero, suc, Bool, true, false, List, get_or, set, length, arith}
 use Rattle.std.proofs.Common.{refl, ap, sym, ◌∙◌, subst, cond, eqb, ◌||◌, ◌&&◌, not, get_or-set_same, get_or-set_other}
-use Rattle.std.proofs.lemmas.Bool.{and_parts, cases_Bool, cases_eq, eq-eqb, ne_eqb, lt-ltb, true≢false}
+use Rattle.std.proofs.lemmas.Bool.{and_parts, cases_eq, eq-eqb, ne_eqb, lt-ltb, true≢false}
 use Rattle.std.proofs.lemmas.List.{length-set}
 use Rattle.amd_model.specs.Below.{sum_below, count_below}
-use Rattle.amd_model.proofs.Counting.Below.{count_most, count_pos, count_same, sum_stretch}
+use Rattle.amd_model.proofs.Counting.Below.{count_most, count_same, sum_stretch}
 use Rattle.amd_types.specs.Naturals.{is_before, is_entry, is_edge, count_graph}
 use Rattle.amd_edges.specs.Visits.{AreCounts}
 use Rattle.amd_edges.proofs.Arcs.{count_more}
@@ -206,13 +206,6 @@ module _ (n : ℕ) (ap' ai : List ℕ) (form : IsSortedForm n ap' ai) where
   -- and a column without rows has none
   pub diagonal_none : (k : ℕ) → k < n → get_or ap' (k + 1) 0 ≤ get_or ap' k 0 → false ≡ is_entry n ap' ai k k
   diagonal_none k k_in none = (own_without k _ k_in (λ some. omega (arith, some, none)) refl).diagonal
-
--- where no diagonal entry is counted, there is none
-pub no_diagonal : (n : ℕ) (p : ℕ → Bool) → count_below n p ≡ 0 → (i : ℕ) → i < n → p i ≡ false
-no_diagonal n p none i l = elim (cases_Bool (p i)) [
-  | inl yes' ↦ (let some = count_pos n p i l yes' in absurd (omega (arith, some, none)))
-  | inr no' ↦ no'
-]
 
 -- one place more is counted
 pub rows_next : (ai : List ℕ) (q row v : ℕ) (before numbers : List ℕ) → row < length before → row ≡ get_or ai q 0 →

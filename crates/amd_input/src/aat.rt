@@ -1,14 +1,13 @@
 // The degrees of the rows of a matrix, and the figures of its pattern: those of the pattern of A + A' (Amestoy, Davis
 // and Duff 2004). `aat_within` writes them into lists that are handed in, and `aat` takes the memory for them.
 
-ghost use Rattle.std.specs.Prelude.{◌≡◌, ◌<◌, ◌^◌, ◌-◌, ◌*◌, ◌==◌, map, length, slice_index, slice_set, unsigned_abs};
+ghost use Rattle.std.specs.Prelude.{◌≡◌, ◌<◌, ◌^◌, ◌-◌, ◌*◌, ◌==◌, map, slice_index, slice_set, unsigned_abs};
 ghost use Rattle.std.specs.Prelude.{◌≤◌, ◌∷◌, [], IfOk, IfErr, IfSome, OnOk, OnErr, pos};
 ghost use Rattle.std.specs.Vec.{vec_capacity};
 ghost use Rattle.amd_model.specs.Input.Columns.{IsColumnForm, IsInput, IsSorted, IsSortedInput};
-ghost use Rattle.amd_model.specs.Input.Pattern.{graph_of, diagonal_count};
 ghost use Rattle.amd_types.specs.Naturals.{naturals};
 ghost use Rattle.amd_edges.specs.Visits.{AreCounts};
-ghost use Rattle.amd_input.specs.Degrees.{AreDegrees};
+ghost use Rattle.amd_input.specs.Degrees.{AreDegrees, CountDegrees, IsEmptyFor, IsRisingForm};
 ghost use Rattle.amd_input.specs.PatternFigures.{HasPatternFigures};
 ghost use Rattle.amd_types.specs.declared.amd.Status.TheVariants.{OutOfMemory};
 
@@ -65,15 +64,11 @@ fn degrees_by_columns<I: Index, U: Unsigned, A: Allocator>(
     next: &mut Vec<Cell<U>, A>,
     degrees: &mut Vec<Cell<U>, A>,
 ) -> Option<usize>
-    requires form { IsColumnForm (pos size) size (map I.value a_p.now) (map I.value a_i.now) }
-    requires sorted { IsSorted size (map I.value a_p.now) (map I.value a_i.now) }
+    requires input { IsRisingForm size (map I.value a_p.now) (map I.value a_i.now) }
     requires fits { (size ≤ U.MOST) × (slice_index (naturals (map I.value a_p.now)) size ≤ U.MOST) }
-    requires empty { (length next.old.items ≡ 0) × (length degrees.old.items ≡ 0) }
-    requires room { (size ≤ vec_capacity next.old) × (size ≤ vec_capacity degrees.old) }
-    ensures degrees { IfSome result (λ diagonals. AreCounts (graph_of size (map I.value a_p.now) (map I.value a_i.now))
-        ((graph_of size (map I.value a_p.now) (map I.value a_i.now)).edge) degrees.new.items) }
-    ensures diagonals { IfSome result (λ diagonals. diagonals ≡
-        diagonal_count size (map I.value a_p.now) (map I.value a_i.now)) }
+    requires next { IsEmptyFor size (vec_capacity next.old) next.old.items }
+    requires degrees { IsEmptyFor size (vec_capacity degrees.old) degrees.old.items }
+    ensures counted { IfSome result (CountDegrees size (map I.value a_p.now) (map I.value a_i.now) degrees.new.items) }
     ensures room { (vec_capacity next.new ≡ vec_capacity next.old) ×
         (vec_capacity degrees.new ≡ vec_capacity degrees.old) }
 {
@@ -95,13 +90,10 @@ fn count_degrees<I: Index, U: Unsigned, A: Allocator + Copy>(
     next: &mut Vec<Cell<U>, A>,
     counter: &mut DegreeCounter<U, A>,
 ) -> usize
-    requires form { IsColumnForm (pos size) size (map I.value a_p.now) (map I.value a_i.now) }
-    requires sorted { IsSorted size (map I.value a_p.now) (map I.value a_i.now) }
+    requires input { IsRisingForm size (map I.value a_p.now) (map I.value a_i.now) }
     requires room { (size ≤ vec_capacity next.old) × (size ≤ vec_capacity counter.old.degrees) }
     requires fits { (size ≤ U.MOST) × (slice_index (naturals (map I.value a_p.now)) size ≤ U.MOST) }
-    ensures diagonals { result ≡ diagonal_count size (map I.value a_p.now) (map I.value a_i.now) }
-    ensures degrees { AreCounts (graph_of size (map I.value a_p.now) (map I.value a_i.now))
-        ((graph_of size (map I.value a_p.now) (map I.value a_i.now)).edge) counter.new.degrees.items }
+    ensures counted { CountDegrees size (map I.value a_p.now) (map I.value a_i.now) counter.new.degrees.items result }
     ensures room { (vec_capacity next.new ≡ vec_capacity next.old) ×
         (vec_capacity counter.new.degrees ≡ vec_capacity counter.old.degrees) }
 {
@@ -200,11 +192,8 @@ fn degrees_of<I: Index, A: Allocator + Copy>(
     a_p: &[I],
     a_i: &[I],
 ) -> Result<(usize, DegreeCounter<usize, A>), AllocError>
-    requires form { IsColumnForm (pos size) size (map I.value a_p.now) (map I.value a_i.now) }
-    requires sorted { IsSorted size (map I.value a_p.now) (map I.value a_i.now) }
-    ensures diagonals { IfOk result (λ r. r.0 ≡ diagonal_count size (map I.value a_p.now) (map I.value a_i.now)) }
-    ensures degrees { IfOk result (λ r. AreCounts (graph_of size (map I.value a_p.now) (map I.value a_i.now))
-        ((graph_of size (map I.value a_p.now) (map I.value a_i.now)).edge) r.1.degrees.items) }
+    requires input { IsRisingForm size (map I.value a_p.now) (map I.value a_i.now) }
+    ensures { IfOk result (λ r. CountDegrees size (map I.value a_p.now) (map I.value a_i.now) r.1.degrees.items r.0) }
 {
     let mut next = Vec::with_capacity(alloc, size)?;
     let degrees = Vec::with_capacity(alloc, size)?;

@@ -4,10 +4,11 @@
 
 ghost use Rattle.std.specs.Prelude.{◌≡◌, ◌<◌, ◌≤◌, ◌+◌, ℕ, map, length, pos, slice_index, IfSome};
 ghost use Rattle.std.specs.Vec.{vec_capacity};
-ghost use Rattle.amd_model.specs.Input.Columns.{at, IsColumnForm, IsRow, IsSorted};
+ghost use Rattle.amd_model.specs.Input.Columns.{at, IsRow};
 ghost use Rattle.amd_model.specs.Input.Pattern.{graph_of, diagonal_count};
 ghost use Rattle.amd_types.specs.Naturals.{naturals, is_entry};
 ghost use Rattle.amd_edges.specs.Visits.{AreCounts};
+ghost use Rattle.amd_input.specs.Degrees.{CountDegrees, IsReadyToCount, IsRisingForm};
 ghost use Rattle.amd_input.specs.LowerRows.{AreLow, CountOwn, CountRows, DropDiagonals, times};
 ghost use Rattle.amd_input.specs.Mirrors.{CountOthers};
 
@@ -25,8 +26,7 @@ struct Own {
 
 /// Counts the other rows of column `k`, one of `size`; `None` where its first row stands above the diagonal.
 fn own_rows<I: Index>(size: usize, k: usize, a_p: &[I], a_i: &[I]) -> Option<Own>
-    requires form { IsColumnForm (pos size) size (map I.value a_p.now) (map I.value a_i.now) }
-    requires sorted { IsSorted size (map I.value a_p.now) (map I.value a_i.now) }
+    requires input { IsRisingForm size (map I.value a_p.now) (map I.value a_i.now) }
     requires k_in { k < size }
     ensures { IfSome result (CountOwn size (naturals (map I.value a_p.now)) (naturals (map I.value a_i.now)) k) }
 {
@@ -56,8 +56,7 @@ fn own_rows<I: Index>(size: usize, k: usize, a_p: &[I], a_i: &[I]) -> Option<Own
 
 /// Whether column `k`, one of `size`, has a diagonal entry. No row stands above the diagonal.
 fn has_diagonal<I: Index>(size: usize, k: usize, a_p: &[I], a_i: &[I]) -> bool
-    requires form { IsColumnForm (pos size) size (map I.value a_p.now) (map I.value a_i.now) }
-    requires sorted { IsSorted size (map I.value a_p.now) (map I.value a_i.now) }
+    requires input { IsRisingForm size (map I.value a_p.now) (map I.value a_i.now) }
     requires low { AreLow size (naturals (map I.value a_p.now)) (naturals (map I.value a_i.now)) size }
     requires k_in { k < size }
     ensures { result ≡ is_entry size (naturals (map I.value a_p.now)) (naturals (map I.value a_i.now)) k k }
@@ -74,11 +73,8 @@ fn own_degrees<I: Index, U: Unsigned, A: Allocator>(
     a_i: &[I],
     degrees: &mut Vec<Cell<U>, A>,
 ) -> Option<usize>
-    requires form { IsColumnForm (pos size) size (map I.value a_p.now) (map I.value a_i.now) }
-    requires sorted { IsSorted size (map I.value a_p.now) (map I.value a_i.now) }
-    requires fits { size ≤ U.MOST }
-    requires empty { length degrees.old.items ≡ 0 }
-    requires room { size ≤ vec_capacity degrees.old }
+    requires ready { IsReadyToCount size (map I.value a_p.now) (map I.value a_i.now) U.MOST (vec_capacity degrees.old)
+        degrees.old.items }
     ensures others { IfSome result (λ diagonals. CountOthers size (naturals (map I.value a_p.now))
         (naturals (map I.value a_i.now)) size degrees.new.items) }
     ensures low { IfSome result (λ diagonals. AreLow size (naturals (map I.value a_p.now))
@@ -115,8 +111,7 @@ fn add_rows<I: Index, U: Unsigned>(entries: usize, a_i: &[I], numbers: &mut [Cel
 
 /// Takes 1 off the number of each of `size` columns that has a diagonal entry. No row stands above the diagonal.
 fn drop_diagonals<I: Index, U: Unsigned>(size: usize, a_p: &[I], a_i: &[I], numbers: &mut [Cell<U>])
-    requires form { IsColumnForm (pos size) size (map I.value a_p.now) (map I.value a_i.now) }
-    requires sorted { IsSorted size (map I.value a_p.now) (map I.value a_i.now) }
+    requires input { IsRisingForm size (map I.value a_p.now) (map I.value a_i.now) }
     requires low { AreLow size (naturals (map I.value a_p.now)) (naturals (map I.value a_i.now)) size }
     requires long { length numbers.old ≡ size }
     ensures { DropDiagonals size (naturals (map I.value a_p.now)) (naturals (map I.value a_i.now)) size numbers.old
@@ -138,8 +133,7 @@ fn add_others<I: Index, U: Unsigned>(
     diagonals: usize,
     numbers: &mut [Cell<U>],
 )
-    requires form { IsColumnForm (pos size) size (map I.value a_p.now) (map I.value a_i.now) }
-    requires sorted { IsSorted size (map I.value a_p.now) (map I.value a_i.now) }
+    requires input { IsRisingForm size (map I.value a_p.now) (map I.value a_i.now) }
     requires low { AreLow size (naturals (map I.value a_p.now)) (naturals (map I.value a_i.now)) size }
     requires fits { size ≤ U.MOST }
     requires diagonals { diagonals ≡ diagonal_count size (map I.value a_p.now) (map I.value a_i.now) }
@@ -163,15 +157,9 @@ pub fn lower_degrees<I: Index, U: Unsigned, A: Allocator>(
     a_i: &[I],
     degrees: &mut Vec<Cell<U>, A>,
 ) -> Option<usize>
-    requires form { IsColumnForm (pos size) size (map I.value a_p.now) (map I.value a_i.now) }
-    requires sorted { IsSorted size (map I.value a_p.now) (map I.value a_i.now) }
-    requires fits { size ≤ U.MOST }
-    requires empty { length degrees.old.items ≡ 0 }
-    requires room { size ≤ vec_capacity degrees.old }
-    ensures degrees { IfSome result (λ diagonals. AreCounts (graph_of size (map I.value a_p.now) (map I.value a_i.now))
-        ((graph_of size (map I.value a_p.now) (map I.value a_i.now)).edge) degrees.new.items) }
-    ensures diagonals { IfSome result (λ diagonals. diagonals ≡
-        diagonal_count size (map I.value a_p.now) (map I.value a_i.now)) }
+    requires ready { IsReadyToCount size (map I.value a_p.now) (map I.value a_i.now) U.MOST (vec_capacity degrees.old)
+        degrees.old.items }
+    ensures counted { IfSome result (CountDegrees size (map I.value a_p.now) (map I.value a_i.now) degrees.new.items) }
     ensures room { vec_capacity degrees.new ≡ vec_capacity degrees.old }
 {
     let diagonals = own_degrees(size, a_p, a_i, degrees)?;

@@ -5,11 +5,10 @@
 
 ghost use Rattle.std.specs.Prelude.{◌≡◌, ◌<◌, ◌≤◌, ◌+◌, ℕ, true, map, length, pos, slice_index, slice_index_or, IfSome};
 ghost use Rattle.std.specs.Vec.{vec_capacity};
-ghost use Rattle.amd_model.specs.Input.Columns.{IsColumnForm, IsSorted};
-ghost use Rattle.amd_model.specs.Input.Pattern.{graph_of, diagonal_count};
+ghost use Rattle.amd_model.specs.Input.Columns.{IsColumnForm};
 ghost use Rattle.amd_types.specs.Naturals.{naturals};
-ghost use Rattle.amd_edges.specs.Visits.{AreCounts};
 ghost use Rattle.amd_edges.specs.Walk.{entry_read};
+ghost use Rattle.amd_input.specs.Degrees.{CountDegrees, IsEmptyFor, IsRisingForm};
 ghost use Rattle.amd_input.specs.Mirrors.{HaveMirrorsIn, CountOthers, EndsUpper};
 
 use amd_types::index::Index;
@@ -26,8 +25,7 @@ fn uppers<I: Index, U: Unsigned, A: Allocator>(
     a_i: &[I],
     next: &mut Vec<Cell<U>, A>,
 ) -> Option<usize>
-    requires form { IsColumnForm (pos size) size (map I.value a_p.now) (map I.value a_i.now) }
-    requires sorted { IsSorted size (map I.value a_p.now) (map I.value a_i.now) }
+    requires input { IsRisingForm size (map I.value a_p.now) (map I.value a_i.now) }
     requires fits { slice_index (naturals (map I.value a_p.now)) size ≤ U.MOST }
     requires k_in { k < size }
     requires read { HaveMirrorsIn size (map I.value a_p.now) (map I.value a_i.now) next.old.items k 0 }
@@ -60,8 +58,7 @@ fn column<I: Index, U: Unsigned, A: Allocator>(
     next: &mut Vec<Cell<U>, A>,
     degrees: &mut Vec<Cell<U>, A>,
 ) -> Option<bool>
-    requires form { IsColumnForm (pos size) size (map I.value a_p.now) (map I.value a_i.now) }
-    requires sorted { IsSorted size (map I.value a_p.now) (map I.value a_i.now) }
+    requires input { IsRisingForm size (map I.value a_p.now) (map I.value a_i.now) }
     requires fits { slice_index (naturals (map I.value a_p.now)) size ≤ U.MOST }
     requires k_in { k < size }
     requires room { (size ≤ vec_capacity next.old) × (size ≤ vec_capacity degrees.old) }
@@ -110,8 +107,7 @@ fn all_read<I: Index, U: Unsigned>(size: usize, a_p: &[I], a_i: &[I], next: &[Ce
 
 /// Whether the last of `size` columns has a row above the diagonal, as mostly where each entry has its mirror.
 fn ends_upper<I: Index>(size: usize, a_p: &[I], a_i: &[I]) -> bool
-    requires form { IsColumnForm (pos size) size (map I.value a_p.now) (map I.value a_i.now) }
-    requires sorted { IsSorted size (map I.value a_p.now) (map I.value a_i.now) }
+    requires input { IsRisingForm size (map I.value a_p.now) (map I.value a_i.now) }
 {
     if size == 0 {
         return false;
@@ -130,15 +126,11 @@ pub fn mirrored_degrees<I: Index, U: Unsigned, A: Allocator>(
     next: &mut Vec<Cell<U>, A>,
     degrees: &mut Vec<Cell<U>, A>,
 ) -> Option<usize>
-    requires form { IsColumnForm (pos size) size (map I.value a_p.now) (map I.value a_i.now) }
-    requires sorted { IsSorted size (map I.value a_p.now) (map I.value a_i.now) }
+    requires input { IsRisingForm size (map I.value a_p.now) (map I.value a_i.now) }
     requires fits { slice_index (naturals (map I.value a_p.now)) size ≤ U.MOST }
-    requires empty { (length next.old.items ≡ 0) × (length degrees.old.items ≡ 0) }
-    requires room { (size ≤ vec_capacity next.old) × (size ≤ vec_capacity degrees.old) }
-    ensures degrees { IfSome result (λ diagonals. AreCounts (graph_of size (map I.value a_p.now) (map I.value a_i.now))
-        ((graph_of size (map I.value a_p.now) (map I.value a_i.now)).edge) degrees.new.items) }
-    ensures diagonals { IfSome result (λ diagonals. diagonals ≡
-        diagonal_count size (map I.value a_p.now) (map I.value a_i.now)) }
+    requires next { IsEmptyFor size (vec_capacity next.old) next.old.items }
+    requires degrees { IsEmptyFor size (vec_capacity degrees.old) degrees.old.items }
+    ensures counted { IfSome result (CountDegrees size (map I.value a_p.now) (map I.value a_i.now) degrees.new.items) }
     ensures room { (vec_capacity next.new ≡ vec_capacity next.old) ×
         (vec_capacity degrees.new ≡ vec_capacity degrees.old) }
 {

@@ -1,13 +1,13 @@
-use Rattle.std.proofs.Common.{◌≡◌, ◌<◌, ℕ, ℤ, List, map, length, get_or, arith, refl, sym, subst, pos, unsigned_abs, ◌∙◌}
+use Rattle.std.proofs.Common.{◌≡◌, ◌<◌, ℕ, ℤ, List, map, length, get_or, arith, refl, sym, subst, unsigned_abs, ◌∙◌}
 use Rattle.std.specs.Int.{FitsUnsignedBits}
 use Rattle.std.proofs.lemmas.List.{length-map}
 use Rattle.amd_model.specs.Below.{sum_below}
-use Rattle.amd_model.specs.Input.Columns.{at, IsColumnForm, IsSorted}
+use Rattle.amd_model.specs.Input.Columns.{at}
 use Rattle.amd_model.specs.Input.Pattern.{graph_of, diagonal_count}
 use Rattle.amd_types.specs.Naturals.{naturals}
 use Rattle.amd_edges.proofs.Forms.{pointer_fits}
 use Rattle.amd_edges.specs.Visits.{AreCounts}
-use Rattle.amd_input.specs.Degrees.{AreDegrees}
+use Rattle.amd_input.specs.Degrees.{AreDegrees, IsRisingForm}
 use Rattle.amd_input.proofs.PatternLemmas.{input_form, input_sorted, input_fits, degrees_are, figures_are, diagonal_within}
 use Rattle.amd_input.proofs.aat.aat.Goals as goal
 
@@ -15,16 +15,15 @@ pub known_count-size-requires : goal.known_count-size-requires
 known_count-size-requires g c = input_fits (g.I.Number.value c.args.n) (map g.I.Number.value c.args.a_p.now)
     (map g.I.Number.value c.args.a_i.now) c.requires.form (simp length-map (omega arith))
 
-pub degrees_of-requires-clause-form : goal.degrees_of-requires-clause-form
-degrees_of-requires-clause-form g c =
+pub degrees_of-requires : goal.degrees_of-requires
+degrees_of-requires g c =
     let ap' : List ℤ = map g.I.Number.value c.args.a_p.now in let ai : List ℤ = map g.I.Number.value c.args.a_i.now in
-    subst (λ k. IsColumnForm (pos k) k ap' ai) (sym c.known_count-size.ensures)
-    (input_form (g.I.Number.value c.args.n) ap' ai c.requires.form)
-
-pub degrees_of-requires-clause-sorted : goal.degrees_of-requires-clause-sorted
-degrees_of-requires-clause-sorted g c =
-    let ap' : List ℤ = map g.I.Number.value c.args.a_p.now in let ai : List ℤ = map g.I.Number.value c.args.a_i.now in
-    subst (λ k. IsSorted k ap' ai) (sym c.known_count-size.ensures) (input_sorted (g.I.Number.value c.args.n) ap' ai c.requires.sorted)
+    record {
+      input = subst (λ k. IsRisingForm k ap' ai) (sym c.known_count-size.ensures) (record {
+        form = input_form (g.I.Number.value c.args.n) ap' ai c.requires.form;
+        sorted = input_sorted (g.I.Number.value c.args.n) ap' ai c.requires.sorted;
+      });
+    }
 
 pub count_at-entries-requires : goal.count_at-entries-requires
 count_at-entries-requires g c =

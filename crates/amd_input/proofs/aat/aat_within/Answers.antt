@@ -27,19 +27,19 @@ pub unreachable-requires : goal.unreachable-requires
 unreachable-requires g c =
     c.in_default.ensures (subst (λ l. sum_below (length l) (λ k. get_or l k 0) < 2 ^ 64) (sym c.deref.ensures.value)
     (sum_small c.args.size (map g.I.Index.value c.args.a_p.now) (map g.I.Index.value c.args.a_i.now)
-    c.count_degrees-diagonals.new.counter.degrees.items c.requires.form c.requires.sorted c.count_degrees-diagonals.ensures.degrees
+    c.count_degrees-diagonals.new.counter.degrees.items c.requires.form c.requires.sorted c.count_degrees-diagonals.ensures.counted.degrees
     c.requires.small))
 
 pub write_figures-requires : goal.write_figures-requires
 write_figures-requires g c =
     diagonal_within c.args.size (map g.I.Index.value c.args.a_p.now) (map g.I.Index.value c.args.a_i.now) c.requires.form
-    c.requires.sorted c.count_degrees-diagonals.result c.count_at-entries.result c.count_degrees-diagonals.ensures.diagonals
+    c.requires.sorted c.count_degrees-diagonals.result c.count_at-entries.result c.count_degrees-diagonals.ensures.counted.diagonals
     c.count_at-entries.ensures.count
 
 pub returns-clause-degrees : goal.returns-clause-degrees
 returns-clause-degrees g c =
     degrees_are c.args.size (map g.I.Index.value c.args.a_p.now) (map g.I.Index.value c.args.a_i.now)
-    c.count_degrees-diagonals.new.counter.degrees.items c.in-Some.sum c.count_degrees-diagonals.ensures.degrees
+    c.count_degrees-diagonals.new.counter.degrees.items c.in-Some.sum c.count_degrees-diagonals.ensures.counted.degrees
     (subst (λ l. c.in-Some.sum ≡ sum_below (length l) (λ k. get_or l k 0)) c.deref.ensures.value c.in-Some.ensures.1)
 
 pub returns-clause-few : goal.returns-clause-few
@@ -47,7 +47,7 @@ returns-clause-few g c =
     let n = c.args.size in
     let ap' : List ℤ = map g.I.Index.value c.args.a_p.now in let ai : List ℤ = map g.I.Index.value c.args.a_i.now in
     let degrees = degrees_are n ap' ai c.count_degrees-diagonals.new.counter.degrees.items c.in-Some.sum
-    c.count_degrees-diagonals.ensures.degrees
+    c.count_degrees-diagonals.ensures.counted.degrees
     (subst (λ l. c.in-Some.sum ≡ sum_below (length l) (λ k. get_or l k 0)) c.deref.ensures.value c.in-Some.ensures.1) in
     let sum = degrees.sum in let twice = arcs_twice n ap' ai c.requires.form c.requires.sorted in
     omega (arith, sum, twice)
@@ -57,7 +57,7 @@ returns-clause-figures g c =
     let n = c.args.size in
     let ap' : List ℤ = map g.I.Index.value c.args.a_p.now in let ai : List ℤ = map g.I.Index.value c.args.a_i.now in
     let degrees = degrees_are n ap' ai c.count_degrees-diagonals.new.counter.degrees.items c.in-Some.sum
-    c.count_degrees-diagonals.ensures.degrees
+    c.count_degrees-diagonals.ensures.counted.degrees
     (subst (λ l. c.in-Some.sum ≡ sum_below (length l) (λ k. get_or l k 0)) c.deref.ensures.value c.in-Some.ensures.1) in
     rw c.write_figures.ensures (figures_are n ap' ai c.requires.form c.requires.sorted _ refl c.count_at-entries.ensures.count
-    c.count_degrees-diagonals.ensures.diagonals degrees.sum refl)
+    c.count_degrees-diagonals.ensures.counted.diagonals degrees.sum refl)

@@ -2,24 +2,25 @@
 use Rattle.std.proofs.Common.{◌≡◌, ◌<◌, ◌^◌, arith, ap, get_or, map, subst, sym}
 use Rattle.std.proofs.lemmas.Int.{ints}
 use Rattle.std.proofs.lemmas.List.{length-map}
+use Rattle.amd_model.proofs.Counting.Points.{zero_counted}
 use Rattle.amd_types.specs.Naturals.{naturals, is_entry}
 use Rattle.amd_edges.specs.Visits.{AreCounts}
 use Rattle.amd_edges.proofs.Forms.{pointer_fits, pointer_is, same_diagonals, same_graph, sorted_form}
 use Rattle.amd_input.specs.LowerRows.{CountRows, times}
-use Rattle.amd_input.proofs.LowerRows.{degrees_dropped, degrees_plain, neighbours_room, no_diagonal}
+use Rattle.amd_input.proofs.LowerRows.{degrees_dropped, degrees_plain, neighbours_room}
 use Rattle.amd_input.proofs.lower.add_others.Goals as goal
 
 pub count_at-entries-requires-clause-fits : goal.count_at-entries-requires-clause-fits
 count_at-entries-requires-clause-fits g c = pointer_fits c.args.size (map g.I.Index.value c.args.a_p.now)
-    (map g.I.Index.value c.args.a_i.now) c.requires.form c.args.size (omega arith)
+    (map g.I.Index.value c.args.a_i.now) c.requires.input.form c.args.size (omega arith)
     (subst (λ x. x < 2 ^ 64) (sym (length-map c.args.a_i.now g.I.Index.value)) (omega (arith, c.well_formed)))
 
 pub add_rows-requires-clause-fits : goal.add_rows-requires-clause-fits
 add_rows-requires-clause-fits g c = λ i l. (
     let n = c.args.size in let az = map g.I.Index.value c.args.a_p.now in let bz = map g.I.Index.value c.args.a_i.now in
-    let form = sorted_form n az bz c.requires.form c.requires.sorted in
-    let first : get_or (naturals az) 0 0 ≡ 0 = (let is = pointer_is n az bz c.requires.form 0 (omega arith) in
-    let zero = c.requires.form.first in omega (arith, ints, is, zero)) in
+    let form = sorted_form n az bz c.requires.input.form c.requires.input.sorted in
+    let first : get_or (naturals az) 0 0 ≡ 0 = (let is = pointer_is n az bz c.requires.input.form 0 (omega arith) in
+    let zero = c.requires.input.form.first in omega (arith, ints, is, zero)) in
     let long = c.requires.others.size in let row : i < n = omega (arith, l, long) in
     let room = neighbours_room n (naturals az) (naturals bz) form c.requires.low i row first in
     let own = c.requires.others.each i row in let end = ap (λ q. times (naturals bz) q i) c.count_at-entries.ensures.count in
@@ -28,26 +29,26 @@ add_rows-requires-clause-fits g c = λ i l. (
 pub returns-then-diagonals-gt0 : goal.returns-then-diagonals-gt0
 returns-then-diagonals-gt0 g c =
     let n = c.args.size in let az = map g.I.Index.value c.args.a_p.now in let bz = map g.I.Index.value c.args.a_i.now in
-    let form = sorted_form n az bz c.requires.form c.requires.sorted in
-    let first : get_or (naturals az) 0 0 ≡ 0 = (let is = pointer_is n az bz c.requires.form 0 (omega arith) in
-    let zero = c.requires.form.first in omega (arith, ints, is, zero)) in
+    let form = sorted_form n az bz c.requires.input.form c.requires.input.sorted in
+    let first : get_or (naturals az) 0 0 ≡ 0 = (let is = pointer_is n az bz c.requires.input.form 0 (omega arith) in
+    let zero = c.requires.input.form.first in omega (arith, ints, is, zero)) in
     let rows = subst (λ q. CountRows (naturals bz) q c.args.numbers.now c.add_rows.new.numbers) c.count_at-entries.ensures.count
     c.add_rows.ensures in
-    subst (λ h. AreCounts h h.edge c.drop_diagonals.new.numbers) (sym (same_graph n az bz c.requires.form))
+    subst (λ h. AreCounts h h.edge c.drop_diagonals.new.numbers) (sym (same_graph n az bz c.requires.input.form))
     (degrees_dropped n (naturals az) (naturals bz) form c.requires.low first c.args.numbers.now c.add_rows.new.numbers
     c.requires.others rows c.drop_diagonals.new.numbers c.drop_diagonals.ensures)
 
 pub returns-else-diagonals-gt0 : goal.returns-else-diagonals-gt0
 returns-else-diagonals-gt0 g c =
     let n = c.args.size in let az = map g.I.Index.value c.args.a_p.now in let bz = map g.I.Index.value c.args.a_i.now in
-    let form = sorted_form n az bz c.requires.form c.requires.sorted in
-    let first : get_or (naturals az) 0 0 ≡ 0 = (let is = pointer_is n az bz c.requires.form 0 (omega arith) in
-    let zero = c.requires.form.first in omega (arith, ints, is, zero)) in
+    let form = sorted_form n az bz c.requires.input.form c.requires.input.sorted in
+    let first : get_or (naturals az) 0 0 ≡ 0 = (let is = pointer_is n az bz c.requires.input.form 0 (omega arith) in
+    let zero = c.requires.input.form.first in omega (arith, ints, is, zero)) in
     let rows = subst (λ q. CountRows (naturals bz) q c.args.numbers.now c.add_rows.new.numbers) c.count_at-entries.ensures.count
     c.add_rows.ensures in
-    let none = no_diagonal n (λ j. is_entry n (naturals az) (naturals bz) j j)
-    (let is = c.requires.diagonals in let low = c.if-diagonals-gt0.false in let same = same_diagonals n az bz c.requires.form in
+    let none = zero_counted n (λ j. is_entry n (naturals az) (naturals bz) j j)
+    (let is = c.requires.diagonals in let low = c.if-diagonals-gt0.false in let same = same_diagonals n az bz c.requires.input.form in
     omega (arith, is, low, same)) in
-    subst (λ h. AreCounts h h.edge c.add_rows.new.numbers) (sym (same_graph n az bz c.requires.form))
+    subst (λ h. AreCounts h h.edge c.add_rows.new.numbers) (sym (same_graph n az bz c.requires.input.form))
     (degrees_plain n (naturals az) (naturals bz) form c.requires.low first c.args.numbers.now c.add_rows.new.numbers
     c.requires.others rows none)

@@ -15,7 +15,7 @@ pub columns-init : goal.columns-init
 unfolding count_below sum_below
 columns-init g c =
     let ap' = naturals (map g.I.Index.value c.args.a_p.now) in let ai = naturals (map g.I.Index.value c.args.a_i.now) in record {
-      others = others_none c.args.size ap' ai c.args.degrees.now.items c.requires.empty;
+      others = others_none c.args.size ap' ai c.args.degrees.now.items c.requires.ready.list.empty;
       low = λ i j l e. absurd (omega (arith, l));
       count = refl;
       small = omega arith;
@@ -26,7 +26,7 @@ pub cell_of-requires : goal.cell_of-requires
 cell_of-requires g c =
     let n = c.args.size in let ap' = naturals (map g.I.Index.value c.args.a_p.now) in
     let ai = naturals (map g.I.Index.value c.args.a_i.now) in let others = c.in_ok-own.ensures.others in
-    let most = count_most n (is_beside n ap' ai c.columns.k) in let fits = c.requires.fits in omega (arith, others, most, fits)
+    let most = count_most n (is_beside n ap' ai c.columns.k) in let fits = c.requires.ready.fits in omega (arith, others, most, fits)
 
 pub columns-preserved : goal.columns-preserved
 unfolding count_below sum_below
@@ -59,4 +59,4 @@ returns-clause-diagonals g c =
     let n = c.args.size in let az = map g.I.Index.value c.args.a_p.now in let bz = map g.I.Index.value c.args.a_i.now in
     let end : c.columns.k ≡ n = (let x = c.columns-test.false in let y = c.columns.auto.k-end in omega (arith, x, y)) in
     subst (λ z. c.columns.diagonals ≡ count_below z (λ j. is_entry n (naturals az) (naturals bz) j j)) end c.columns.invariant.count
-    ∙ sym (same_diagonals n az bz c.requires.form)
+    ∙ sym (same_diagonals n az bz c.requires.ready.input.form)

@@ -1,43 +1,40 @@
 -- the goals of lower::own_rows.
-use Rattle.std.proofs.Common.{◌+◌, ◌<◌, ◌^◌, arith, ap, get_or, map, subst, sym, ◌∙◌}
-use Rattle.std.proofs.lemmas.List.{length-map}
+use Rattle.std.proofs.Common.{◌+◌, arith, ap, get_or, le_of_lt, map, sym, ◌∙◌}
 use Rattle.amd_types.specs.Naturals.{naturals}
-use Rattle.amd_edges.proofs.Forms.{place_in, pointer_fits, row_fits, sorted_form}
+use Rattle.amd_edges.proofs.Forms.{place_in, pointer_read, row_fits, sorted_form}
 use Rattle.amd_input.proofs.LowerRows.{own_with, own_without}
 use Rattle.amd_input.proofs.lower.own_rows.Goals as goal
 
-pub count_at-start-requires-clause-fits : goal.count_at-start-requires-clause-fits
-count_at-start-requires-clause-fits g c = pointer_fits c.args.size (map g.I.Index.value c.args.a_p.now)
-    (map g.I.Index.value c.args.a_i.now) c.requires.form c.args.k (let l = c.requires.k_in in omega (arith, l))
-    (subst (λ x. x < 2 ^ 64) (sym (length-map c.args.a_i.now g.I.Index.value)) (omega (arith, c.well_formed)))
+pub count_at-start-requires : goal.count_at-start-requires
+count_at-start-requires g c = let p = pointer_read g.I.Index.value c.args.a_p.now c.args.a_i.now c.args.size c.requires.input.form c.args.k
+    (le_of_lt c.requires.k_in) (omega (arith, c.well_formed)) in record { within = p.0; fits = p.1 }
 
-pub count_at-requires-clause-fits : goal.count_at-requires-clause-fits
-count_at-requires-clause-fits g c = pointer_fits c.args.size (map g.I.Index.value c.args.a_p.now)
-    (map g.I.Index.value c.args.a_i.now) c.requires.form (c.args.k + 1) (let l = c.requires.k_in in omega (arith, l))
-    (subst (λ x. x < 2 ^ 64) (sym (length-map c.args.a_i.now g.I.Index.value)) (omega (arith, c.well_formed)))
+pub count_at-requires : goal.count_at-requires
+count_at-requires g c = let p = pointer_read g.I.Index.value c.args.a_p.now c.args.a_i.now c.args.size c.requires.input.form
+    (c.args.k + 1) (let l = c.requires.k_in in omega (arith, l)) (omega (arith, c.well_formed)) in record { within = p.0; fits = p.1 }
 
 pub returns-then-rows-eq0 : goal.returns-then-rows-eq0
 returns-then-rows-eq0 g c =
     let n = c.args.size in let az = map g.I.Index.value c.args.a_p.now in let bz = map g.I.Index.value c.args.a_i.now in
-    let form = sorted_form n az bz c.requires.form c.requires.sorted in
+    let form = sorted_form n az bz c.requires.input.form c.requires.input.sorted in
     let start = c.count_at-start.ensures.count in let end = c.count_at.ensures.count in let none = c.if-rows-eq0.true in
     own_without n (naturals az) (naturals bz) form c.args.k 0 c.requires.k_in (λ some. omega (arith, start, end, none, some))
     (omega (arith, start, end, none))
 
 pub count_at-first-requires-clause-within : goal.count_at-first-requires-clause-within
 count_at-first-requires-clause-within g c = place_in g.I.Index.value c.args.a_i.now c.args.size (map g.I.Index.value c.args.a_p.now)
-    c.requires.form c.args.k c.count_at-start.result c.count_at.result c.requires.k_in c.count_at.ensures.count
+    c.requires.input.form c.args.k c.count_at-start.result c.count_at.result c.requires.k_in c.count_at.ensures.count
     (let some = c.if-rows-eq0.false in omega (arith, some))
 
 pub count_at-first-requires-clause-fits : goal.count_at-first-requires-clause-fits
 count_at-first-requires-clause-fits g c = row_fits c.args.size (map g.I.Index.value c.args.a_p.now) (map g.I.Index.value c.args.a_i.now)
-    c.requires.form c.args.k c.count_at-start.result c.requires.k_in
+    c.requires.input.form c.args.k c.count_at-start.result c.requires.k_in
     (let some = c.if-rows-eq0.false in let end = c.count_at.ensures.count in omega (arith, some, end)) c.ranges.size.fits
 
 pub returns-then-first-k-2 : goal.returns-then-first-k-2
 returns-then-first-k-2 g c =
     let n = c.args.size in let az = map g.I.Index.value c.args.a_p.now in let bz = map g.I.Index.value c.args.a_i.now in
-    let form = sorted_form n az bz c.requires.form c.requires.sorted in
+    let form = sorted_form n az bz c.requires.input.form c.requires.input.sorted in
     let start = c.count_at-start.ensures.count in let end = c.count_at.ensures.count in let some = c.if-rows-eq0.false in
     own_with n (naturals az) (naturals bz) form c.args.k _ c.requires.k_in (omega (arith, start, end, some))
     (ap (λ x. get_or (naturals bz) x 0) (sym start) ∙ sym c.count_at-first.ensures.count ∙ c.if-first-k-2.true)
@@ -46,7 +43,7 @@ returns-then-first-k-2 g c =
 pub returns : goal.returns
 returns g c =
     let n = c.args.size in let az = map g.I.Index.value c.args.a_p.now in let bz = map g.I.Index.value c.args.a_i.now in
-    let form = sorted_form n az bz c.requires.form c.requires.sorted in
+    let form = sorted_form n az bz c.requires.input.form c.requires.input.sorted in
     let start = c.count_at-start.ensures.count in let end = c.count_at.ensures.count in
     let first = ap (λ x. get_or (naturals bz) x 0) (sym start) ∙ sym c.count_at-first.ensures.count in
     let low = c.if-first-k.false in let other = c.if-first-k-2.false in

@@ -13,27 +13,27 @@ use Rattle.amd_input.proofs.mirrors.column.Goals.{then-place-end, else-place-end
 
 pub count_at-start-requires-clause-fits : goal.count_at-start-requires-clause-fits
 count_at-start-requires-clause-fits g c = pointer_fits c.args.size (map g.I.Index.value c.args.a_p.now)
-    (map g.I.Index.value c.args.a_i.now) c.requires.form c.args.k (let l = c.requires.k_in in omega (arith, l))
+    (map g.I.Index.value c.args.a_i.now) c.requires.input.form c.args.k (let l = c.requires.k_in in omega (arith, l))
     (subst (λ x. x < 2 ^ 64) (sym (length-map c.args.a_i.now g.I.Index.value)) (omega (arith, c.well_formed)))
 
 pub count_at-end-requires-clause-fits : goal.count_at-end-requires-clause-fits
 count_at-end-requires-clause-fits g c = pointer_fits c.args.size (map g.I.Index.value c.args.a_p.now)
-    (map g.I.Index.value c.args.a_i.now) c.requires.form (c.args.k + 1) (let l = c.requires.k_in in omega (arith, l))
+    (map g.I.Index.value c.args.a_i.now) c.requires.input.form (c.args.k + 1) (let l = c.requires.k_in in omega (arith, l))
     (subst (λ x. x < 2 ^ 64) (sym (length-map c.args.a_i.now g.I.Index.value)) (omega (arith, c.well_formed)))
 
 pub count_at-requires-clause-within : goal.count_at-requires-clause-within
 count_at-requires-clause-within g c = place_in g.I.Index.value c.args.a_i.now c.args.size (map g.I.Index.value c.args.a_p.now)
-    c.requires.form c.args.k c.in-Some.place c.count_at-end.result c.requires.k_in c.count_at-end.ensures.count c.if-place-end.true
+    c.requires.input.form c.args.k c.in-Some.place c.count_at-end.result c.requires.k_in c.count_at-end.ensures.count c.if-place-end.true
 
 pub count_at-requires-clause-fits : goal.count_at-requires-clause-fits
 count_at-requires-clause-fits g c = row_fits c.args.size (map g.I.Index.value c.args.a_p.now) (map g.I.Index.value c.args.a_i.now)
-    c.requires.form c.args.k c.in-Some.place c.requires.k_in (before_end c.count_at-end.ensures.count c.if-place-end.true)
+    c.requires.input.form c.args.k c.in-Some.place c.requires.k_in (before_end c.count_at-end.ensures.count c.if-place-end.true)
     c.ranges.size.fits
 
 pub cell_of-requires : goal.cell_of-requires
 cell_of-requires g c =
     let p = c.in-Some.place in let r = c.requires in
-    place_up c.args.size (map g.I.Index.value c.args.a_p.now) (map g.I.Index.value c.args.a_i.now) r.form r.k_in
+    place_up c.args.size (map g.I.Index.value c.args.a_p.now) (map g.I.Index.value c.args.a_i.now) r.input.form r.k_in
     c.count_at-end.ensures.count (elim c.if-diagonal.branch [
       | then-diagonal w ↦ (let is = w.place-is in let inside = before w.if-diagonal.true in omega (arith, is, inside))
       | else-diagonal w ↦ (let is = w.place-is in let to = c.in-Some.ensures.ends.to in let ends = c.count_at-end.ensures.count in
@@ -48,7 +48,7 @@ cell_of-requires g c =
 
 pub cell_of-requires-2 : goal.cell_of-requires-2
 cell_of-requires-2 g c =
-    place_up c.args.size (map g.I.Index.value c.args.a_p.now) (map g.I.Index.value c.args.a_i.now) c.requires.form c.requires.k_in
+    place_up c.args.size (map g.I.Index.value c.args.a_p.now) (map g.I.Index.value c.args.a_i.now) c.requires.input.form c.requires.k_in
     c.count_at-end.ensures.count (elim c.if-diagonal.branch [
       | then-diagonal w ↦ (let is = w.others-is in omega (arith, is))
       | else-diagonal w ↦ (let is = w.others-is in omega (arith, is))
@@ -60,7 +60,7 @@ returns g c =
     let ap' = naturals (map g.I.Index.value c.args.a_p.now) in let ai = naturals (map g.I.Index.value c.args.a_i.now) in
     let r = c.requires in let ends = c.count_at-end.ensures.count in let starts = c.count_at-start.ensures.count in
     let t = c.uppers.new.next.items in
-    let form = sorted_form n (map g.I.Index.value c.args.a_p.now) (map g.I.Index.value c.args.a_i.now) r.form r.sorted in
+    let form = sorted_form n (map g.I.Index.value c.args.a_p.now) (map g.I.Index.value c.args.a_i.now) r.input.form r.input.sorted in
     let diagonal : Bool = c.if-place-end.diagonal in let place = c.if-diagonal.place in let others = c.if-diagonal.others in
     let found : diagonal ≡ true → (p < get_or ap' (k + 1) 0) × (get_or ai p 0 ≡ k) = λ e. elim c.if-place-end.branch [
       | then-place-end w ↦ (

@@ -18,8 +18,8 @@ columns-init g c =
       small = omega arith;
       next = refl;
       degrees = refl;
-      read = mirrors_none c.args.size ap' ai c.args.next.now.items c.requires.empty.0;
-      others = others_none c.args.size ap' ai c.args.degrees.now.items c.requires.empty.1;
+      read = mirrors_none c.args.size ap' ai c.args.next.now.items c.requires.next.empty;
+      others = others_none c.args.size ap' ai c.args.degrees.now.items c.requires.degrees.empty;
     }
 
 pub columns-preserved : goal.columns-preserved
@@ -47,22 +47,18 @@ columns-preserved g c =
       others = e.others;
     }
 
-pub returns-then-all_read-clause-degrees : goal.returns-then-all_read-clause-degrees
-returns-then-all_read-clause-degrees g c =
-    let n = c.args.size in let i = c.columns.invariant in let r = c.requires in
+pub returns-then-all_read-clause-counted : goal.returns-then-all_read-clause-counted
+returns-then-all_read-clause-counted g c =
+    let n = c.args.size in let i = c.columns.invariant in let input = c.requires.input in
     let az = map g.I.Index.value c.args.a_p.now in let bz = map g.I.Index.value c.args.a_i.now in
-    let ap' = naturals az in let ai = naturals bz in let form = sorted_form n az bz r.form r.sorted in
+    let ap' = naturals az in let ai = naturals bz in let form = sorted_form n az bz input.form input.sorted in
     let end : c.columns.k ≡ n = (let x = c.columns-test.false in let y = c.columns.auto.k-end in omega (arith, x, y)) in
     let t = c.columns.next.items in let numbers = c.columns.degrees.items in
     let mirror = mirrors_all n ap' ai form t (subst (λ z. HaveMirrors n ap' ai t z 0) end i.read)
     (λ j l. ap (λ xs. get_or xs j 0) (sym c.deref.ensures.value) ∙ c.all_read.ensures c.if-all_read.true j l) in
-    subst (λ h. AreCounts h h.edge numbers) (sym (same_graph n az bz r.form))
-    (others_are n ap' ai mirror numbers (subst (λ z. CountOthers n ap' ai z numbers) end i.others))
-
-pub returns-then-all_read-clause-diagonals : goal.returns-then-all_read-clause-diagonals
-returns-then-all_read-clause-diagonals g c =
-    let n = c.args.size in
-    let az = map g.I.Index.value c.args.a_p.now in let bz = map g.I.Index.value c.args.a_i.now in
-    let end : c.columns.k ≡ n = (let x = c.columns-test.false in let y = c.columns.auto.k-end in omega (arith, x, y)) in
-    subst (λ z. c.columns.diagonals ≡ count_below z (λ j. is_entry n (naturals az) (naturals bz) j j)) end c.columns.invariant.count
-    ∙ sym (same_diagonals n az bz c.requires.form)
+    record {
+      degrees = subst (λ h. AreCounts h h.edge numbers) (sym (same_graph n az bz input.form))
+          (others_are n ap' ai mirror numbers (subst (λ z. CountOthers n ap' ai z numbers) end i.others));
+      diagonals = subst (λ z. c.columns.diagonals ≡ count_below z (λ j. is_entry n ap' ai j j)) end i.count
+          ∙ sym (same_diagonals n az bz input.form);
+    }

@@ -11,30 +11,30 @@ use Rattle.amd_input.proofs.mirrors.uppers.Goals as goal
 
 pub count_at-end-requires-clause-fits : goal.count_at-end-requires-clause-fits
 count_at-end-requires-clause-fits g c = pointer_fits c.args.size (map g.I.Index.value c.args.a_p.now)
-    (map g.I.Index.value c.args.a_i.now) c.requires.form (c.args.k + 1) (let l = c.requires.k_in in omega (arith, l))
+    (map g.I.Index.value c.args.a_i.now) c.requires.input.form (c.args.k + 1) (let l = c.requires.k_in in omega (arith, l))
     (subst (λ x. x < 2 ^ 64) (sym (length-map c.args.a_i.now g.I.Index.value)) (omega (arith, c.well_formed)))
 
 pub count_at-place-requires-clause-fits : goal.count_at-place-requires-clause-fits
 count_at-place-requires-clause-fits g c = pointer_fits c.args.size (map g.I.Index.value c.args.a_p.now)
-    (map g.I.Index.value c.args.a_i.now) c.requires.form c.args.k (let l = c.requires.k_in in omega (arith, l))
+    (map g.I.Index.value c.args.a_i.now) c.requires.input.form c.args.k (let l = c.requires.k_in in omega (arith, l))
     (subst (λ x. x < 2 ^ 64) (sym (length-map c.args.a_i.now g.I.Index.value)) (omega (arith, c.well_formed)))
 
 pub count_at-requires-clause-within : goal.count_at-requires-clause-within
 count_at-requires-clause-within g c = place_in g.I.Index.value c.args.a_i.now c.args.size (map g.I.Index.value c.args.a_p.now)
-    c.requires.form c.args.k c.uppers.place c.count_at-end.result c.requires.k_in c.count_at-end.ensures.count c.uppers-test.true
+    c.requires.input.form c.args.k c.uppers.place c.count_at-end.result c.requires.k_in c.count_at-end.ensures.count c.uppers-test.true
 
 pub count_at-requires-clause-fits : goal.count_at-requires-clause-fits
 count_at-requires-clause-fits g c = row_fits c.args.size (map g.I.Index.value c.args.a_p.now) (map g.I.Index.value c.args.a_i.now)
-    c.requires.form c.args.k c.uppers.place c.requires.k_in (before_end c.count_at-end.ensures.count c.uppers-test.true)
+    c.requires.input.form c.args.k c.uppers.place c.requires.k_in (before_end c.count_at-end.ensures.count c.uppers-test.true)
     c.ranges.size.fits
 
 pub count_at-j-requires-clause-within : goal.count_at-j-requires-clause-within
 count_at-j-requires-clause-within g c = place_in g.I.Index.value c.args.a_i.now c.args.size (map g.I.Index.value c.args.a_p.now)
-    c.requires.form c.args.k c.uppers.place c.count_at-end.result c.requires.k_in c.count_at-end.ensures.count c.uppers-test.true
+    c.requires.input.form c.args.k c.uppers.place c.count_at-end.result c.requires.k_in c.count_at-end.ensures.count c.uppers-test.true
 
 pub count_at-requires-in-uppers-clause-fits : goal.count_at-requires-in-uppers-clause-fits
 count_at-requires-in-uppers-clause-fits g c = pointer_fits c.args.size (map g.I.Index.value c.args.a_p.now)
-    (map g.I.Index.value c.args.a_i.now) c.requires.form (c.count_at-j.result + 1)
+    (map g.I.Index.value c.args.a_i.now) c.requires.input.form (c.count_at-j.result + 1)
     (let l = row_below c.count_at.ensures.count c.count_at-j.ensures.count c.if-count_at-k.true in let m = c.requires.k_in in
     omega (arith, l, m))
     (subst (λ x. x < 2 ^ 64) (sym (length-map c.args.a_i.now g.I.Index.value)) (omega (arith, c.well_formed)))
@@ -42,21 +42,21 @@ count_at-requires-in-uppers-clause-fits g c = pointer_fits c.args.size (map g.I.
 pub count_at-requires-else-mirror-count_at-clause-within : goal.count_at-requires-else-mirror-count_at-clause-within
 count_at-requires-else-mirror-count_at-clause-within g c =
     let l = row_below c.count_at.ensures.count c.count_at-j.ensures.count c.if-count_at-k.true in let m = c.requires.k_in in
-    place_in g.I.Index.value c.args.a_i.now c.args.size (map g.I.Index.value c.args.a_p.now) c.requires.form c.count_at-j.result
+    place_in g.I.Index.value c.args.a_i.now c.args.size (map g.I.Index.value c.args.a_p.now) c.requires.input.form c.count_at-j.result
     c.number_of-mirror.result c.count_at-in-uppers.result (omega (arith, l, m)) c.count_at-in-uppers.ensures.count
     (let t = c.if-mirror-count_at.false in omega (arith, t))
 
 pub count_at-requires-else-mirror-count_at-clause-fits : goal.count_at-requires-else-mirror-count_at-clause-fits
 count_at-requires-else-mirror-count_at-clause-fits g c =
     let l = row_below c.count_at.ensures.count c.count_at-j.ensures.count c.if-count_at-k.true in let m = c.requires.k_in in
-    row_fits c.args.size (map g.I.Index.value c.args.a_p.now) (map g.I.Index.value c.args.a_i.now) c.requires.form c.count_at-j.result
+    row_fits c.args.size (map g.I.Index.value c.args.a_p.now) (map g.I.Index.value c.args.a_i.now) c.requires.input.form c.count_at-j.result
     c.number_of-mirror.result (omega (arith, l, m))
     (let t = c.if-mirror-count_at.false in let e = c.count_at-in-uppers.ensures.count in omega (arith, t, e)) c.ranges.size.fits
 
 pub cell_of-requires : goal.cell_of-requires
 cell_of-requires g c =
     let l = row_below c.count_at.ensures.count c.count_at-j.ensures.count c.if-count_at-k.true in let m = c.requires.k_in in
-    place_up c.args.size (map g.I.Index.value c.args.a_p.now) (map g.I.Index.value c.args.a_i.now) c.requires.form
+    place_up c.args.size (map g.I.Index.value c.args.a_p.now) (map g.I.Index.value c.args.a_i.now) c.requires.input.form
     (omega (arith, l, m)) c.count_at-in-uppers.ensures.count (let t = c.if-mirror-count_at.false in omega (arith, t)) c.requires.fits
 
 pub uppers-preserved : goal.uppers-preserved
@@ -64,7 +64,7 @@ uppers-preserved g c =
     let n = c.args.size in let k = c.args.k in let t = c.uppers.next.items in let j = c.count_at-j.result in let p = c.uppers.place in
     let ap' = naturals (map g.I.Index.value c.args.a_p.now) in let ai = naturals (map g.I.Index.value c.args.a_i.now) in
     let r = c.requires in let m = c.uppers.invariant.0 in let v = c.uppers.invariant.1 in
-    let form = sorted_form n (map g.I.Index.value c.args.a_p.now) (map g.I.Index.value c.args.a_i.now) r.form r.sorted in
+    let form = sorted_form n (map g.I.Index.value c.args.a_p.now) (map g.I.Index.value c.args.a_i.now) r.input.form r.input.sorted in
     let ends = c.count_at-end.ensures.count in let row = c.count_at-j.ensures.count in
     let up = row_below c.count_at.ensures.count row c.if-count_at-k.true in
     let low = v.place.left p (le_refl p) c.uppers-test.true in
@@ -90,7 +90,7 @@ returns-else-count_at-k-clause-read g c =
     let n = c.args.size in let k = c.args.k in let t = c.uppers.next.items in let p = c.uppers.place in
     let ap' = naturals (map g.I.Index.value c.args.a_p.now) in let ai = naturals (map g.I.Index.value c.args.a_i.now) in
     let r = c.requires in let m = c.uppers.invariant.0 in let v = c.uppers.invariant.1 in
-    let form = sorted_form n (map g.I.Index.value c.args.a_p.now) (map g.I.Index.value c.args.a_i.now) r.form r.sorted in
+    let form = sorted_form n (map g.I.Index.value c.args.a_p.now) (map g.I.Index.value c.args.a_i.now) r.input.form r.input.sorted in
     mirrors_over n ap' ai t k m v.read v.place.low (λ a x y e.
     let w = (unread_from n ap' ai form k m p c.count_at-end.result a r.k_in c.count_at-end.ensures.count v.place x e).1 in
     let s = c.count_at.ensures.count in let f = c.if-count_at-k.false in omega (arith, w, s, f, y))
@@ -100,7 +100,7 @@ returns-after-uppers-clause-read g c =
     let n = c.args.size in let k = c.args.k in let t = c.uppers.next.items in let p = c.uppers.place in
     let ap' = naturals (map g.I.Index.value c.args.a_p.now) in let ai = naturals (map g.I.Index.value c.args.a_i.now) in
     let r = c.requires in let m = c.uppers.invariant.0 in let v = c.uppers.invariant.1 in
-    let form = sorted_form n (map g.I.Index.value c.args.a_p.now) (map g.I.Index.value c.args.a_i.now) r.form r.sorted in
+    let form = sorted_form n (map g.I.Index.value c.args.a_p.now) (map g.I.Index.value c.args.a_i.now) r.input.form r.input.sorted in
     mirrors_over n ap' ai t k m v.read v.place.low (λ a x y e.
     let w = (unread_from n ap' ai form k m p c.count_at-end.result a r.k_in c.count_at-end.ensures.count v.place x e).0 in
     let f = c.uppers-test.false in omega (arith, w, f))
