@@ -1,5 +1,5 @@
 -- Columns that share entries: one with nothing new has those of a child where they stand.
-use Rattle.std.specs.Prelude.{ℕ, ℤ, ◌≡◌, ◌<◌, ◌≤◌, ◌-◌, ◌^◌, List, None, Some, map, length, slice_index}
+use Rattle.std.specs.Prelude.{ℕ, ℤ, ◌≡◌, ◌<◌, ◌≤◌, ◌-◌, ◌^◌, List, None, Some, map, length, pos, slice_index}
 use Rattle.std.specs.Prelude.{slice_range, take}
 use Rattle.amd_model.specs.Factor.{IsColumn}
 use Rattle.amd_model.specs.Graph.{IsGraph}
@@ -43,11 +43,25 @@ pub record Follows (rows : List ℕ) (from to : ℕ) (fresh : List ℕ) : Type 0
   pub last : from < to → to ≡ length rows
   pub less : from < to → slice_index rows (to - 1) < slice_index fresh 0
 
--- the columns then have the first numbers, which are not negative: at least as many as before
-pub record IsPlacedColumn {N : Type 0} (value : N → ℤ) (used : ℕ) (placed : Placed) (rows : List N) : Type 0 where
+-- a planned column, each of whose rows fits, can be placed behind the numbers of those before it, the first ones, within the room
+pub record CanPlaceColumn {N : Type 0} (value : N → ℤ) (fits : ℤ → Type 0) (plan : Plan) (fresh : List ℕ) (used : ℕ)
+    (rows : List N) (room : ℕ) : Type 0 where
+  pub order : Order
+  pub column : ℕ
+  pub planned : IsPlanned value order column plan fresh (take used rows)
+  pub fit : (j : ℕ) → j < length order.rows → fits (pos j)
+  pub within : used ≤ length rows
+  pub bound : length rows ≤ room
+
+-- it is placed: the columns then have the first numbers, none of them negative, and at least as many as before; each column
+-- of an order that is planned so stands in them
+pub record IsPlacedColumn {N : Type 0} (value : N → ℤ) (plan : Plan) (fresh : List ℕ) (used : ℕ) (old : List N) (placed : Placed)
+    (new : List N) : Type 0 where
   pub more : used ≤ placed.used
-  pub within : placed.used ≤ length rows
-  pub numbers : AreNonNegative (map value (take placed.used rows))
+  pub within : placed.used ≤ length new
+  pub numbers : AreNonNegative (map value (take placed.used new))
+  pub stands : (o : Order) (k : ℕ) → IsPlanned value o k plan fresh (take used old) →
+      StandsFrom value o k placed.begin placed.end (take placed.used new)
 
 -- the lists have a place for each row
 pub record HasColumnPlaces {A : Type 0} (o : Order) (l : SharedLists A) : Type 0 where

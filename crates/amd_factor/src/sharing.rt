@@ -12,8 +12,8 @@ ghost use Rattle.amd_factor.specs.Neighbours.{HasLater};
 ghost use Rattle.amd_factor.specs.Numbers.{AreNonNegative, Plans};
 ghost use Rattle.amd_factor.specs.Orders.{Order};
 ghost use Rattle.amd_factor.specs.Planning.{CanPlan};
-ghost use Rattle.amd_factor.specs.Sharing.{CanShare, CanStand, Follows, HasColumnPlaces, IsPlanned, IsPlacedColumn};
-ghost use Rattle.amd_factor.specs.Sharing.{KeepsColumns, Share, StandsFrom, TellFirsts};
+ghost use Rattle.amd_factor.specs.Sharing.{CanPlaceColumn, CanShare, CanStand, Follows, HasColumnPlaces};
+ghost use Rattle.amd_factor.specs.Sharing.{IsPlacedColumn, KeepsColumns, Share, TellFirsts};
 
 use crate::children::link_child;
 use crate::column::{Columns, Marked, Plan, plan_column};
@@ -170,16 +170,10 @@ fn append_rows<N: Index, A: Allocator>(
     rows: &mut Vec<N, A>,
     room: usize,
 ) -> Result<Option<Placed>, AllocError>
-    requires planned { (o : Order) × (k : ℕ) × IsPlanned N.value o k plan fresh.now (take used rows.old.items) ×
-        ((j : ℕ) → j < length o.rows → N.fits (pos j)) }
+    requires place { CanPlaceColumn N.value N.fits plan fresh.now used rows.old.items room }
     requires follows { Follows (naturals (map N.value (take used rows.old.items))) plan.from plan.to fresh.now }
-    requires used { used ≤ length rows.old.items }
-    requires room { length rows.old.items ≤ room }
     ensures placed { IfOk result (λ r. MatchOption r (Unit {0})
-        (λ p. IsPlacedColumn N.value used p rows.new.items)) }
-    ensures stands { IfOk result (λ r. MatchOption r (Unit {0}) (λ p. (o : Order) (k : ℕ) →
-        IsPlanned N.value o k plan fresh.now (take used rows.old.items) →
-        StandsFrom N.value o k p.begin p.end (take p.used rows.new.items))) }
+        (λ p. IsPlacedColumn N.value plan fresh.now used rows.old.items p rows.new.items)) }
     ensures kept { take used rows.new.items ≡ take used rows.old.items }
     ensures room { length rows.new.items ≤ room }
 {
@@ -215,15 +209,9 @@ fn place_column<N: Index, A: Allocator>(
     rows: &mut Vec<N, A>,
     room: usize,
 ) -> Result<Option<Placed>, AllocError>
-    requires planned { (o : Order) × (k : ℕ) × IsPlanned N.value o k plan fresh.now (take used rows.old.items) ×
-        ((j : ℕ) → j < length o.rows → N.fits (pos j)) }
-    requires used { used ≤ length rows.old.items }
-    requires room { length rows.old.items ≤ room }
+    requires place { CanPlaceColumn N.value N.fits plan fresh.now used rows.old.items room }
     ensures placed { IfOk result (λ r. MatchOption r (Unit {0})
-        (λ p. IsPlacedColumn N.value used p rows.new.items)) }
-    ensures stands { IfOk result (λ r. MatchOption r (Unit {0}) (λ p. (o : Order) (k : ℕ) →
-        IsPlanned N.value o k plan fresh.now (take used rows.old.items) →
-        StandsFrom N.value o k p.begin p.end (take p.used rows.new.items))) }
+        (λ p. IsPlacedColumn N.value plan fresh.now used rows.old.items p rows.new.items)) }
     ensures kept { take used rows.new.items ≡ take used rows.old.items }
     ensures room { length rows.new.items ≤ room }
 {

@@ -12,40 +12,30 @@ use Rattle.amd_factor.proofs.sharing.append_rows.Goals.{then-plan, else-plan}
 
 pub write_places-requires-clause-fits : goal.write_places-requires-clause-fits
 write_places-requires-clause-fits g c = λ k l. (
-    let x = slice_index c.args.fresh.now k in
-    let entry = (c.requires.planned.2.plans.completes.members x).0 (inr (Contains-get_or c.args.fresh.now k 0 l)) in
-    c.requires.planned.3 x entry.1)
+    let x = slice_index c.args.fresh.now k in let can = c.requires.place in
+    let entry = (can.planned.plans.completes.members x).0 (inr (Contains-get_or c.args.fresh.now k 0 l)) in can.fit x entry.1)
 
 pub returns-clause-placed : goal.returns-clause-placed
 returns-clause-placed g c =
-    let value = g.N.Index.value in let done = c.split_at_mut-free.result.0.now in
-    let is = same_front c.args.used c.args.rows.now.items c.lengthen.new.rows.items done c.requires.used c.lengthen.ensures.kept
-    (grind (arith, common_steps)) in
-    let fresh = c.args.fresh.now in let out = c.write_places.new.numbers in let n = c.args.used + length fresh in
-    let long : n ≡ length done + length out = grind (arith, common_steps) in
-    let low : n ≤ c.lengthen.new.rows.len = grind (arith, common_steps) in
-    let front = written_front n c.lengthen.new.rows.len done out _ _ long low in record {
-      more = omega arith;
-      within = grind (arith, common_steps);
-      numbers = subst (λ xs. AreNonNegative (map value xs)) (ap (λ xs. xs ++ out) (sym is) ∙ sym front)
-          (are_append value (take c.args.used c.args.rows.now.items) out fresh c.requires.planned.2.numbers c.write_places.ensures);
-    }
-
-pub returns-clause-stands : goal.returns-clause-stands
-returns-clause-stands g c =
     let value = g.N.Index.value in let done = c.split_at_mut-free.result.0.now in let first = take c.args.used c.args.rows.now.items in
-    let is = same_front c.args.used c.args.rows.now.items c.lengthen.new.rows.items done c.requires.used c.lengthen.ensures.kept
+    let can = c.requires.place in
+    let is = same_front c.args.used c.args.rows.now.items c.lengthen.new.rows.items done can.within c.lengthen.ensures.kept
     (grind (arith, common_steps)) in
     let from = c.args.plan.from in let to = c.args.plan.to in let fresh = c.args.fresh.now in let out = c.write_places.new.numbers in
     let n = c.args.used + length fresh in
-    let start : length first ≡ c.args.used = length-take-le c.args.used c.args.rows.now.items c.requires.used in
+    let start : length first ≡ c.args.used = length-take-le c.args.used c.args.rows.now.items can.within in
     let long : n ≡ length done + length out = grind (arith, common_steps) in
     let low : n ≤ c.lengthen.new.rows.len = grind (arith, common_steps) in
-    let front = written_front n c.lengthen.new.rows.len done out _ _ long low in
-    λ o k planned. subst (StandsFrom value o k c.if-plan.begin n) (ap (λ xs. xs ++ out) (sym is) ∙ sym front)
-    (subst (λ b. StandsFrom value o k c.if-plan.begin (b + length fresh) (first ++ out)) start (elim c.if-plan.branch [
-      | then-plan w ↦ subst (λ b. StandsFrom value o k b (length first + length fresh) (first ++ out)) (start ∙ sym w.begin-is)
-          (stands_alone value o k first from to fresh planned.plans c.requires.follows out c.write_places.ensures w.if-plan.true)
-      | else-plan w ↦ subst (λ b. StandsFrom value o k b (length first + length fresh) (first ++ out)) (sym w.begin-is)
-          (stands_appended value o k first from to fresh planned.plans c.requires.follows out c.write_places.ensures w.if-plan.false)
-    ]))
+    let front = ap (λ xs. xs ++ out) (sym is) ∙ sym (written_front n c.lengthen.new.rows.len done out _ _ long low) in record {
+      more = omega arith;
+      within = grind (arith, common_steps);
+      numbers = subst (λ xs. AreNonNegative (map value xs)) front
+          (are_append value first out fresh can.planned.numbers c.write_places.ensures);
+      stands = λ o k planned. subst (StandsFrom value o k c.if-plan.begin n) front
+          (subst (λ b. StandsFrom value o k c.if-plan.begin (b + length fresh) (first ++ out)) start (elim c.if-plan.branch [
+            | then-plan w ↦ subst (λ b. StandsFrom value o k b (length first + length fresh) (first ++ out)) (start ∙ sym w.begin-is)
+                (stands_alone value o k first from to fresh planned.plans c.requires.follows out c.write_places.ensures w.if-plan.true)
+            | else-plan w ↦ subst (λ b. StandsFrom value o k b (length first + length fresh) (first ++ out)) (sym w.begin-is)
+                (stands_appended value o k first from to fresh planned.plans c.requires.follows out c.write_places.ensures w.if-plan.false)
+          ]));
+    }

@@ -12,78 +12,69 @@ use Rattle.amd_factor.proofs.Factors.PlaceNumbers.{are_range, counts_range, plac
 use Rattle.amd_factor.proofs.Factors.Sharing.{last_row, numbers_behind, same_front, stands_behind, stands_shared, written_front}
 use Rattle.amd_factor.proofs.sharing.place_column.Goals as goal
 
-pub returns-then-is_empty-clause-stands : goal.returns-then-is_empty-clause-stands
-returns-then-is_empty-clause-stands g c =
-    let empty = c.is_empty.ensures in let t = c.if-is_empty.true in λ o k planned.
-    stands_shared g.N.Index.value o k (take c.args.used c.args.rows.now.items) c.args.plan.from c.args.plan.to c.args.fresh.now
-    planned.plans (eqb-true (length c.args.fresh.now) 0 (sym empty ∙ t))
+pub returns-then-is_empty-clause-placed : goal.returns-then-is_empty-clause-placed
+returns-then-is_empty-clause-placed g c =
+    let empty = c.is_empty.ensures in let t = c.if-is_empty.true in let can = c.requires.place in record {
+      more = omega arith;
+      within = can.within;
+      numbers = can.planned.numbers;
+      stands = λ o k planned. stands_shared g.N.Index.value o k (take c.args.used c.args.rows.now.items) c.args.plan.from c.args.plan.to
+          c.args.fresh.now planned.plans (eqb-true (length c.args.fresh.now) 0 (sym empty ∙ t));
+    }
 
 pub can_append-requires-clause-small : goal.can_append-requires-clause-small
 can_append-requires-clause-small g c = λ some last. (
-    let planned = c.requires.planned.2 in
-    let plans = subst (λ xs. Plans c.requires.planned.0 c.requires.planned.1 (naturals (map g.N.Index.value (take c.args.used xs)))
-    c.args.plan.from c.args.plan.to c.args.fresh.now) (sym c.deref.ensures.value) planned.plans in
-    let low = last_row _ _ _ _ _ _ plans some in let small = planned.small in omega (arith, low, small))
+    let can = c.requires.place in
+    let plans = subst (λ xs. Plans can.order can.column (naturals (map g.N.Index.value (take c.args.used xs)))
+    c.args.plan.from c.args.plan.to c.args.fresh.now) (sym c.deref.ensures.value) can.planned.plans in
+    let low = last_row _ _ _ _ _ _ plans some in let small = can.planned.small in omega (arith, low, small))
 
 pub write_merged-requires-clause-numbers : goal.write_merged-requires-clause-numbers
 write_merged-requires-clause-numbers g c =
-    let done = c.split_at_mut-done.result.0.now in
-    let is = same_front c.args.used c.args.rows.now.items c.lengthen.new.rows.items done c.requires.used c.lengthen.ensures.kept
+    let done = c.split_at_mut-done.result.0.now in let can = c.requires.place in
+    let is = same_front c.args.used c.args.rows.now.items c.lengthen.new.rows.items done can.within c.lengthen.ensures.kept
     (grind (arith, common_steps)) in
     are_range g.N.Index.value done c.args.plan.from c.args.plan.to
-    (subst (λ ys. AreNonNegative (map g.N.Index.value ys)) (sym is) c.requires.planned.2.numbers)
+    (subst (λ ys. AreNonNegative (map g.N.Index.value ys)) (sym is) can.planned.numbers)
 
 pub write_merged-requires-clause-small : goal.write_merged-requires-clause-small
 write_merged-requires-clause-small g c =
-    let value = g.N.Index.value in let done = c.split_at_mut-done.result.0.now in
-    let is = same_front c.args.used c.args.rows.now.items c.lengthen.new.rows.items done c.requires.used c.lengthen.ensures.kept
+    let value = g.N.Index.value in let done = c.split_at_mut-done.result.0.now in let can = c.requires.place in
+    let is = same_front c.args.used c.args.rows.now.items c.lengthen.new.rows.items done can.within c.lengthen.ensures.kept
     (grind (arith, common_steps)) in
-    let o = c.requires.planned.0 in let k = c.requires.planned.1 in let planned = c.requires.planned.2 in
     let from = c.args.plan.from in let to = c.args.plan.to in
-    let plans = subst (λ ys. Plans o k (naturals (map value ys)) from to c.args.fresh.now) (sym is) planned.plans in λ x l. (
+    let plans = subst (λ ys. Plans can.order can.column (naturals (map value ys)) from to c.args.fresh.now) (sym is)
+    can.planned.plans in λ x l. (
     let part = slice_range done from to in let j = slice_index (naturals (map value part)) x in
     let entry = (plans.completes.members j).0 (inl (subst (λ ys. Contains ys j) (counts_range value done from to)
     (place_of value part x l))) in
-    let low = entry.1 in let small = planned.small in omega (arith, low, small))
+    let low = entry.1 in let small = can.planned.small in omega (arith, low, small))
 
 pub write_merged-requires-clause-fits : goal.write_merged-requires-clause-fits
 write_merged-requires-clause-fits g c = λ k l. (
-    let x = slice_index c.args.fresh.now k in
-    let entry = (c.requires.planned.2.plans.completes.members x).0 (inr (Contains-get_or c.args.fresh.now k 0 l)) in
-    c.requires.planned.3 x entry.1)
+    let x = slice_index c.args.fresh.now k in let can = c.requires.place in
+    let entry = (can.planned.plans.completes.members x).0 (inr (Contains-get_or c.args.fresh.now k 0 l)) in can.fit x entry.1)
 
 pub returns-clause-placed : goal.returns-clause-placed
 returns-clause-placed g c =
     let value = g.N.Index.value in let done = c.split_at_mut-done.result.0.now in let first = take c.args.used c.args.rows.now.items in
-    let is = same_front c.args.used c.args.rows.now.items c.lengthen.new.rows.items done c.requires.used c.lengthen.ensures.kept
-    (grind (arith, common_steps)) in
-    let from = c.args.plan.from in let to = c.args.plan.to in let fresh = c.args.fresh.now in let out = c.write_merged.new.out in
-    let n = c.args.used + (to - from + length fresh) in let planned = c.requires.planned.2 in
-    let long : n ≡ length done + length out = grind (arith, common_steps) in
-    let low : n ≤ c.lengthen.new.rows.len = grind (arith, common_steps) in
-    let front = written_front n c.lengthen.new.rows.len done out _ _ long low in record {
-      more = omega arith;
-      within = grind (arith, common_steps);
-      numbers = subst (λ xs. AreNonNegative (map value xs)) (ap (λ xs. xs ++ out) (sym is) ∙ sym front)
-          (numbers_behind value c.requires.planned.0 c.requires.planned.1 first from to fresh planned.plans out
-          (c.write_merged.ensures ∙ ap (λ zs. map pos (merged zs fresh)) (counts_range value done from to)
-          ∙ ap (λ ys. map pos (merged (slice_range (naturals (map value ys)) from to) fresh)) is) planned.numbers);
-    }
-
-pub returns-clause-stands : goal.returns-clause-stands
-returns-clause-stands g c =
-    let value = g.N.Index.value in let done = c.split_at_mut-done.result.0.now in let first = take c.args.used c.args.rows.now.items in
-    let is = same_front c.args.used c.args.rows.now.items c.lengthen.new.rows.items done c.requires.used c.lengthen.ensures.kept
+    let can = c.requires.place in let planned = can.planned in
+    let is = same_front c.args.used c.args.rows.now.items c.lengthen.new.rows.items done can.within c.lengthen.ensures.kept
     (grind (arith, common_steps)) in
     let from = c.args.plan.from in let to = c.args.plan.to in let fresh = c.args.fresh.now in let out = c.write_merged.new.out in
     let n = c.args.used + (to - from + length fresh) in
     let written : map value out ≡ map pos (merged (slice_range (naturals (map value first)) from to) fresh) =
     c.write_merged.ensures ∙ ap (λ zs. map pos (merged zs fresh)) (counts_range value done from to)
     ∙ ap (λ ys. map pos (merged (slice_range (naturals (map value ys)) from to) fresh)) is in
-    let begin : length first ≡ c.args.used = length-take-le c.args.used c.args.rows.now.items c.requires.used in
+    let begin : length first ≡ c.args.used = length-take-le c.args.used c.args.rows.now.items can.within in
     let long : n ≡ length done + length out = grind (arith, common_steps) in
     let low : n ≤ c.lengthen.new.rows.len = grind (arith, common_steps) in
-    let front = written_front n c.lengthen.new.rows.len done out _ _ long low in
-    λ o k planned. subst (StandsFrom value o k c.args.used n) (ap (λ xs. xs ++ out) (sym is) ∙ sym front)
-    (subst (λ b. StandsFrom value o k b (b + (to - from + length fresh)) (first ++ out)) begin
-    (stands_behind value o k first from to fresh planned.plans out written))
+    let front = ap (λ xs. xs ++ out) (sym is) ∙ sym (written_front n c.lengthen.new.rows.len done out _ _ long low) in record {
+      more = omega arith;
+      within = grind (arith, common_steps);
+      numbers = subst (λ xs. AreNonNegative (map value xs)) front
+          (numbers_behind value can.order can.column first from to fresh planned.plans out written planned.numbers);
+      stands = λ o k plans. subst (StandsFrom value o k c.args.used n) front
+          (subst (λ b. StandsFrom value o k b (b + (to - from + length fresh)) (first ++ out)) begin
+          (stands_behind value o k first from to fresh plans.plans out written));
+    }

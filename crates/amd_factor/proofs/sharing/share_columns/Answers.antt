@@ -43,7 +43,6 @@ stand_column-requires g c κs inside =
     let plan = c.plan_shared-plan.result in let lists = c.plan_shared-plan.new.lists in let used = c.columns.used in
     let rows = take used c.columns.rows.items in let placed = c.in-Some.placed in
     let told = c.in_ok-placed.ensures.placed in let is = (rw c.in-Some.is at told) in
-    let stand = c.in_ok-placed.ensures.stands in let stands = (rw c.in-Some.is at stand) in
     let fresh = take plan.count c.deref-in-columns.result.now in
     let planned : IsPlanned value g.o c.columns.k plan fresh rows = record {
       plans = subst (λ ys. Plans g.o c.columns.k (naturals (map value rows)) plan.from plan.to (take plan.count ys))
@@ -75,7 +74,7 @@ stand_column-requires g c κs inside =
               (still_first used placed.used c.columns.rows.items written i.used is.more c.place_column.ensures.kept) c.columns.starts
               (rw (kept.0, kept.1) i.firsts));
           stands = subst (λ xs. StandsFrom value g.o c.columns.k placed.begin placed.end (take placed.used xs)) (sym after)
-              (stands g.o c.columns.k planned);
+              (is.stands g.o c.columns.k planned);
         },
       ),
     )
