@@ -36,6 +36,20 @@ start_at ap' ai j first is none =
     let p = and_parts _ _ e in none (ltb-true _ _ p.0) (eqb-true _ _ p.1)) in
     rw (sym is, not) refl
 
+-- behind the diagonal entry, or at the start where none is
+pub start_kind : (ap' ai : List ℕ) (a : ℕ) → ((lower_start ap' ai a ≡ get_or ap' a 0 + 1) × (get_or ap' a 0 < get_or ap' (a + 1) 0) ×
+    (get_or ai (get_or ap' a 0) 0 ≡ a)) ⊎
+    ((lower_start ap' ai a ≡ get_or ap' a 0) × (get_or ap' a 0 < get_or ap' (a + 1) 0 → get_or ai (get_or ap' a 0) 0 ≢ a))
+unfolding lower_start
+start_kind ap' ai a = elim (cases_Bool (ltb (get_or ap' a 0) (get_or ap' (a + 1) 0) && eqb (get_or ai (get_or ap' a 0) 0) a)) [
+  | inl e ↦ (let p = and_parts _ _ e in
+      inl (cond-true _ (get_or ap' a 0 + 1) (get_or ap' a 0) e, ltb-true _ _ p.0, eqb-true _ _ p.1))
+  | inr e ↦ inr (
+    cond-false _ (get_or ap' a 0 + 1) (get_or ap' a 0) e,
+    λ some is. clash (and_from _ _ (lt-ltb _ _ some) (eq-eqb _ _ is)) e,
+  )
+]
+
 -- no column has an upper entry: so none gives an edge where it is read
 no_edges : (pair : ℕ → ℕ → Bool) → ((j k : ℕ) → j < k → pair j k ≡ false) → (k : ℕ) → edges_before pair k ≡ edges_before pair 0
 no_edges pair none zero = refl
@@ -62,28 +76,14 @@ module _ (n : ℕ) (ap' ai : List ℕ) (form : IsSortedForm n ap' ai)
       get_or-map (lower_start ap' ai) (range_with_len 0 n) a 0 ∙ ap (lower_start ap' ai) at
 
   module _ (a : ℕ) (a_in : a < n) where
-    -- behind the diagonal entry, or at the start where none is
-    start_kind : ((lower_start ap' ai a ≡ get_or ap' a 0 + 1) × (get_or ap' a 0 < get_or ap' (a + 1) 0) ×
-        (get_or ai (get_or ap' a 0) 0 ≡ a)) ⊎
-        ((lower_start ap' ai a ≡ get_or ap' a 0) × (get_or ap' a 0 < get_or ap' (a + 1) 0 → get_or ai (get_or ap' a 0) 0 ≢ a))
-    unfolding lower_start
-    start_kind = elim (cases_Bool (ltb (get_or ap' a 0) (get_or ap' (a + 1) 0) && eqb (get_or ai (get_or ap' a 0) 0) a)) [
-      | inl e ↦ (let p = and_parts _ _ e in
-          inl (cond-true _ (get_or ap' a 0 + 1) (get_or ap' a 0) e, ltb-true _ _ p.0, eqb-true _ _ p.1))
-      | inr e ↦ inr (
-        cond-false _ (get_or ap' a 0 + 1) (get_or ap' a 0) e,
-        λ some is. clash (and_from _ _ (lt-ltb _ _ some) (eq-eqb _ _ is)) e,
-      )
-    ]
-
     start_low : get_or ap' a 0 ≤ lower_start ap' ai a
-    start_low = elim start_kind [
+    start_low = elim (start_kind ap' ai a) [
       | inl k ↦ (let is = k.0 in omega (arith, is))
       | inr k ↦ (let is = k.0 in omega (arith, is))
     ]
 
     start_high : lower_start ap' ai a ≤ get_or ap' (a + 1) 0
-    start_high = elim start_kind [
+    start_high = elim (start_kind ap' ai a) [
       | inl k ↦ (let is = k.0 in let some = k.1 in omega (arith, is, some))
       | inr k ↦ (let is = k.0 in let up = form.rising a a_in in omega (arith, is, up))
     ]
@@ -96,7 +96,7 @@ module _ (n : ℕ) (ap' ai : List ℕ) (form : IsSortedForm n ap' ai)
     ]
 
     start_below : (r : ℕ) → lower_start ap' ai a ≤ r → r < get_or ap' (a + 1) 0 → a < get_or ai r 0
-    start_below r from below = elim start_kind [
+    start_below r from below = elim (start_kind ap' ai a) [
       | inl k ↦ (let at = k.0 in let is = k.2 in
           let w = form.ascend a (get_or ap' a 0) r a_in (omega arith) (omega (arith, at, from)) below in omega (arith, w, is))
       | inr k ↦ (let at = k.0 in let some : get_or ap' a 0 < get_or ap' (a + 1) 0 = omega (arith, at, from, below) in
@@ -105,7 +105,7 @@ module _ (n : ℕ) (ap' ai : List ℕ) (form : IsSortedForm n ap' ai)
     ]
 
     start_passed : (r : ℕ) → get_or ap' a 0 ≤ r → r < lower_start ap' ai a → get_or ai r 0 ≤ a
-    start_passed r from below = elim start_kind [
+    start_passed r from below = elim (start_kind ap' ai a) [
       | inl k ↦ (let at = k.0 in let is = k.2 in let same : r ≡ get_or ap' a 0 = omega (arith, from, below, at) in
           le_of_eq (ap (λ x. get_or ai x 0) same ∙ is))
       | inr k ↦ (let at = k.0 in absurd (omega (arith, from, below, at)))

@@ -280,7 +280,7 @@ pub fn walk<I: Index, V: Visitor, U: Unsigned, A: Allocator>(
 
 /// The place of the first row of column `j`, one of `size`, below the diagonal, or the end of the column. No row stands
 /// above the diagonal.
-fn lower_first<I: Index>(size: usize, j: usize, a_p: &[I], a_i: &[I]) -> usize
+pub fn lower_first<I: Index>(size: usize, j: usize, a_p: &[I], a_i: &[I]) -> usize
     requires form { IsColumnForm (pos size) size (map I.value a_p.now) (map I.value a_i.now) }
     requires row { j < size }
     ensures { result ≡ lower_start (naturals (map I.value a_p.now)) (naturals (map I.value a_i.now)) j }
