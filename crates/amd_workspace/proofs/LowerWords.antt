@@ -11,7 +11,6 @@ use Rattle.amd_model.specs.Below.{list_below, count_below}
 use Rattle.amd_model.specs.Input.Pattern.{graph_of, is_pair}
 use Rattle.amd_model.specs.Quotient.{starting_list}
 use Rattle.amd_model.proofs.Counting.Below.{clash}
-use Rattle.amd_types.specs.Naturals.{naturals}
 use Rattle.amd_edges.specs.Visits.{AreCounts}
 use Rattle.amd_edges.proofs.Listing.{start_later}
 use Rattle.amd_edges.proofs.Orders.{list_gap}

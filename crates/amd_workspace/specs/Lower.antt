@@ -99,3 +99,16 @@ pub record HasColumns (m : Matrix) (degrees : List ℕ) (most_word most_cell : �
   pub rows : m.n ≤ most_word
   pub places : length iw ≤ most_cell
   pub before : SpreadsColumns m.n m.ap m.ai (earlier_below m.n m.ap m.ai 0) next iw
+
+-- the words are empty and have room for the lists and a word for each row more, and next says where each list starts
+pub record IsReadyForLists (n : ℕ) (ap ai : List ℤ) (room most_word most_cell capacity : ℕ) (next : List ℕ)
+    (iw : List ℤ) : Type 0 where
+  pub input : IsLowerForm n ap ai
+  pub some : 0 < n
+  pub enough : own_start n ap ai n + n ≤ room
+  pub rows : n ≤ most_word
+  pub places : room ≤ most_cell
+  pub fits : room ≤ capacity
+  pub empty : length iw ≡ 0
+  pub long : length next ≡ n
+  pub starts : (i : ℕ) → i < n → num next i ≡ own_start n ap ai i

@@ -24,12 +24,6 @@ const BANDS: usize = 8;
 /// The lists of a band have so many words, where that makes no more bands.
 const BAND_WORDS: usize = 1 << 20;
 
-/// A workspace with so many words is large.
-const LARGE: usize = 1 << 21;
-
-/// So many columns are looked at.
-const SAMPLES: usize = 64;
-
 /// Writes row `j` after the earlier neighbours of the next rows of its own column below the diagonal, those before row
 /// `hi`. They stand in `iw` from the word `place` on, and the column ends before the word `end`. Returns where the
 /// rows stand that are left.
@@ -140,36 +134,6 @@ fn push_heads<I: Index, U: Unsigned, A: Allocator>(
         let own = count_at(a_p, j + 1) - own_first(size, a_p, a_i, j);
         heads.push_reserved(cell_of(end - own));
     }
-}
-
-/// Whether the first and the last row of column `j`, one of `size`, are far apart.
-fn is_wide<I: Index>(size: usize, a_p: &[I], a_i: &[I], j: usize) -> bool
-    requires form { IsColumnForm (pos size) size (map I.value a_p.now) (map I.value a_i.now) }
-    requires row { j < size }
-{
-    let first = count_at(a_p, j);
-    let stop = count_at(a_p, j + 1);
-    first < stop && count_at(a_i, stop - 1) > count_at(a_i, first).saturating_add(size / 8)
-}
-
-/// Whether `room` words are many, and of the columns that are looked at, at most 64 of them, many are wide, so that
-/// their rows stand in any order.
-pub fn is_scattered<I: Index>(size: usize, a_p: &[I], a_i: &[I], room: usize) -> bool
-    requires form { IsColumnForm (pos size) size (map I.value a_p.now) (map I.value a_i.now) }
-{
-    if room < LARGE {
-        return false;
-    }
-    let step = size / SAMPLES + 1;
-    let mut wide = 0usize;
-    let mut j = 0;
-    'columns: while j < size {
-        if is_wide(size, a_p, a_i, j) {
-            wide = wide.saturating_add(1);
-        }
-        j = j.saturating_add(step);
-    }
-    wide >= SAMPLES / 4
 }
 
 /// Lays the lists of `size` rows, and behind them `size` words that name rows, and writes the earlier neighbours band

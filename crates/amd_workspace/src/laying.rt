@@ -2,7 +2,7 @@
 // the order in which the walk over the edges meets those of its row. Source: Amestoy, Davis and Duff 2004 (the forming
 // of A + A').
 
-ghost use Rattle.std.specs.Prelude.{◌≡◌, ◌<◌, ◌≤◌, ◌+◌, ◌∷◌, [], ℕ, pos, map, length, slice_index, slice_set};
+ghost use Rattle.std.specs.Prelude.{◌≡◌, ◌<◌, ◌≤◌, ◌+◌, ◌∷◌, [], ℕ, List, pos, map, length, slice_index, slice_set};
 ghost use Rattle.std.specs.Vec.{vec_capacity};
 ghost use Rattle.amd_model.specs.Input.Columns.{IsColumnForm, IsSorted};
 ghost use Rattle.amd_model.specs.Input.Pattern.{is_pair};
@@ -13,12 +13,13 @@ ghost use Rattle.amd_lists.specs.Layout.{list_in};
 ghost use Rattle.amd_words.specs.Words.{num};
 ghost use Rattle.amd_workspace.specs.Laying.{IsLaidOut, Lays, Starts};
 ghost use Rattle.amd_workspace.specs.Lists.{HasRoomBeside, KeepsWords};
-ghost use Rattle.amd_workspace.specs.Lower.{AreNeighbourCounts, HoldsLists, own_start};
+ghost use Rattle.amd_workspace.specs.Lower.{AreNeighbourCounts, HoldsLists, IsReadyForLists, own_start};
 
 use crate::copying::copy_symmetric;
 use crate::lists::{Memory, Words};
-use crate::lower::{has_long_lower, lower_lists, push_rows};
-use amd_edges::walk::{Visitor, walk};
+use crate::lower::{is_lower, push_rows, row_lists};
+use crate::sampling::are_short;
+use amd_edges::walk::{Visitor, walk, walk_lower};
 use amd_types::index::Index;
 use amd_words::words::put_row;
 use amd_words::{Cell, Signed, Unsigned, Word, cell_at, cell_of, put_cell, word_of};
@@ -148,9 +149,70 @@ fn general_lists<I: Index, S: Signed, U: Unsigned, A: Allocator + Copy>(
     *words = own;
 }
 
+/// Lays the lists of a pattern of `size` rows that has no entry above the diagonal, entry by entry, over `fill` words that
+/// are written before and name rows. What `next` is afterwards is not said.
+fn entry_lists<I: Index, S: Signed, U: Unsigned, A: Allocator + Copy>(
+    size: usize,
+    a_p: &[I],
+    a_i: &[I],
+    fill: usize,
+    words: &mut Words<S, U, A>,
+)
+    requires ready { IsReadyForLists size (map I.value a_p.now) (map I.value a_i.now) fill S.MOST U.MOST
+        (vec_capacity words.old.iw) words.old.next.items words.old.iw.items }
+    ensures long { length words.new.iw.items ≡ fill }
+    ensures capacity { KeepsWords words.old words.new }
+    ensures lists { (degrees : List ℕ) →
+        AreNeighbourCounts size (map I.value a_p.now) (map I.value a_i.now) degrees →
+        HoldsLists size (map I.value a_p.now) (map I.value a_i.now) degrees words.new.iw.items }
+{
+    // The words are taken out of their place while they are written, as in `filling`.
+    let alloc = *words.iw.allocator();
+    let none = Words {
+        next: Vec::new(alloc),
+        iw: Vec::new(alloc),
+    };
+    let mut own = replace(words, none);
+    push_rows(&mut own.iw, size - 1, fill);
+    walk_lower(size, a_p, a_i, &mut own);
+    *words = own;
+}
+
+/// Lays the lists of a pattern of `size` rows that has no entry above the diagonal, `free` words in all, in `room` words
+/// at most: entry by entry, or where that takes longer row by row. What `next` is afterwards is not said. `heads` is
+/// empty and has room for a number of each column. Behind the lists stand `size` words or more that name rows.
+fn lower_lists<I: Index, S: Signed, U: Unsigned, A: Allocator + Copy>(
+    size: usize,
+    a_p: &[I],
+    a_i: &[I],
+    degrees: &[Cell<U>],
+    free: usize,
+    room: usize,
+    words: &mut Words<S, U, A>,
+    heads: &mut Vec<Cell<U>, A>,
+)
+    requires free { free ≡ own_start size (map I.value a_p.now) (map I.value a_i.now) size }
+    requires ready { IsReadyForLists size (map I.value a_p.now) (map I.value a_i.now) room S.MOST U.MOST
+        (vec_capacity words.old.iw) words.old.next.items words.old.iw.items }
+    requires degrees { AreNeighbourCounts size (map I.value a_p.now) (map I.value a_i.now) degrees.now }
+    requires heads { (length heads.old.items ≡ 0) × (size ≤ vec_capacity heads.old) }
+    ensures long { (free + size ≤ length words.new.iw.items) × (length words.new.iw.items ≤ room) }
+    ensures capacity { KeepsWords words.old words.new }
+    ensures heads { vec_capacity heads.old ≤ vec_capacity heads.new }
+    ensures lists { HoldsLists size (map I.value a_p.now) (map I.value a_i.now) degrees.now words.new.iw.items }
+{
+    if are_short(size, a_p, a_i, free) {
+        // In sparse patterns nearly all of the room is used soon.
+        let fill = if free / 8 <= size { room } else { free + size };
+        entry_lists(size, a_p, a_i, fill, words);
+        return;
+    }
+    row_lists(size, a_p, a_i, degrees, room, words, heads);
+}
+
 /// Lays the lists of the neighbours of each of `size` rows, whose degrees stand in `len`, in `room` words at most.
-/// Answers where the last one ends. Long ones of a pattern that has no entry above the diagonal are written row by row
-/// (`lower_lists`), all others by `general_lists`. Behind the lists stand `size` words or more that name rows; the rest
+/// Answers where the last one ends. Those of a pattern that has no entry above the diagonal are written by `lower_lists`,
+/// all others by `general_lists`. Behind the lists stand `size` words or more that name rows; the rest
 /// of the room is not written. What the memory held before, but for the degrees, is not read; it has room for `size`
 /// rows and `room` words, where none is needed for the numbers of rows, and keeps it.
 pub fn lay<I: Index, S: Signed, P: Signed, U: Unsigned, A: Allocator + Copy>(
@@ -184,12 +246,13 @@ pub fn lay<I: Index, S: Signed, P: Signed, U: Unsigned, A: Allocator + Copy>(
     memory.lists.w.clear();
     let free = starts(&mut memory.pe, &mut memory.words.next, &memory.len);
     let pointers = &mut memory.lists.w;
-    if has_long_lower(size, a_p, a_i, free) {
+    if is_lower(size, a_p, a_i) {
         lower_lists(
             size,
             a_p,
             a_i,
             &memory.len,
+            free,
             room,
             &mut memory.words,
             pointers,

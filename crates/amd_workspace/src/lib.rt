@@ -10,4 +10,5 @@ pub mod laying;
 pub mod lists;
 pub mod lower;
 pub mod rows;
+pub mod sampling;
 pub mod starting;

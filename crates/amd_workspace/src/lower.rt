@@ -1,8 +1,8 @@
-// The lists of a pattern that has no entry above the diagonal. There the list of a row is its earlier neighbours,
-// rising, and then its column below the diagonal. No pass searches for a place. One writes the columns, each behind the
-// room for the earlier neighbours of its row. Another one reads each column back, and adds its row to the earlier
-// neighbours of each row that it names; it follows the first one as soon as it can. Source: Amestoy, Davis and Duff
-// 2004 (the forming of A + A').
+// Long lists of a pattern that has no entry above the diagonal, row by row. There the list of a row is its earlier
+// neighbours, rising, and then its column below the diagonal. No pass searches for a place. One writes the columns, each
+// behind the room for the earlier neighbours of its row. Another one reads each column back, and adds its row to the
+// earlier neighbours of each row that it names; it follows the first one as soon as it can. Source: Amestoy, Davis and
+// Duff 2004 (the forming of A + A').
 
 ghost use Rattle.std.specs.Prelude.{◌≡◌, ◌<◌, ◌≤◌, ◌+◌, ◌-◌, ◌++◌, ◌/◌, ℕ, List, true, map, length, pos, replicate};
 ghost use Rattle.std.specs.Prelude.{slice_index, slice_range};
@@ -12,12 +12,15 @@ ghost use Rattle.amd_model.specs.Input.Pattern.{is_pair};
 ghost use Rattle.amd_types.specs.Naturals.{naturals};
 ghost use Rattle.amd_words.specs.Words.{num};
 ghost use Rattle.amd_workspace.specs.Lower.{IsLower, IsLowerForm, AreNeighbourCounts, Matrix, HoldsLists, LaysRows};
+ghost use Rattle.amd_workspace.specs.Lower.{IsReadyForLists};
 ghost use Rattle.amd_workspace.specs.Lists.{KeepsWords};
 ghost use Rattle.amd_workspace.specs.Lower.{own_start, own_of, earlier_below, SpreadsFirst, IsReadyForColumn};
 
-use crate::bands::{is_scattered, lay_bands};
+use crate::bands::lay_bands;
 use crate::laying::append;
 use crate::lists::Words;
+use crate::sampling::is_scattered;
+use amd_edges::walk::lower_first;
 use amd_types::index::Index;
 use amd_types::internal::count_at;
 use amd_words::{Cell, Signed, Unsigned, Word, cell_at, row_at, word_of};
@@ -42,7 +45,7 @@ fn is_low<I: Index>(size: usize, a_p: &[I], a_i: &[I], j: usize) -> bool
 }
 
 /// Whether no row of any of `size` columns stands above the diagonal.
-fn is_lower<I: Index>(size: usize, a_p: &[I], a_i: &[I]) -> bool
+pub fn is_lower<I: Index>(size: usize, a_p: &[I], a_i: &[I]) -> bool
     requires form { IsColumnForm (pos size) size (map I.value a_p.now) (map I.value a_i.now) }
     requires sorted { IsSorted size (map I.value a_p.now) (map I.value a_i.now) }
     ensures yes { result ≡ true → IsLower size (map I.value a_p.now) (map I.value a_i.now) }
@@ -56,21 +59,6 @@ fn is_lower<I: Index>(size: usize, a_p: &[I], a_i: &[I]) -> bool
     true
 }
 
-/// Whether no entry is above the diagonal, and the lists of the `size` rows, `free` words in all, are long: at least
-/// `8 (size + 1)` words.
-pub fn has_long_lower<I: Index>(size: usize, a_p: &[I], a_i: &[I], free: usize) -> bool
-    requires form { IsColumnForm (pos size) size (map I.value a_p.now) (map I.value a_i.now) }
-    requires sorted { IsSorted size (map I.value a_p.now) (map I.value a_i.now) }
-    ensures yes { result ≡ true → IsLower size (map I.value a_p.now) (map I.value a_i.now) }
-    ensures long { result ≡ true → size < free / 8 }
-    ensures no { size < free / 8 → IsLower size (map I.value a_p.now) (map I.value a_i.now) → result ≡ true }
-{
-    if free / 8 <= size {
-        return false;
-    }
-    is_lower(size, a_p, a_i)
-}
-
 /// The place in `a_i` of the first row of column `j` below the diagonal, or the end of the column. No row is above the
 /// diagonal.
 pub fn own_first<I: Index>(size: usize, a_p: &[I], a_i: &[I], j: usize) -> usize
@@ -81,15 +69,7 @@ pub fn own_first<I: Index>(size: usize, a_p: &[I], a_i: &[I], j: usize) -> usize
     ensures rows { own_of size (map I.value a_p.now) (map I.value a_i.now) j ≡
         slice_range (naturals (map I.value a_i.now)) result (slice_index (naturals (map I.value a_p.now)) (j + 1)) }
 {
-    let first = count_at(a_p, j);
-    if first == count_at(a_p, j + 1) {
-        return first;
-    }
-    if count_at(a_i, first) == j {
-        first + 1
-    } else {
-        first
-    }
+    lower_first(size, j, a_p, a_i)
 }
 
 /// Appends a row to the words, `count` times.
@@ -267,12 +247,11 @@ fn lay_rows<I: Index, S: Signed, U: Unsigned, A: Allocator>(
     push_rows(iw, size - 1, size);
 }
 
-/// Lays the lists of a pattern of `size` rows that has no entry above the diagonal, where the words are empty and have
-/// room for `room` of them. Each number of `next` is where the list of its row starts; what it is afterwards is not
-/// said. `heads` is empty and has room for a number of each column. Behind the lists stand `size` words that name rows;
-/// the rest of the room is not written. Where there is room for many words and the rows stand in any order, the earlier
-/// neighbours are written band by band.
-pub fn lower_lists<I: Index, S: Signed, U: Unsigned, A: Allocator + Copy>(
+/// Lays the lists of a pattern of `size` rows that has no entry above the diagonal, row by row, in `room` words at most.
+/// What `next` is afterwards is not said. `heads` is empty and has room for a number of each column. Behind the lists
+/// stand `size` words that name rows; the rest of the room is not written. Where there is room for many words and the
+/// rows stand in any order, the earlier neighbours are written band by band.
+pub fn row_lists<I: Index, S: Signed, U: Unsigned, A: Allocator + Copy>(
     size: usize,
     a_p: &[I],
     a_i: &[I],
@@ -281,17 +260,10 @@ pub fn lower_lists<I: Index, S: Signed, U: Unsigned, A: Allocator + Copy>(
     words: &mut Words<S, U, A>,
     heads: &mut Vec<Cell<U>, A>,
 )
-    requires input { IsLowerForm size (map I.value a_p.now) (map I.value a_i.now) }
-    requires some { 0 < size }
+    requires ready { IsReadyForLists size (map I.value a_p.now) (map I.value a_i.now) room S.MOST U.MOST
+        (vec_capacity words.old.iw) words.old.next.items words.old.iw.items }
     requires degrees { AreNeighbourCounts size (map I.value a_p.now) (map I.value a_i.now) degrees.now }
-    requires room { own_start size (map I.value a_p.now) (map I.value a_i.now) size + size ≤ room }
-    requires fits { (size ≤ S.MOST) × (room ≤ U.MOST) }
-    requires capacity { room ≤ vec_capacity words.old.iw }
-    requires empty { (length words.old.iw.items ≡ 0) × (length heads.old.items ≡ 0) }
-    requires wide { size ≤ vec_capacity heads.old }
-    requires long { length words.old.next.items ≡ size }
-    requires starts { (i : ℕ) → i < size →
-        num words.old.next.items i ≡ own_start size (map I.value a_p.now) (map I.value a_i.now) i }
+    requires heads { (length heads.old.items ≡ 0) × (size ≤ vec_capacity heads.old) }
     ensures long { length words.new.iw.items ≡
         own_start size (map I.value a_p.now) (map I.value a_i.now) size + size }
     ensures capacity { KeepsWords words.old words.new }

@@ -63,13 +63,22 @@ starts-free-requires-clause-fits g c =
     let words = c.requires.words in let fits = c.requires.fits in let p = fits.1 in let u = fits.2 in
     (omega (arith, is, words, p), omega (arith, is, words, u))
 
-pub lower_lists-requires-clause-long : goal.lower_lists-requires-clause-long
-lower_lists-requires-clause-long g c = next_long _ _ _ _ c.requires.degrees _ _
-    (starts_are g (goal.at.lower_lists-requires-clause-long g c).After-starts-free)
+pub lower_lists-requires-clause-free : goal.lower_lists-requires-clause-free
+lower_lists-requires-clause-free g c = free_is g (goal.at.lower_lists-requires-clause-free g c).After-starts-free
 
-pub lower_lists-requires-clause-starts : goal.lower_lists-requires-clause-starts
-lower_lists-requires-clause-starts g c = next_first _ _ _ _ c.requires.degrees _ _
-    (starts_are g (goal.at.lower_lists-requires-clause-starts g c).After-starts-free)
+pub lower_lists-requires-clause-ready : goal.lower_lists-requires-clause-ready
+lower_lists-requires-clause-ready g c =
+    let to = (goal.at.lower_lists-requires-clause-ready g c).After-starts-free in let s = starts_are g to in let r = c.requires in record {
+      input = record { form = r.form; sorted = r.sorted; lower = c.is_lower.ensures.yes c.if-is_lower.true };
+      some = r.some;
+      enough = r.words;
+      rows = r.fits.0;
+      places = r.fits.2;
+      fits = (let room = r.room.words in let kept = c.clear-3.ensures.capacity in omega (arith, room, kept));
+      empty = ap length c.clear-3.ensures.items;
+      long = next_long _ _ _ _ r.degrees _ _ s;
+      starts = next_first _ _ _ _ r.degrees _ _ s;
+    }
 
 pub general_lists-requires-clause-long : goal.general_lists-requires-clause-long
 general_lists-requires-clause-long g c = next_long _ _ _ _ c.requires.degrees _ _
@@ -79,44 +88,43 @@ pub general_lists-requires-clause-starts : goal.general_lists-requires-clause-st
 general_lists-requires-clause-starts g c = next_first _ _ _ _ c.requires.degrees _ _
     (starts_are g (goal.at.general_lists-requires-clause-starts g c).After-starts-free)
 
-pub returns-then-has_long_lower-clause-laid : goal.returns-then-has_long_lower-clause-laid
-returns-then-has_long_lower-clause-laid g c =
-    let to = (goal.at.returns-then-has_long_lower-clause-laid g c).After-starts-free in let long = c.lower_lists.ensures.long in
+pub returns-then-is_lower-clause-laid : goal.returns-then-is_lower-clause-laid
+returns-then-is_lower-clause-laid g c =
+    let to = (goal.at.returns-then-is_lower-clause-laid g c).After-starts-free in let is = free_is g to in
+    let long = c.lower_lists.ensures.long.0 in
     let P : ℕ → Type 0 = λ free. IsLaidOut c.args.size c.lower_lists.new.words.iw.items c.starts-free.new.pe.items
     c.args.memory.now.len.items free in
     subst P (sym (free_is g to)) (laid _ _ _ _ c.requires.degrees _ _ (starts_are g to) _
-    (rw c.deref-then-has_long_lower.ensures.value at c.lower_lists.ensures.lists) (omega (arith, long)))
+    (rw c.deref-then-is_lower.ensures.value at c.lower_lists.ensures.lists) (omega (arith, is, long)))
 
-pub returns-then-has_long_lower-clause-long : goal.returns-then-has_long_lower-clause-long
-returns-then-has_long_lower-clause-long g c =
-    let is = free_is g (goal.at.returns-then-has_long_lower-clause-long g c).After-starts-free in
-    let long = c.lower_lists.ensures.long in let words = c.requires.words in (omega (arith, is, long), omega (arith, long, words))
+pub returns-then-is_lower-clause-long : goal.returns-then-is_lower-clause-long
+returns-then-is_lower-clause-long g c = c.lower_lists.ensures.long
 
-pub returns-then-has_long_lower-clause-free : goal.returns-then-has_long_lower-clause-free
-returns-then-has_long_lower-clause-free g c = free_is g (goal.at.returns-then-has_long_lower-clause-free g c).After-starts-free
+pub returns-then-is_lower-clause-free : goal.returns-then-is_lower-clause-free
+returns-then-is_lower-clause-free g c = free_is g (goal.at.returns-then-is_lower-clause-free g c).After-starts-free
 
-pub returns-then-has_long_lower-clause-lists : goal.returns-then-has_long_lower-clause-lists
-returns-then-has_long_lower-clause-lists g c = lists _ _ _ _ c.requires.degrees _ _
-    (starts_are g (goal.at.returns-then-has_long_lower-clause-lists g c).After-starts-free) _
-    (rw c.deref-then-has_long_lower.ensures.value at c.lower_lists.ensures.lists)
+pub returns-then-is_lower-clause-lists : goal.returns-then-is_lower-clause-lists
+returns-then-is_lower-clause-lists g c = lists _ _ _ _ c.requires.degrees _ _
+    (starts_are g (goal.at.returns-then-is_lower-clause-lists g c).After-starts-free) _
+    (rw c.deref-then-is_lower.ensures.value at c.lower_lists.ensures.lists)
 
-pub returns-else-has_long_lower-clause-laid : goal.returns-else-has_long_lower-clause-laid
-returns-else-has_long_lower-clause-laid g c =
-    let to = (goal.at.returns-else-has_long_lower-clause-laid g c).After-starts-free in let long = c.general_lists.ensures.long.0 in
+pub returns-else-is_lower-clause-laid : goal.returns-else-is_lower-clause-laid
+returns-else-is_lower-clause-laid g c =
+    let to = (goal.at.returns-else-is_lower-clause-laid g c).After-starts-free in let long = c.general_lists.ensures.long.0 in
     let P : ℕ → Type 0 = λ free. IsLaidOut c.args.size c.general_lists.new.words.iw.items c.starts-free.new.pe.items
     c.args.memory.now.len.items free in
     subst P (sym (free_is g to)) (laid _ _ _ _ c.requires.degrees _ _ (starts_are g to) _
-    (rw c.deref-else-has_long_lower.ensures.value at c.general_lists.ensures.lists) (omega (arith, long)))
+    (rw c.deref-else-is_lower.ensures.value at c.general_lists.ensures.lists) (omega (arith, long)))
 
-pub returns-else-has_long_lower-clause-long : goal.returns-else-has_long_lower-clause-long
-returns-else-has_long_lower-clause-long g c =
-    let is = free_is g (goal.at.returns-else-has_long_lower-clause-long g c).After-starts-free in
+pub returns-else-is_lower-clause-long : goal.returns-else-is_lower-clause-long
+returns-else-is_lower-clause-long g c =
+    let is = free_is g (goal.at.returns-else-is_lower-clause-long g c).After-starts-free in
     let long = c.general_lists.ensures.long.0 in (omega (arith, is, long), c.general_lists.ensures.long.1)
 
-pub returns-else-has_long_lower-clause-free : goal.returns-else-has_long_lower-clause-free
-returns-else-has_long_lower-clause-free g c = free_is g (goal.at.returns-else-has_long_lower-clause-free g c).After-starts-free
+pub returns-else-is_lower-clause-free : goal.returns-else-is_lower-clause-free
+returns-else-is_lower-clause-free g c = free_is g (goal.at.returns-else-is_lower-clause-free g c).After-starts-free
 
-pub returns-else-has_long_lower-clause-lists : goal.returns-else-has_long_lower-clause-lists
-returns-else-has_long_lower-clause-lists g c = lists _ _ _ _ c.requires.degrees _ _
-    (starts_are g (goal.at.returns-else-has_long_lower-clause-lists g c).After-starts-free) _
-    (rw c.deref-else-has_long_lower.ensures.value at c.general_lists.ensures.lists)
+pub returns-else-is_lower-clause-lists : goal.returns-else-is_lower-clause-lists
+returns-else-is_lower-clause-lists g c = lists _ _ _ _ c.requires.degrees _ _
+    (starts_are g (goal.at.returns-else-is_lower-clause-lists g c).After-starts-free) _
+    (rw c.deref-else-is_lower.ensures.value at c.general_lists.ensures.lists)

@@ -1,7 +1,7 @@
--- the goals of bands::is_wide.
+-- the goals of sampling::is_wide.
 use Rattle.std.proofs.Common.{◌+◌, ◌-◌, arith, le_of_lt}
 use Rattle.amd_edges.proofs.Forms.{pointer_read, row_read}
-use Rattle.amd_workspace.proofs.bands.is_wide.Goals as goal
+use Rattle.amd_workspace.proofs.sampling.is_wide.Goals as goal
 
 pub count_at-first-requires : goal.count_at-first-requires
 count_at-first-requires g c = let p = pointer_read g.I.Index.value c.args.a_p.now c.args.a_i.now c.args.size c.requires.form c.args.j
