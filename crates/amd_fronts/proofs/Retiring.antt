@@ -3,7 +3,7 @@ use Rattle.amd_model.proofs.Counting.Below.{clash}
 use Rattle.std.proofs.Common.{ℕ, ℤ, pos, negsuc, Bool, true, false, List, [], ◌∷◌, ◌++◌, ◌≡◌, ◌<◌, ◌≤◌, ◌+◌, ◌-◌}
 use Rattle.std.proofs.Common.{◌%◌, ◌^◌, ◌&&◌, ◌||◌, ◌⊎◌, not, inl, inr, refl}
 use Rattle.std.proofs.Common.{sym, ap, subst, ◌∙◌, arith, cond, length, filter, sum_by, set, length-set, get_or-set_same, get_or-set_other}
-use Rattle.std.specs.Prelude.{min, nat_lt}
+use Rattle.std.specs.Prelude.{bit_and, min, nat_lt}
 use Rattle.std.proofs.lemmas.Bool.{cases_Bool, cases_eq, ne_eqb, cond-true, cond-false, and_right}
 use Rattle.std.proofs.Math.Bool.{or-false}
 use Rattle.std.proofs.lemmas.List.{length-append}
@@ -18,7 +18,7 @@ use Rattle.amd_lists.specs.Renewal.{is_kept, is_outside, hashed, AreMet, Renews}
 use Rattle.amd_lists.specs.Spans.{RowList, row_list, variables_at}
 use Rattle.amd_lists.specs.Workspaces.{Workspace}
 use Rattle.amd_lists.specs.Layout.{elements_in, variables_in, list_in, Layout, IsPlaced, LosesOne, reached, IsRenewable, RenewsOne}
-use Rattle.amd_lists.specs.Renewal.{key_of}
+use Rattle.amd_lists.specs.Renewal.{key_mask, key_of}
 use Rattle.amd_fronts.specs.Fronts.{kept_in, near_in, is_done, bucket_at, is_over, reach_of, key_in, renewed_in, RenewsOrEnds, RenewsFront}
 use Rattle.amd_words.proofs.RowLists.{rows_more, rows_both, rows_has, rows_length, rows_part}
 use Rattle.amd_words.proofs.WordMarks.{rows_next}
@@ -46,8 +46,8 @@ done_no [] (y ∷ ys) ne = refl
 done_no (x ∷ xs) ys ne = refl
 
 -- the bucket of what is kept, from its sum
-pub bucket_is : (n : ℕ) (xs : List ℕ) (hash : ℕ) → hash ≡ hashed 0 xs → hash % n ≡ key_of n xs
-bucket_is n xs hash e = ap (λ h. h % n) (e ∙ ap (λ m. m % 2 ^ 64) (let a : 0 + sum_by (λ j. j) xs ≡ sum_by (λ j. j) xs = omega arith in a))
+pub bucket_is : (n : ℕ) (xs : List ℕ) (hash : ℕ) → hash ≡ hashed 0 xs → bit_and hash (key_mask n) ≡ key_of n xs
+bucket_is n xs hash e = ap (λ h. bit_and h (key_mask n)) (e ∙ ap (λ m. m % 2 ^ 64) (let a : 0 + sum_by (λ j. j) xs ≡ sum_by (λ j. j) xs = omega arith in a))
 
 -- ---- one class
 
@@ -104,20 +104,20 @@ module _ {n me i : ℕ} {p v : Workspace} (r : RenewsOne n me (is_kept p.w) (is_
   pub one_stays : (degree : List ℕ) (reach hash : ℕ) → (num v.len i ≡ 1 → ⊥) → i < length p.last → reach ≡ reach_of p i →
       num degree i ≡ min (num p.degree i) reach → ((x : ℕ) → (x ≡ i → ⊥) → num degree x ≡ num p.degree x) → hash ≡ hashed 0 (ks ++ vs) →
       RenewsOrEnds n me i p
-      (record p { iw = v.iw; e_len = v.e_len; len = v.len; degree = degree; last = set p.last i (hash % n) }) 0
+      (record p { iw = v.iw; e_len = v.e_len; len = v.len; degree = degree; last = set p.last i (bit_and hash (key_mask n)) }) 0
   one_stays degree reach hash many l reach_is bound others hash_is = let d : done ≡ false = one_left many in record {
     counts = v.e_len;
-    renewed = same_lists (record p { degree = degree; last = set p.last i (hash % n) }) r;
+    renewed = same_lists (record p { degree = degree; last = set p.last i (bit_and hash (key_mask n)) }) r;
     starts = λ x ne. refl;
     lists = λ x ne. r.counts x ne;
     rows = λ x ne. refl;
     bounds = others;
-    keys = λ x ne. get_or-set_other p.last i x (hash % n) 0 ne;
+    keys = λ x ne. get_or-set_other p.last i x (bit_and hash (key_mask n)) 0 ne;
     start_is = sym (cond-false done (flip_of me) (word p.pe i) d);
     list_is = sym (cond-false done (negsuc 0) (word v.e_len i) d);
     row_is = sym (cond-false done (pos 0) (word p.nv i) d);
     bound_is = bound ∙ ap (min (num p.degree i)) reach_is ∙ sym (cond-false done (num p.degree i) (min (num p.degree i) (reach_of p i)) d);
-    key_is = get_or-set_same p.last i (hash % n) 0 l ∙ bucket_is n (ks ++ vs) hash hash_is
+    key_is = get_or-set_same p.last i (bit_and hash (key_mask n)) 0 l ∙ bucket_is n (ks ++ vs) hash hash_is
         ∙ sym (cond-false done (num p.last i) (key_in n p i) d);
     gone_is = sym (cond-false done (size_of p.nv i) 0 d);
   }

@@ -4,14 +4,14 @@
 
 ghost use Rattle.std.specs.Prelude.{ℕ, ◌<◌, ◌≡◌, length, min};
 ghost use Rattle.amd_words.specs.Words.{num};
-ghost use Rattle.amd_lists.specs.Renewal.{CanRenew, RenewsList};
+ghost use Rattle.amd_lists.specs.Renewal.{CanRenew, RenewsList, key_mask};
 ghost use Rattle.amd_lists.specs.Spans.{row_list};
 ghost use Rattle.amd_lists.specs.Workspaces.{KeepsLoans, workspace_of};
 ghost use Rattle.amd_fronts.specs.Effects.{RenewsAllClasses, RenewsClass, RenewsOrRetires, Retires};
 ghost use Rattle.amd_fronts.specs.Premises.{CanRenewAll, CanRenewClass, CanRenewOrRetire, CanRetire};
 
 use amd_lists::lent::{list_lent, named_lent};
-use amd_lists::renewal::renew_list;
+use amd_lists::renewal::{key_mask, renew_list};
 use amd_lists::work::Work;
 use amd_words::sides::put_last;
 use amd_words::words::{put_flip, put_row, size_inside};
@@ -89,15 +89,15 @@ fn retire<S: Signed, P: Signed>(
 }
 
 /// Renews the list, the bound and the key of a class of the front, or ends it if it keeps nothing but the new element.
-/// There are `n` rows. Returns the number of rows that go with the pivot.
+/// The key has the bits of `mask`. Returns the number of rows that go with the pivot.
 fn renew_or_retire<S: Signed, P: Signed, U: Unsigned>(
     work: &mut Work<'_, '_, S, P, U>,
     i: usize,
     me: usize,
-    n: usize,
+    mask: usize,
 ) -> usize
     requires class { CanRenewOrRetire S.MOST P.MOST U.MOST me i (workspace_of work.old) }
-    requires rows { n ≡ length work.old.w.now }
+    requires mask { mask ≡ key_mask (length work.old.w.now) }
     ensures renews { RenewsOrRetires me i (workspace_of work.old) (workspace_of work.new) result }
     ensures loans { KeepsLoans work.old work.new }
 {
@@ -106,7 +106,7 @@ fn renew_or_retire<S: Signed, P: Signed, U: Unsigned>(
         return retire(work.pe, work.e_len, work.nv, i, me);
     }
     lower_bound(work.degree, i, outside);
-    put_last(work.sides, i, hash % n);
+    put_last(work.sides, i, hash & mask);
     0
 }
 
@@ -121,16 +121,12 @@ pub fn renew_all<S: Signed, P: Signed, U: Unsigned>(
     ensures renews { RenewsAllClasses me (workspace_of work.old) (workspace_of work.new) result }
     ensures loans { KeepsLoans work.old work.new }
 {
-    let n = work.w.len();
-    // There are rows, since `me` is one; said once here, it is not tested for each remainder by their number.
-    if n == 0 {
-        unreachable!();
-    }
+    let mask = key_mask(work.w.len());
     let (from, count) = list_lent(work.pe, work.len, me);
     let mut gone: usize = 0;
     for p in from..from + count {
         let i = named_lent(work.iw, p);
-        gone += renew_or_retire(work, i, me, n);
+        gone += renew_or_retire(work, i, me, mask);
     }
     gone
 }

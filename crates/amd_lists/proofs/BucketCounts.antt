@@ -1,5 +1,5 @@
 -- How many buckets there are, beside the number of rows.
-use Rattle.std.proofs.Common.{ℕ, ◌≤◌, ◌/◌, arith}
+use Rattle.std.proofs.Common.{ℕ, ◌≤◌, arith}
 use Rattle.amd_lists.specs.Sizes.{bucket_count}
 
 -- there are no more buckets than rows

@@ -6,3 +6,4 @@ pub mod Filtering
 pub mod PlainSums
 pub mod Renewing
 pub mod BucketCounts
+pub mod Keys

@@ -1,6 +1,7 @@
 -- The list of a class of a front, edited in its place.
-use Rattle.std.specs.Prelude.{ℕ, ℤ, Bool, true, List, ◌∷◌, ◌++◌, ◌≡◌, ◌<◌, ◌≤◌, ◌+◌, ◌-◌, ◌*◌, ◌%◌, ◌^◌, ◌&&◌, ◌⊎◌, not}
-use Rattle.std.specs.Prelude.{nat_lt}
+use Rattle.std.specs.Prelude.{ℕ, ℤ, Bool, true, List, ◌∷◌, ◌++◌, ◌≡◌, ◌<◌, ◌≤◌, ◌+◌, ◌-◌, ◌*◌, ◌/◌, ◌%◌, ◌^◌, ◌&&◌, ◌⊎◌, not}
+use Rattle.std.specs.Prelude.{bit_and, nat_lt}
+use Rattle.std.specs.Int.{leading_zeros, w64}
 use Rattle.std.specs.Prelude.{length, filter, sum_by, slice_set}
 use Rattle.amd_model.specs.Figures.{cut}
 use Rattle.amd_model.specs.Quotient.{has, turned}
@@ -23,9 +24,13 @@ is_outside nv j = nat_lt 0 (size_of nv j) && not (in_front nv j)
 abbrev pub hashed : ℕ → List ℕ → ℕ
 hashed first xs = (first + sum_by (λ j. j) xs) % 2 ^ 64
 
+-- the bits of a sum that make a key: so many of the lowest ones that the greatest key is below n
+unfoldable pub key_mask : ℕ → ℕ
+key_mask n = (2 ^ 64 - 1) / 2 ^ leading_zeros w64 n / 2
+
 -- the key of a class that keeps these words, a number below n
 abbrev pub key_of : ℕ → List ℕ → ℕ
-key_of n xs = (sum_by (λ j. j) xs % 2 ^ 64) % n
+key_of n xs = bit_and (sum_by (λ j. j) xs % 2 ^ 64) (key_mask n)
 
 -- of the words of a span, which name rows below n, those that pass stand from `to` on now, to the end that is left; the
 -- sum is theirs, cut, on top of first

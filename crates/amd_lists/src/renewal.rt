@@ -6,7 +6,7 @@ ghost use Rattle.amd_model.specs.Figures.{cut};
 ghost use Rattle.amd_words.specs.Words.{word, rows, size_of};
 ghost use Rattle.amd_lists.specs.Spans.{IsSpan, row_list, sifted, span};
 ghost use Rattle.amd_lists.specs.Renewal.{AreMet, IsExact, KeepsWords, KeepsVariables, CanRenew, RenewsList};
-ghost use Rattle.amd_lists.specs.Renewal.{is_outside};
+ghost use Rattle.amd_lists.specs.Renewal.{is_outside, key_mask};
 
 use amd_words::words::{is_open, named, put_row, size_outside};
 use amd_words::{Cell, Signed, Unsigned, Word, cell_at, copy_word, word_at};
@@ -262,4 +262,13 @@ pub fn renew_list<S: Signed, U: Unsigned>(
     );
     put_first(iw, from, middle, end, me);
     (middle + 1 - from, end + 1 - from, outside, hash)
+}
+
+/// The bits of a sum that make a key of a class, one of `n` rows: so many of the lowest ones that the greatest key is
+/// below `n`.
+pub fn key_mask(n: usize) -> usize
+    requires { 0 < n }
+    ensures { result ≡ key_mask n }
+{
+    usize::MAX >> n.leading_zeros() >> 1
 }

@@ -3,7 +3,7 @@ use Rattle.std.specs.Cmp.{both_ways}
 use Rattle.amd_model.proofs.Counting.Below.{clash}
 use Rattle.std.proofs.Common.{ℕ, ℤ, Bool, true, false, List, [], ◌∷◌, ◌++◌, ◌≡◌, ◌<◌, ◌+◌, ◌-◌, ◌%◌, ◌^◌, ◌&&◌, cond, inl, inr, sym, ap}
 use Rattle.std.proofs.Common.{subst, ◌∙◌, arith}
-use Rattle.std.specs.Prelude.{◌==◌}
+use Rattle.std.specs.Prelude.{◌==◌, bit_and}
 use Rattle.std.proofs.lemmas.Bool.{cases_Bool, eq-eqb, ne_eqb, eqb-true, cond-true, cond-false, and_parts, and_from, or_parts}
 use Rattle.amd_model.specs.Quotient.{has, each, Once}
 use Rattle.amd_model.proofs.Quotient.Lists.{has_append, each_gives, each_from}
@@ -15,7 +15,7 @@ use Rattle.amd_round_laws.proofs.Merging.Representatives.{alike_gives, alike_fro
 use Rattle.amd_merging.specs.Classes.{lists_of}
 use Rattle.amd_merging.specs.Merging.{kept_of, words_of, IsRenewed, AreApart, looks}
 use Rattle.amd_lists.specs.Layout.{variables_in}
-use Rattle.amd_lists.specs.Renewal.{key_of}
+use Rattle.amd_lists.specs.Renewal.{key_mask, key_of}
 use Rattle.amd_words.proofs.RowLists.{rows_both, rows_length}
 
 -- ---- two lists, each in two parts
@@ -26,7 +26,7 @@ once_left (x ∷ xs) ys o = ((or_parts (has xs x) (has ys x) (sym (has_append xs
 
 -- the sum of a list without repeats is that of its set
 pub same_key : (n : ℕ) (xs ys : List ℕ) → Once xs → Once ys → each (has xs) ys ≡ true → each (has ys) xs ≡ true → key_of n xs ≡ key_of n ys
-same_key n xs ys o p h k = ap (λ m. (m % 2 ^ 64) % n) (same_sum (λ j. j) xs ys o p h k)
+same_key n xs ys o p h k = ap (λ m. bit_and (m % 2 ^ 64) (key_mask n)) (same_sum (λ j. j) xs ys o p h k)
 
 module _ (ei vi ej vj : List ℕ) where
   both_each : each (has ei) ej ≡ true → each (has vi) vj ≡ true → each (has (ei ++ vi)) (ej ++ vj) ≡ true

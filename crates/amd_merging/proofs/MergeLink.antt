@@ -3,7 +3,7 @@
 use Rattle.std.specs.Cmp.{both_ways}
 use Rattle.std.proofs.Common.{ℕ, ℤ, pos, Bool, true, List, [], ◌∷◌, ◌++◌, ◌≡◌, ◌<◌, ◌≤◌, ◌+◌, ◌-◌, ◌%◌, ◌^◌, ◌&&◌, inl, refl, sym}
 use Rattle.std.proofs.Common.{subst, ap, ◌∙◌, arith, length}
-use Rattle.std.specs.Prelude.{sum_by}
+use Rattle.std.specs.Prelude.{bit_and, sum_by}
 use Rattle.std.proofs.lemmas.List.Sums.{sum_by-append, sum_by-cons}
 use Rattle.amd_model.specs.Quotient.{QuotientGraph, has, each, Once, turned, last_that, kept_elements, kept_variables, border_of}
 use Rattle.amd_model.proofs.Quotient.Lists.{has_turned, each_gives, each_from, once_append, once_turned, last_same'}
@@ -11,7 +11,7 @@ use Rattle.amd_words.specs.Words.{num, word, place, is_place, rows, Names}
 use Rattle.amd_round_laws.specs.Rounds.{alike_in}
 use Rattle.amd_merging.specs.Merging.{kept_of, words_of, IsRenewed}
 use Rattle.amd_lists.specs.Layout.{variables_in}
-use Rattle.amd_lists.specs.Renewal.{key_of}
+use Rattle.amd_lists.specs.Renewal.{key_mask, key_of}
 use Rattle.amd_words.proofs.RowLists.{rows_length, rows_none, rows_more, rows_both}
 
 same_tail : (x y : ℕ) (xs ys : List ℕ) → x ∷ xs ≡ y ∷ ys → xs ≡ ys
@@ -73,8 +73,9 @@ sum_turned [] = refl
 sum_turned (x ∷ xs) = let a = sum_by-append (λ j. j) xs (x ∷ []) in let b = sum_by-cons (λ j. j) x [] in let c =
     sum_by-cons (λ j. j) x xs in omega (arith, a, b, c)
 
-pub key_turned : (n : ℕ) (ks vs : List ℕ) → key_of n (turned ks ++ turned vs) ≡ ((sum_by (λ j. j) ks + sum_by (λ j. j) vs) % 2 ^ 64) % n
-key_turned n ks vs = ap (λ m. (m % 2 ^ 64) % n) (sum_by-append (λ j. j) (turned ks) (turned vs)
+pub key_turned : (n : ℕ) (ks vs : List ℕ) → key_of n (turned ks ++ turned vs) ≡
+    bit_and ((sum_by (λ j. j) ks + sum_by (λ j. j) vs) % 2 ^ 64) (key_mask n)
+key_turned n ks vs = ap (λ m. bit_and (m % 2 ^ 64) (key_mask n)) (sum_by-append (λ j. j) (turned ks) (turned vs)
     ∙ ap (λ m. m + sum_by (λ j. j) (turned vs)) (sum_turned ks) ∙ ap (λ m. sum_by (λ j. j) ks + m) (sum_turned vs))
 
 -- ---- lists that name the same give the same representatives

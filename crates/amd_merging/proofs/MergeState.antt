@@ -21,6 +21,7 @@ use Rattle.amd_merging.specs.Merging.{links, kept_of, words_of, IsRenewed, AreAp
 use Rattle.amd_lists.specs.Layout.{variables_in}
 use Rattle.amd_lists.specs.Sizes.{bucket_count}
 use Rattle.amd_merging.specs.Merging.{MergesAll, IsHead, bucket_of}
+use Rattle.amd_lists.proofs.Keys.{key_small}
 use Rattle.amd_lists.specs.Renewal.{key_of}
 use Rattle.amd_merging.proofs.BucketKeys.{bucket_small, bucket_same}
 use Rattle.amd_merging.proofs.BucketWalk.{links_is}
@@ -123,13 +124,15 @@ module _ (n : ℕ) (was : Classes) (rest : List ℕ) (flag0 count : ℕ) where
     abbrev key : ℕ
     key = bucket_of count was.last i
 
-    key_small : bucket_of count was.last i < bucket_count n
-    key_small = let e = g.keys i in_rest in let r = (g.renewed i in_rest).row in bucket_small n count was.last i (omega (arith, e, r))
+    bucket_in : bucket_of count was.last i < bucket_count n
+    bucket_in = let e = g.keys i in_rest in let r = (g.renewed i in_rest).row in
+        let few = key_small n (words_of was.iw was.pe was.len i) (omega (arith, r)) in
+        bucket_small n count was.last i (omega (arith, e, few))
 
     bucket_is : links n next n (num hash (bucket_of count was.last i)) ≡ st.buckets (bucket_of count was.last i)
     bucket_is = let s = st.short (bucket_of count was.last i) in let f = g.few in
         links_is n next n (num hash (bucket_of count was.last i)) (st.buckets (bucket_of count was.last i))
-        (st.chains (bucket_of count was.last i) key_small) (omega (arith, s, f))
+        (st.chains (bucket_of count was.last i) bucket_in) (omega (arith, s, f))
 
     -- a member of the bucket
     member : (b j : ℕ) → has (st.buckets b) j ≡ true → (has back j ≡ true) × (rep j ≡ j) × (bucket_of count was.last j ≡ b)
@@ -181,9 +184,9 @@ module _ (n : ℕ) (was : Classes) (rest : List ℕ) (flag0 count : ℕ) where
 
     ready : IsReady n count i (at pe e_len nv w hash next)
     ready = record {
-      key = key_small;
+      key = bucket_in;
       chain = subst (Chain n next (num hash (bucket_of count was.last i))) (sym bucket_is) (st.chains (bucket_of count was.last i)
-          key_small);
+          bucket_in);
       here = renewed_same n was.iw was.pe was.e_len pe e_len was.len i same_here (g.renewed i in_rest);
       marked = written_not rep (λ x. false) (in_front was.nv) back (in_front nv) st.front i fresh ∙ g.marked i in_rest;
       members = λ j h. is_member j (sym (ap (λ xs. has xs j) bucket_is) ∙ h);
@@ -312,7 +315,7 @@ module _ (n : ℕ) (was : Classes) (rest : List ℕ) (flag0 count : ℕ) where
             | inr t ↦ ap (λ xs. has xs x) (cond-false (b == key) (i ∷ st.buckets b) (st.buckets b) t)
                 ∙ sym (ap (λ xs. has xs x) (cond-false (b == key) (st.buckets b ++ i ∷ []) (st.buckets b) t))
           ] in
-          let lh = st.long.4 in let ln = st.long.5 in let row = (g.renewed i in_rest).row in let small = key_small in
+          let lh = st.long.4 in let ln = st.long.5 in let row = (g.renewed i in_rest).row in let small = bucket_in in
           let links_on : (b : ℕ) → b < bucket_count n → Chain n next' (num hash b) (st.buckets b) =
           λ b l. subst (λ z. Chain n z (num hash b) (st.buckets b)) (sym p.nexts)
           (chain_same n next (set next i (num hash key)) (num hash b) (st.buckets b) (λ y h.

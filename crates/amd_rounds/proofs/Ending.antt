@@ -2,7 +2,8 @@
 use Rattle.std.proofs.Common.{ℕ, negsuc, Bool, true, false, List, ◌≡◌, ◌<◌, ◌≤◌, ◌+◌, ◌-◌, ◌⊎◌, inl, inr, sym, subst, ap, ◌∙◌}
 use Rattle.std.proofs.Common.{arith, cond, not, filter, length, sum_by, ◌%◌}
 use Rattle.std.specs.Prelude.{◌^◌, ◌==◌, min}
-use Rattle.std.proofs.Math.Nat.{min-le_left, mod-lt}
+use Rattle.std.proofs.Math.Nat.{min-le_left}
+use Rattle.amd_lists.proofs.Keys.{key_small}
 use Rattle.std.proofs.lemmas.Bool.{cases_Bool, cond-true, cond-false, ne_eqb, not-true, not_from_false}
 use Rattle.amd_model.specs.Graph.{Graph}
 use Rattle.amd_model.specs.State.{State}
@@ -97,7 +98,7 @@ module _ {g : Graph} {dense : ℕ → Bool} {nzaat : ℕ} {aggressive : Bool} {p
     part = sizes.0;
     bound = bound_low i h;
     key = (let row = (can_merge r).front.row in let e = (can_merge r).renewed.keys i (made_rest i m) in
-        let a = mod-lt (sum_by (λ j. j) (words_of r.p3.iw r.p3.pe r.p3.len i) % 2 ^ 64) {m = g.size} (omega (arith, row)) in
+        let a = key_small g.size (words_of r.p3.iw r.p3.pe r.p3.len i) (omega (arith, row)) in
         let f = ap (λ (w : Workspace). num w.last i) merges.same in omega (arith, a, e, f));
   }
 

@@ -1,7 +1,7 @@
 -- After the classes of a front are turned over: those that are left can be merged.
 use Rattle.std.proofs.Common.{ℕ, ℤ, pos, negsuc, Bool, true, false, List, ◌++◌, ◌≡◌, ◌<◌, ◌≤◌, ◌+◌, ◌-◌, ◌&&◌, ◌⊎◌, ◌%◌, ◌^◌}
 use Rattle.std.proofs.Common.{inl, inr, refl, sym, ap, ◌∙◌, subst, cond, arith, not, filter, sum_by, length}
-use Rattle.std.specs.Prelude.{◌==◌, max}
+use Rattle.std.specs.Prelude.{◌==◌, bit_and, max}
 use Rattle.std.proofs.Math.Nat.{le-max_left}
 use Rattle.std.proofs.lemmas.Bool.{cases_Bool, cond-true, cond-false, ltb-true, and_parts, false_from_ne_true}
 use Rattle.std.proofs.lemmas.List.Sums.{sum_by-append}
@@ -18,7 +18,7 @@ use Rattle.amd_lists.specs.Layout.{has_list, end_of, elements_in, variables_in, 
 use Rattle.amd_lists.specs.Renewal.{is_kept, is_outside}
 use Rattle.amd_fronts.specs.Fronts.{is_done, bucket_at, near_in}
 use Rattle.amd_merging.specs.Merging.{kept_of, words_of, IsRenewed}
-use Rattle.amd_lists.specs.Renewal.{key_of}
+use Rattle.amd_lists.specs.Renewal.{key_mask, key_of}
 use Rattle.amd_lists.proofs.Frames.{dropped}
 use Rattle.amd_merging.proofs.MergeLink.{is_renewed, key_turned}
 use Rattle.amd_lists.specs.Workspaces.{Workspace}
@@ -143,7 +143,7 @@ module _ {g : Graph} {dense : ℕ → Bool} {nzaat : ℕ} {aggressive : Bool} {p
         ∙ ap (λ l. key_of g.size (filter (is_kept r.p3.w) l ++ near_in (is_outside r.p2.nv) r.p2.iw left r.p2.e_len r.p2.len i))
         (elements_left r i f)
         ∙ ap (λ l. key_of g.size (ks ++ filter (is_outside r.p2.nv) l)) (variables_left r i f)
-        ∙ ap (λ m. (m % 2 ^ 64) % g.size) (sum_by-append (λ j. j) ks vs)
+        ∙ ap (λ m. bit_and (m % 2 ^ 64) (key_mask g.size)) (sum_by-append (λ j. j) ks vs)
         ∙ sym (ap (key_of g.size) (kept_after r i h).2 ∙ key_turned g.size ks vs)
 
     class_marked : in_front r.p3.nv i ≡ true

@@ -4,6 +4,7 @@ use Rattle.std.proofs.lemmas.Bool.{cases_eq}
 use Rattle.amd_words.specs.Words.{num, word, place, is_place, start, rows}
 use Rattle.amd_words.proofs.RowLists.{rows_none}
 use Rattle.amd_words.proofs.WordCounts.{next_place, none_passed}
+use Rattle.amd_lists.specs.Renewal.{key_mask}
 use Rattle.amd_lists.specs.Workspaces.{workspace_of}
 use Rattle.amd_lists.proofs.Frames.{has_from}
 use Rattle.amd_fronts.specs.Effects.{RenewsOrRetires}
@@ -68,8 +69,8 @@ renew_or_retire-gone-requires-clause-class g c =
     (class_ready c.requires (c.loop-p.p - c.list_lent-from.result.0) (within_list c.loop-p.auto.p c.loop-p-test.true at.1)
     c.loop-p.invariant.renews c.named_lent-i.result (row_at v.iw at.0 c.loop-p.auto.p c.named_lent-i.ensures.is)))
 
-pub renew_or_retire-gone-requires-clause-rows : goal.renew_or_retire-gone-requires-clause-rows
-renew_or_retire-gone-requires-clause-rows g c = sym (ap (λ x. length x.w) c.loop-p.invariant.same)
+pub renew_or_retire-gone-requires-clause-mask : goal.renew_or_retire-gone-requires-clause-mask
+renew_or_retire-gone-requires-clause-mask g c = c.key_mask-mask.ensures ∙ sym (ap (λ x. key_mask (length x.w)) c.loop-p.invariant.same)
 
 pub overflow_add-gone : goal.overflow_add-gone
 overflow_add-gone g c =

@@ -1,9 +1,12 @@
 -- The goals of fronts::renew_or_retire.
 use Rattle.std.proofs.Common.{ℕ, List, sym, ap, subst, ◌∙◌, ◌%◌, arith, length, set, length-set, negsuc, pos}
 use Rattle.std.proofs.Common.{lt_of_lt_of_le, le_of_eq}
-use Rattle.std.specs.Prelude.{min}
+use Rattle.std.specs.Prelude.{bit_and, min}
 use Rattle.amd_words.specs.Words.{num, size_of, flip_of}
 use Rattle.amd_words.proofs.SideLists.{both_long}
+use Rattle.std.proofs.lemmas.Nat.{and_le_r}
+use Rattle.amd_lists.proofs.Keys.{mask_small}
+use Rattle.amd_lists.specs.Renewal.{key_mask}
 use Rattle.amd_lists.specs.Workspaces.{workspace_of}
 use Rattle.amd_fronts.specs.Fronts.{RenewsOrEnds}
 use Rattle.amd_fronts.specs.Premises.{CanRetire}
@@ -85,28 +88,34 @@ returns g c =
     let told = c.renew_class-count.ensures.renews in let same = told.same in let r = c.requires.class in let row = r.placed.row in
     let wide = r.more_lengths in let degree : List ℕ = c.lower_bound.new.degree in let reach : ℕ = c.renew_class-count.result.1 in
     let hash : ℕ = c.renew_class-count.result.2 in let out = c.put_last.ensures in let low = c.lower_bound.ensures in
-    let last : List ℕ = set m.last i (hash % length p.w) in
+    let last : List ℕ = set m.last i (bit_and hash (key_mask (length p.w))) in
     let stays : RenewsOrEnds (length p.w) me i p (record m { degree = degree; last = last }) 0 =
     subst (λ x. RenewsOrEnds (length p.w) me i p (record x {
       iw = m.iw;
       e_len = m.e_len;
       len = m.len;
       degree = degree;
-      last = set x.last i (hash % length p.w);
+      last = set x.last i (bit_and hash (key_mask (length p.w)));
     }) 0) (sym same)
     (one_stays told.renews degree reach hash (λ e. c.if-count-eq1.false (told.count_is ∙ e)) (omega (arith, row, wide)) told.outside
     (low.bound ∙ ap (λ x. min (num x.degree i) reach) same) (λ x ne. low.others x ne ∙ ap (λ y. num y.degree x) same) told.hash_is) in
     record {
-      renews = rw (out.lasts, out.nexts, c.requires.rows) record {
+      renews = rw (out.lasts, out.nexts, c.requires.mask) record {
         renews = stays;
         lengths = (
           ap (λ x. length x.pe) same,
           told.renews.e_long,
           ap (λ x. length x.nv) same,
           low.long ∙ ap (λ x. length x.degree) same,
-          length-set m.last i (hash % length p.w) ∙ ap (λ x. length x.last) same,
+          length-set m.last i (bit_and hash (key_mask (length p.w))) ∙ ap (λ x. length x.last) same,
         );
         same = changed_in p m (class_in p m same) m.pe m.e_len m.nv degree last;
       };
       loans = c.renew_class-count.ensures.loans;
     }
+
+pub put_last-requires-clause-fits : goal.put_last-requires-clause-fits
+put_last-requires-clause-fits g c =
+    let p = workspace_of c.args.work.now in let r = c.requires.class in let row = r.placed.row in let mask = c.requires.mask in
+    let low = and_le_r c.renew_class-count.result.2 c.args.mask in let few = r.narrow in
+    let small = mask_small (length p.w) (omega (arith, row)) in omega (arith, low, mask, small, few)
