@@ -9,6 +9,13 @@ use Rattle.amd_input.specs.declared.lower.Own.{Own}
 abbrev pub AreLow : ℕ → List ℕ → List ℕ → ℕ → Type 0
 AreLow n ap ai k = (i j : ℕ) → j < k → is_entry n ap ai i j ≡ true → j ≤ i
 
+-- a row stands above the diagonal
+pub record HasRowAbove (n : ℕ) (ap ai : List ℕ) : Type 0 where
+  pub row : ℕ
+  pub column : ℕ
+  pub above : row < column
+  pub stands : is_entry n ap ai row column ≡ true
+
 -- what is counted of column k, which has no row above the diagonal
 pub record CountOwn (n : ℕ) (ap ai : List ℕ) (k : ℕ) (own : Own) : Type 0 where
   pub others : own.others ≡ count_below n (is_beside n ap ai k)

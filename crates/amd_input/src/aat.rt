@@ -2,12 +2,13 @@
 // and Duff 2004). `aat_within` writes them into lists that are handed in, and `aat` takes the memory for them.
 
 ghost use Rattle.std.specs.Prelude.{◌≡◌, ◌<◌, ◌^◌, ◌-◌, ◌*◌, ◌==◌, map, slice_index, slice_set, unsigned_abs};
-ghost use Rattle.std.specs.Prelude.{◌≤◌, ◌∷◌, [], IfOk, IfErr, IfSome, OnOk, OnErr, pos};
+ghost use Rattle.std.specs.Prelude.{◌≤◌, ◌∷◌, [], IfOk, IfErr, IfNone, IfSome, OnOk, OnErr, pos};
 ghost use Rattle.std.specs.Vec.{vec_capacity};
 ghost use Rattle.amd_model.specs.Input.Columns.{IsColumnForm, IsInput, IsSorted, IsSortedInput};
 ghost use Rattle.amd_types.specs.Naturals.{naturals};
 ghost use Rattle.amd_edges.specs.Visits.{AreCounts};
 ghost use Rattle.amd_input.specs.Degrees.{AreDegrees, CountDegrees, IsEmptyFor, IsRisingForm};
+ghost use Rattle.amd_input.specs.LowerRows.{HasRowAbove};
 ghost use Rattle.amd_input.specs.PatternFigures.{HasPatternFigures};
 ghost use Rattle.amd_types.specs.declared.amd.Status.TheVariants.{OutOfMemory};
 
@@ -69,6 +70,7 @@ fn degrees_by_columns<I: Index, U: Unsigned, A: Allocator>(
     requires next { IsEmptyFor size (vec_capacity next.old) next.old.items }
     requires degrees { IsEmptyFor size (vec_capacity degrees.old) degrees.old.items }
     ensures counted { IfSome result (CountDegrees size (map I.value a_p.now) (map I.value a_i.now) degrees.new.items) }
+    ensures above { IfNone result (HasRowAbove size (naturals (map I.value a_p.now)) (naturals (map I.value a_i.now))) }
     ensures room { (vec_capacity next.new ≡ vec_capacity next.old) ×
         (vec_capacity degrees.new ≡ vec_capacity degrees.old) }
 {

@@ -2,14 +2,14 @@
 // rows, and as it stands in other columns. Where it stands is counted in one pass over all entries, with no loop for
 // each column: most columns are short. Source: Amestoy, Davis and Duff 2004 (the forming of A + A').
 
-ghost use Rattle.std.specs.Prelude.{◌≡◌, ◌<◌, ◌≤◌, ◌+◌, ℕ, map, length, pos, slice_index, IfSome};
+ghost use Rattle.std.specs.Prelude.{◌≡◌, ◌<◌, ◌≤◌, ◌+◌, ℕ, map, length, pos, slice_index, IfNone, IfSome};
 ghost use Rattle.std.specs.Vec.{vec_capacity};
 ghost use Rattle.amd_model.specs.Input.Columns.{at, IsRow};
 ghost use Rattle.amd_model.specs.Input.Pattern.{graph_of, diagonal_count};
 ghost use Rattle.amd_types.specs.Naturals.{naturals, is_entry};
 ghost use Rattle.amd_edges.specs.Visits.{AreCounts};
 ghost use Rattle.amd_input.specs.Degrees.{CountDegrees, IsReadyToCount, IsRisingForm};
-ghost use Rattle.amd_input.specs.LowerRows.{AreLow, CountOwn, CountRows, DropDiagonals, times};
+ghost use Rattle.amd_input.specs.LowerRows.{AreLow, CountOwn, CountRows, DropDiagonals, HasRowAbove, times};
 ghost use Rattle.amd_input.specs.Mirrors.{CountOthers};
 
 use amd_types::index::Index;
@@ -24,11 +24,12 @@ struct Own {
     diagonal: bool,
 }
 
-/// Counts the other rows of column `k`, one of `size`; `None` where its first row stands above the diagonal.
+/// Counts the other rows of column `k`, one of `size`; `None` exactly where its first row stands above the diagonal.
 fn own_rows<I: Index>(size: usize, k: usize, a_p: &[I], a_i: &[I]) -> Option<Own>
     requires input { IsRisingForm size (map I.value a_p.now) (map I.value a_i.now) }
     requires k_in { k < size }
-    ensures { IfSome result (CountOwn size (naturals (map I.value a_p.now)) (naturals (map I.value a_i.now)) k) }
+    ensures own { IfSome result (CountOwn size (naturals (map I.value a_p.now)) (naturals (map I.value a_i.now)) k) }
+    ensures above { IfNone result (HasRowAbove size (naturals (map I.value a_p.now)) (naturals (map I.value a_i.now))) }
 {
     let start = count_at(a_p, k);
     let rows = count_at(a_p, k + 1) - start;
@@ -66,7 +67,7 @@ fn has_diagonal<I: Index>(size: usize, k: usize, a_p: &[I], a_i: &[I]) -> bool
 }
 
 /// Appends the number of other rows of each of `size` columns to an empty list, and returns the number of diagonal
-/// entries; `None` where a row stands above the diagonal.
+/// entries; `None` exactly where a row stands above the diagonal.
 fn own_degrees<I: Index, U: Unsigned, A: Allocator>(
     size: usize,
     a_p: &[I],
@@ -81,6 +82,7 @@ fn own_degrees<I: Index, U: Unsigned, A: Allocator>(
         (naturals (map I.value a_i.now)) size) }
     ensures diagonals { IfSome result (λ diagonals. diagonals ≡
         diagonal_count size (map I.value a_p.now) (map I.value a_i.now)) }
+    ensures above { IfNone result (HasRowAbove size (naturals (map I.value a_p.now)) (naturals (map I.value a_i.now))) }
     ensures room { vec_capacity degrees.new ≡ vec_capacity degrees.old }
 {
     let mut diagonals = 0;
@@ -149,8 +151,8 @@ fn add_others<I: Index, U: Unsigned>(
     }
 }
 
-/// Appends the degree of each of `size` rows to an empty list, and returns the number of diagonal entries; or `None`
-/// where a row stands above the diagonal.
+/// Appends the degree of each of `size` rows to an empty list, and returns the number of diagonal entries; or `None`,
+/// exactly where a row stands above the diagonal.
 pub fn lower_degrees<I: Index, U: Unsigned, A: Allocator>(
     size: usize,
     a_p: &[I],
@@ -160,6 +162,9 @@ pub fn lower_degrees<I: Index, U: Unsigned, A: Allocator>(
     requires ready { IsReadyToCount size (map I.value a_p.now) (map I.value a_i.now) U.MOST (vec_capacity degrees.old)
         degrees.old.items }
     ensures counted { IfSome result (CountDegrees size (map I.value a_p.now) (map I.value a_i.now) degrees.new.items) }
+    ensures low { IfSome result (λ diagonals. AreLow size (naturals (map I.value a_p.now))
+        (naturals (map I.value a_i.now)) size) }
+    ensures above { IfNone result (HasRowAbove size (naturals (map I.value a_p.now)) (naturals (map I.value a_i.now))) }
     ensures room { vec_capacity degrees.new ≡ vec_capacity degrees.old }
 {
     let diagonals = own_degrees(size, a_p, a_i, degrees)?;

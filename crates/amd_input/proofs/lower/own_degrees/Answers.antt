@@ -25,13 +25,13 @@ columns-init g c =
 pub cell_of-requires : goal.cell_of-requires
 cell_of-requires g c =
     let n = c.args.size in let ap' = naturals (map g.I.Index.value c.args.a_p.now) in
-    let ai = naturals (map g.I.Index.value c.args.a_i.now) in let others = c.in_ok-own.ensures.others in
+    let ai = naturals (map g.I.Index.value c.args.a_i.now) in let others = c.in_ok-own.ensures.own.others in
     let most = count_most n (is_beside n ap' ai c.columns.k) in let fits = c.requires.ready.fits in omega (arith, others, most, fits)
 
 pub columns-preserved : goal.columns-preserved
 unfolding count_below sum_below
 columns-preserved g c =
-    let i = c.columns.invariant in let own = c.in_ok-own.ensures in let n = c.args.size in let k = c.columns.k in
+    let i = c.columns.invariant in let own = c.in_ok-own.ensures.own in let n = c.args.size in let k = c.columns.k in
     let ap' = naturals (map g.I.Index.value c.args.a_p.now) in let ai = naturals (map g.I.Index.value c.args.a_i.now) in
     let last : count_below (suc k) (λ j. is_entry n ap' ai j j) ≡ one_if (is_entry n ap' ai k k) + count_below k
     (λ j. is_entry n ap' ai j j)
