@@ -89,5 +89,6 @@ returns g c =
           (ap (λ x. c.args.degrees.now.items ++ x ∷ []) (sym c.cell_of-2.ensures) ∙ sym c.push_reserved-2.ensures.items)
           (others_push n ap' ai c.args.degrees.now.items k others r.others over.1);
       diagonal = over.2;
+      lacks = tt;
       room = (c.push_reserved.ensures.capacity ∙ c.uppers.ensures.room, c.push_reserved-2.ensures.capacity);
     }

@@ -1,12 +1,12 @@
 -- the goals of mirrors::mirrored_degrees.
-use Rattle.std.proofs.Common.{◌≡◌, ◌+◌, suc, map, get_or, arith, ap, sym, refl, ◌∙◌, subst, add-one}
+use Rattle.std.proofs.Common.{◌≡◌, ◌+◌, inl, suc, map, get_or, arith, ap, sym, refl, ◌∙◌, subst, add-one}
 use Rattle.amd_model.specs.Below.{sum_below, count_below}
 use Rattle.amd_types.specs.Naturals.{naturals, is_entry}
 use Rattle.amd_edges.specs.Visits.{AreCounts}
 use Rattle.amd_edges.proofs.Forms.{sorted_form, same_graph, same_diagonals}
 use Rattle.amd_input.specs.Mirrors.{HaveMirrors, CountOthers}
 use Rattle.amd_input.proofs.Symmetry.{one_if}
-use Rattle.amd_input.proofs.MirroredRows.{mirrors_none, others_none, mirrors_all, others_are}
+use Rattle.amd_input.proofs.MirroredRows.{mirrors_none, others_none, mirrors_all, others_are, unread_lacks}
 use Rattle.amd_input.proofs.mirrors.mirrored_degrees.Goals as goal
 use Rattle.amd_input.proofs.mirrors.mirrored_degrees.Goals.{then-diagonal, else-diagonal}
 
@@ -55,10 +55,32 @@ returns-then-all_read-clause-counted g c =
     let end : c.columns.k ≡ n = (let x = c.columns-test.false in let y = c.columns.auto.k-end in omega (arith, x, y)) in
     let t = c.columns.next.items in let numbers = c.columns.degrees.items in
     let mirror = mirrors_all n ap' ai form t (subst (λ z. HaveMirrors n ap' ai t z 0) end i.read)
-    (λ j l. ap (λ xs. get_or xs j 0) (sym c.deref.ensures.value) ∙ c.all_read.ensures c.if-all_read.true j l) in
+    (λ j l. ap (λ xs. get_or xs j 0) (sym c.deref.ensures.value) ∙ c.all_read.ensures.all c.if-all_read.true j l) in
     record {
       degrees = subst (λ h. AreCounts h h.edge numbers) (sym (same_graph n az bz input.form))
           (others_are n ap' ai mirror numbers (subst (λ z. CountOthers n ap' ai z numbers) end i.others));
       diagonals = subst (λ z. c.columns.diagonals ≡ count_below z (λ j. is_entry n ap' ai j j)) end i.count
           ∙ sym (same_diagonals n az bz input.form);
     }
+
+pub returns-then-all_read-clause-mirrored : goal.returns-then-all_read-clause-mirrored
+returns-then-all_read-clause-mirrored g c =
+    let n = c.args.size in let i = c.columns.invariant in let input = c.requires.input in
+    let az = map g.I.Index.value c.args.a_p.now in let bz = map g.I.Index.value c.args.a_i.now in
+    let ap' = naturals az in let ai = naturals bz in let form = sorted_form n az bz input.form input.sorted in
+    let end : c.columns.k ≡ n = (let x = c.columns-test.false in let y = c.columns.auto.k-end in omega (arith, x, y)) in
+    let t = c.columns.next.items in (
+      mirrors_all n ap' ai form t (subst (λ z. HaveMirrors n ap' ai t z 0) end i.read)
+          (λ j l. ap (λ xs. get_or xs j 0) (sym c.deref.ensures.value) ∙ c.all_read.ensures.all c.if-all_read.true j l),
+      c.ends_upper.ensures.high c.if-not-ends_upper.false,
+    )
+
+pub returns-clause-lacks : goal.returns-clause-lacks
+returns-clause-lacks g c =
+    let n = c.args.size in let i = c.columns.invariant in let input = c.requires.input in
+    let az = map g.I.Index.value c.args.a_p.now in let bz = map g.I.Index.value c.args.a_i.now in
+    let ap' = naturals az in let ai = naturals bz in let form = sorted_form n az bz input.form input.sorted in
+    let end : c.columns.k ≡ n = (let x = c.columns-test.false in let y = c.columns.auto.k-end in omega (arith, x, y)) in
+    let t = c.columns.next.items in let unread = c.all_read.ensures.some c.if-all_read.false in let j = unread.0 in
+    inl (unread_lacks n ap' ai form t (subst (λ z. HaveMirrors n ap' ai t z 0) end i.read) j unread.1
+    (λ same. unread.2 (ap (λ xs. get_or xs j 0) c.deref.ensures.value ∙ same)))

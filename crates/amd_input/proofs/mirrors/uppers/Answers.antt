@@ -1,13 +1,15 @@
 -- the goals of mirrors::uppers.
-use Rattle.std.proofs.Common.{◌≡◌, ◌+◌, ◌<◌, ◌^◌, arith, map, get_or, set, sym, subst, le_refl}
+use Rattle.std.proofs.Common.{◌≡◌, ◌+◌, ◌<◌, ◌^◌, arith, map, get_or, set, sym, ◌∙◌, subst, le_refl, le_of_lt}
 use Rattle.std.proofs.lemmas.List.{length-map}
 use Rattle.amd_types.specs.Naturals.{naturals}
 use Rattle.amd_edges.proofs.Forms.{pointer_fits, row_fits, place_in, place_up, sorted_form}
 use Rattle.amd_edges.proofs.Places.{entry_from}
 use Rattle.amd_edges.proofs.Reading.{row_below, before_end, reading_next}
 use Rattle.amd_input.specs.Mirrors.{HaveMirrors}
-use Rattle.amd_input.proofs.MirroredRows.{mirrors_next, mirrors_over, unread_from}
+use Rattle.amd_input.proofs.MirroredRows.{mirrors_next, mirrors_over, unread_from, upper_lacks}
 use Rattle.amd_input.proofs.mirrors.uppers.Goals as goal
+use Rattle.amd_input.proofs.mirrors.uppers.Goals.{then-mirror-count_at-via-then-mirror-count_at}
+use Rattle.amd_input.proofs.mirrors.uppers.Goals.{then-mirror-count_at-via-else-mirror-count_at+then-count_at-k-2}
 
 pub count_at-end-requires-clause-fits : goal.count_at-end-requires-clause-fits
 count_at-end-requires-clause-fits g c = pointer_fits c.args.size (map g.I.Index.value c.args.a_p.now)
@@ -81,7 +83,8 @@ uppers-preserved g c =
             (λ a x e. let w = (unread_from n ap' ai form k m p c.count_at-end.result a r.k_in ends v.place x e).1 in
             omega (arith, w, row))
             reads (let e = c.count_at-else-mirror-count_at.ensures.count in let s = c.if-count_at-k-2.false in
-            omega (arith, e, s)));
+            omega (arith, e, s))
+            (let e = c.count_at-in-uppers.ensures.count in let s = c.if-mirror-count_at.false in omega (arith, e, s)));
       },
     )
 
@@ -104,3 +107,21 @@ returns-after-uppers-clause-read g c =
     mirrors_over n ap' ai t k m v.read v.place.low (λ a x y e.
     let w = (unread_from n ap' ai form k m p c.count_at-end.result a r.k_in c.count_at-end.ensures.count v.place x e).0 in
     let f = c.uppers-test.false in omega (arith, w, f))
+
+pub returns-then-mirror-count_at-clause-lacks : goal.returns-then-mirror-count_at-clause-lacks
+returns-then-mirror-count_at-clause-lacks g c =
+    let n = c.args.size in let k = c.args.k in let t = c.uppers.next.items in let j = c.count_at-j.result in let p = c.uppers.place in
+    let ap' = naturals (map g.I.Index.value c.args.a_p.now) in let ai = naturals (map g.I.Index.value c.args.a_i.now) in
+    let r = c.requires in let m = c.uppers.invariant.0 in let v = c.uppers.invariant.1 in let q = c.number_of-mirror.result in
+    let form = sorted_form n (map g.I.Index.value c.args.a_p.now) (map g.I.Index.value c.args.a_i.now) r.input.form r.input.sorted in
+    let row = c.count_at-j.ensures.count in let low = v.place.left p (le_refl p) c.uppers-test.true in
+    let up = row_below c.count_at.ensures.count row c.if-count_at-k.true in
+    let entry = entry_from ap' ai n j k p r.k_in v.place.from (before_end c.count_at-end.ensures.count c.uppers-test.true) (sym row) in
+    let reads : q ≡ get_or t j q = subst (λ x. x ≡ get_or t j x) (sym c.number_of-mirror.ensures.is) c.index.ensures in
+    upper_lacks n ap' ai form t k m (le_of_lt r.k_in) v.read j q r.k_in up (omega (arith, low, row)) entry reads
+    (elim c.then-mirror-count_at.branch [
+      | then-mirror-count_at-via-then-mirror-count_at w ↦ λ inside. absurd (let past = w.if-mirror-count_at.true in
+          let e = c.count_at-in-uppers.ensures.count in omega (arith, past, e, inside))
+      | then-mirror-count_at-via-else-mirror-count_at+then-count_at-k-2 w ↦ λ inside same.
+          w.if-count_at-k-2.true (w.count_at-else-mirror-count_at.ensures.count ∙ same)
+    ])
