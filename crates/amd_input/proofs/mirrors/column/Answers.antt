@@ -4,7 +4,7 @@ use Rattle.std.proofs.lemmas.Bool.{eqb-true, eqb-false, true≢false, le-ltb}
 use Rattle.std.proofs.lemmas.List.{length-map}
 use Rattle.amd_model.specs.Below.{count_below}
 use Rattle.amd_types.specs.Naturals.{naturals, is_entry}
-use Rattle.amd_edges.proofs.Forms.{pointer_fits, row_fits, place_in, place_up, sorted_form}
+use Rattle.amd_edges.proofs.Forms.{pointer_fits, pointer_read, row_fits, place_in, place_up, sorted_form}
 use Rattle.amd_edges.proofs.Reading.{before_end, past_end}
 use Rattle.amd_input.specs.Mirrors.{HaveMirrors, CountOthers, is_beside}
 use Rattle.amd_input.proofs.MirroredRows.{column_with, column_without, others_push}
@@ -92,3 +92,23 @@ returns g c =
       lacks = tt;
       room = (c.push_reserved.ensures.capacity ∙ c.uppers.ensures.room, c.push_reserved-2.ensures.capacity);
     }
+
+pub count_at-start-requires-clause-within : goal.count_at-start-requires-clause-within
+count_at-start-requires-clause-within g c = (pointer_read g.I.Index.value c.args.a_p.now c.args.a_i.now c.args.size
+    c.requires.input.form c.args.k (let l = c.requires.k_in in omega (arith, l)) (omega (arith, c.well_formed))).0
+
+pub count_at-end-requires-clause-within : goal.count_at-end-requires-clause-within
+count_at-end-requires-clause-within g c = (pointer_read g.I.Index.value c.args.a_p.now c.args.a_i.now c.args.size
+    c.requires.input.form (c.args.k + 1) (let l = c.requires.k_in in omega (arith, l)) (omega (arith, c.well_formed))).0
+
+pub uppers-requires-clause-input : goal.uppers-requires-clause-input
+uppers-requires-clause-input g c = c.requires.input
+
+pub uppers-requires-clause-fits : goal.uppers-requires-clause-fits
+uppers-requires-clause-fits g c = c.requires.fits
+
+pub uppers-requires-clause-k_in : goal.uppers-requires-clause-k_in
+uppers-requires-clause-k_in g c = c.requires.k_in
+
+pub uppers-requires-clause-read : goal.uppers-requires-clause-read
+uppers-requires-clause-read g c = c.requires.read

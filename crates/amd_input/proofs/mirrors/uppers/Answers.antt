@@ -1,8 +1,9 @@
 -- the goals of mirrors::uppers.
 use Rattle.std.proofs.Common.{◌≡◌, ◌+◌, ◌<◌, ◌^◌, arith, map, get_or, set, sym, ◌∙◌, subst, le_refl, le_of_lt}
 use Rattle.std.proofs.lemmas.List.{length-map}
+use borrow.Author.Count.{falls}
 use Rattle.amd_types.specs.Naturals.{naturals}
-use Rattle.amd_edges.proofs.Forms.{pointer_fits, row_fits, place_in, place_up, sorted_form}
+use Rattle.amd_edges.proofs.Forms.{pointer_fits, pointer_read, row_fits, place_in, place_up, sorted_form}
 use Rattle.amd_edges.proofs.Places.{entry_from}
 use Rattle.amd_edges.proofs.Reading.{row_below, before_end, reading_next}
 use Rattle.amd_input.specs.Mirrors.{HaveMirrors}
@@ -125,3 +126,30 @@ returns-then-mirror-count_at-clause-lacks g c =
       | then-mirror-count_at-via-else-mirror-count_at+then-count_at-k-2 w ↦ λ inside same.
           w.if-count_at-k-2.true (w.count_at-else-mirror-count_at.ensures.count ∙ same)
     ])
+
+pub count_at-end-requires-clause-within : goal.count_at-end-requires-clause-within
+count_at-end-requires-clause-within g c = (pointer_read g.I.Index.value c.args.a_p.now c.args.a_i.now c.args.size
+    c.requires.input.form (c.args.k + 1) (let l = c.requires.k_in in omega (arith, l)) (omega (arith, c.well_formed))).0
+
+pub count_at-place-requires-clause-within : goal.count_at-place-requires-clause-within
+count_at-place-requires-clause-within g c = (pointer_read g.I.Index.value c.args.a_p.now c.args.a_i.now c.args.size
+    c.requires.input.form c.args.k (le_of_lt c.requires.k_in) (omega (arith, c.well_formed))).0
+
+pub count_at-j-requires-clause-fits : goal.count_at-j-requires-clause-fits
+count_at-j-requires-clause-fits g c = row_fits c.args.size (map g.I.Index.value c.args.a_p.now) (map g.I.Index.value c.args.a_i.now)
+    c.requires.input.form c.args.k c.uppers.place c.requires.k_in (before_end c.count_at-end.ensures.count c.uppers-test.true)
+    c.ranges.size.fits
+
+pub count_at-requires-in-uppers-clause-within : goal.count_at-requires-in-uppers-clause-within
+count_at-requires-in-uppers-clause-within g c =
+    let l = row_below c.count_at.ensures.count c.count_at-j.ensures.count c.if-count_at-k.true in let m = c.requires.k_in in
+    (pointer_read g.I.Index.value c.args.a_p.now c.args.a_i.now c.args.size
+    c.requires.input.form (c.count_at-j.result + 1) (omega (arith, l, m)) (omega (arith, c.well_formed))).0
+
+pub index-requires : goal.index-requires
+index-requires g c =
+    let l = row_below c.count_at.ensures.count c.count_at-j.ensures.count c.if-count_at-k.true in
+    let size = c.uppers.invariant.1.read.size in let len = c.uppers.next.ok.0 in omega (arith, l, size, len)
+
+pub uppers-smaller : goal.uppers-smaller
+uppers-smaller g c = falls c.count_at-end.result c.uppers.place c.uppers-test.true
