@@ -6,3 +6,5 @@ pub mod Rooms
 pub mod Parts
 pub mod ValidCalls
 pub mod BytesGrow
+pub mod EarlyAnswers
+pub mod Calls

@@ -1,9 +1,10 @@
-use Rattle.std.proofs.Common.{ℤ, List, ◌≡◌, ap, drop, length, map, refl, sym, arith, ◌∙◌}
+use Rattle.std.proofs.Common.{ℤ, List, ◌≡◌, ap, drop, length, map, pos, refl, sym, arith, ◌∙◌}
 use Rattle.std.specs.Option.{option_copied}
 use Rattle.std.proofs.lemmas.Int.{ints}
 use Rattle.std.proofs.lemmas.List.{take_at}
 use Rattle.amd_types.proofs.Fitting.{fits_below}
 use Rattle.amd.specs.Within.{pairs_by}
+use Rattle.amd.proofs.EarlyAnswers.{ordering_nothing, refused_status}
 use Rattle.amd.proofs.OrderedColumns.{HasStatus, has_status, jumbled_valid, ordering}
 use Rattle.amd.proofs.Orderings.{orders_still}
 use Rattle.amd.proofs.ValidCalls.{is_given}
@@ -25,6 +26,24 @@ long g c = ap length c.deref_mut.ensures.value ∙ c.in_ok-p.ensures
 
 long_inverse : (g : Over) (c : After-deref_mut-2 g) → length c.deref_mut-2.result.now ≡ c.in-Some.count
 long_inverse g c = ap length c.deref_mut-2.ensures.value ∙ c.in_ok-p_inv.ensures
+
+pub returns-then-count-eq0-clause-ordering : goal.returns-then-count-eq0-clause-ordering
+returns-then-count-eq0-clause-ordering g c =
+    let value = g.I.Number.value in let control = c.args.control.now in
+    ordering_nothing (option_copied c.args.hold) (value c.args.n) control.dense control.aggressive (map value c.args.a_p.now)
+    (map value c.args.a_i.now) (map value c.new.result.items) (map value c.new-then-count-eq0.result.items)
+    c.new-then-count-eq0-2.result (sym c.in-Some.ensures.1 ∙ ap pos c.if-count-eq0.true) (ap (map value) c.new.ensures.items)
+    (ap (map value) c.new-then-count-eq0.ensures.items) c.new-then-count-eq0-2.ensures
+
+pub class_of-status-requires-clause-count : goal.class_of-status-requires-clause-count
+class_of-status-requires-clause-count g c = sym c.in-Some.ensures.1
+
+pub returns-in_default-jumbled_of-clause-refusal : goal.returns-in_default-jumbled_of-clause-refusal
+returns-in_default-jumbled_of-clause-refusal g c =
+    let value = g.I.Number.value in
+    refused_status (option_copied c.args.hold) (value c.args.n) (map value c.args.a_p.now) (map value c.args.a_i.now)
+    c.class_of-status.result (known g (goal.at.returns-in_default-jumbled_of-clause-refusal g c).After-class_of-status)
+    (sym c.jumbled_of.ensures ∙ c.in_default-jumbled_of.is)
 
 pub order_once-requires-clause-given : goal.order_once-requires-clause-given
 order_once-requires-clause-given g c =

@@ -35,3 +35,15 @@ returns-clause-orders g c =
     rw c.if-not-matrix.false (ok_gives c.order_counted-2.result (λ info ordered.
     orders_turned (option_copied c.args.request.now.hold) n c.args.request.now.control.now a_p a_i b_p b_i (map value new.p)
     (map value new.p_inv) info (clean g (goal.at.returns-clause-orders g c).After-deref-2) ordered) c.order_counted-2.ensures.orders)
+
+pub order_counted-requires-clause-narrow : goal.order_counted-requires-clause-narrow
+order_counted-requires-clause-narrow g c = c.requires.narrow
+
+pub order_counted-requires-clause-few : goal.order_counted-requires-clause-few
+order_counted-requires-clause-few g c = c.requires.few
+
+pub order_counted-requires-clause-fits : goal.order_counted-requires-clause-fits
+order_counted-requires-clause-fits g c = c.requires.fits
+
+pub order_counted-requires-2-clause-fits : goal.order_counted-requires-2-clause-fits
+order_counted-requires-2-clause-fits g c = c.requires.fits

@@ -1,4 +1,4 @@
-use Rattle.std.proofs.Common.{map, length, arith, le_refl}
+use Rattle.std.proofs.Common.{map, length, arith, le_refl, refl}
 use Rattle.std.specs.Option.{option_copied}
 use Rattle.amd_input.specs.Transposes.{IsCleanForm}
 use Rattle.amd_input.proofs.RowForms.{upto_fits}
@@ -110,3 +110,15 @@ returns-clause-orders g c =
     (map value c.args.matrix.now.a_p.now) (map value c.args.matrix.now.a_i.now) (map g.J.Index.value c.deref.result.now)
     (map g.J.Index.value c.deref-2.result.now) (map value new.p) (map value new.p_inv) new.info
     (clean g (goal.at.returns-clause-orders g c).After-deref-2) c.order_columns-2.ensures.orders)
+
+pub order_columns-requires-clause-fits : goal.order_columns-requires-clause-fits
+order_columns-requires-clause-fits g c = c.requires.fits
+
+pub order_columns-requires-2-clause-fits : goal.order_columns-requires-2-clause-fits
+order_columns-requires-2-clause-fits g c = c.requires.fits
+
+pub returns-clause-status : goal.returns-clause-status
+returns-clause-status g c = c.order_columns-2.ensures.status
+
+pub returns-clause-made : goal.returns-clause-made
+returns-clause-made g c = (refl, refl)
