@@ -23,6 +23,49 @@ lent g c =
     (c.deref_mut.ensures.value ∙ ap (λ v. v.items) c.replace-pe.ensures.value)
     (c.deref_mut-2.ensures.value ∙ ap (λ v. v.items) c.replace-len.ensures.value)
 
+pub lay-free-requires-clause-form : goal.lay-free-requires-clause-form
+lay-free-requires-clause-form g c = c.requires.form
+
+pub lay-free-requires-clause-sorted : goal.lay-free-requires-clause-sorted
+lay-free-requires-clause-sorted g c = c.requires.sorted
+
+pub lay-free-requires-clause-some : goal.lay-free-requires-clause-some
+lay-free-requires-clause-some g c = c.requires.some
+
+pub lay-free-requires-clause-degrees : goal.lay-free-requires-clause-degrees
+lay-free-requires-clause-degrees g c = c.requires.degrees
+
+pub lay-free-requires-clause-words : goal.lay-free-requires-clause-words
+lay-free-requires-clause-words g c = c.requires.words
+
+pub lay-free-requires-clause-fits : goal.lay-free-requires-clause-fits
+lay-free-requires-clause-fits g c = let n = c.requires.narrow in let word = n.2 in (omega (arith, word), n.0, n.1, c.requires.pointers)
+
+pub lay-free-requires-clause-room : goal.lay-free-requires-clause-room
+lay-free-requires-clause-room g c = c.requires.room
+
+pub fill_lists-requires-clause-narrow : goal.fill_lists-requires-clause-narrow
+fill_lists-requires-clause-narrow g c = let n = c.requires.narrow in
+    let word = n.2 in let cell = n.3 in let place = n.4 in (omega (arith, word, place), omega (arith, cell))
+
+pub order_lent-told-requires-clause-some : goal.order_lent-told-requires-clause-some
+order_lent-told-requires-clause-some g c =
+    rw (lent g c).size c.requires.some
+
+pub order_lent-told-requires-clause-narrow : goal.order_lent-told-requires-clause-narrow
+order_lent-told-requires-clause-narrow g c =
+    rw (lent g c).size c.requires.narrow
+
+pub order_lent-told-requires-clause-marks : goal.order_lent-told-requires-clause-marks
+order_lent-told-requires-clause-marks g c =
+    rw (lent g c).size c.requires.marks
+
+pub order_lent-told-requires-clause-flag : goal.order_lent-told-requires-clause-flag
+order_lent-told-requires-clause-flag g c = c.requires.flag
+
+pub returns-clause-nv : goal.returns-clause-nv
+returns-clause-nv g c = c.lay-free.ensures.nv
+
 pub fill_lists-requires-clause-room : goal.fill_lists-requires-clause-room
 fill_lists-requires-clause-room g c = let room = c.lay-free.ensures.room _ _ c.requires.room in (room.next, room.lists)
 

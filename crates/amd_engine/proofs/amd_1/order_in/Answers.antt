@@ -58,6 +58,14 @@ order_within-requires-clause-room g c =
 pub order_within-requires-clause-narrow : goal.order_within-requires-clause-narrow
 order_within-requires-clause-narrow g c = rw (long g (goal.at.order_within-requires-clause-narrow g c).After-deref_mut) c.requires.narrow
 
+pub order_within-requires-clause-pointers : goal.order_within-requires-clause-pointers
+order_within-requires-clause-pointers g c =
+    rw (long g (goal.at.order_within-requires-clause-pointers g c).After-deref_mut)
+    (let count = c.count_at.ensures.count in omega (arith, count))
+
+pub order_within-requires-clause-flag : goal.order_within-requires-clause-flag
+order_within-requires-clause-flag g c = c.requires.flag
+
 pub order_within-requires-clause-marks : goal.order_within-requires-clause-marks
 order_within-requires-clause-marks g c = rw (long g (goal.at.order_within-requires-clause-marks g c).After-deref_mut) c.requires.marks
 
@@ -73,3 +81,6 @@ returns-clause-orders g c =
 pub returns-clause-compactions : goal.returns-clause-compactions
 returns-clause-compactions g c =
     rw (long g (goal.at.returns-clause-compactions g c).After-deref_mut) at c.order_within.ensures.compactions
+
+pub returns-clause-refused : goal.returns-clause-refused
+returns-clause-refused g c = tt

@@ -32,6 +32,14 @@ copy_raised-requires g c = record {
       ∙ sym c.requires.laid.starts_long;
 }
 
+pub amd_2_from-requires-clause-narrow : goal.amd_2_from-requires-clause-narrow
+amd_2_from-requires-clause-narrow g c =
+    let iw = c.lend_words.type_inv in let len = c.lend_cells.type_inv in
+    (omega (arith, iw), omega (arith, iw), omega (arith, len), omega (arith, len), omega arith)
+
+pub lend_words-requires : goal.lend_words-requires
+lend_words-requires g c = record { fits = c.raise.ensures.fits }
+
 pub amd_2_from-requires-clause-fits : goal.amd_2_from-requires-clause-fits
 amd_2_from-requires-clause-fits g c = c.requires.fits
 

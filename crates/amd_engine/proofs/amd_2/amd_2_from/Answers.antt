@@ -1,11 +1,43 @@
-use Rattle.std.proofs.Common.{arith, ℕ, length, drop, ap, sym, ◌≡◌, ◌∙◌, refl}
-use Rattle.std.proofs.lemmas.Int.{ints}
+use Rattle.std.proofs.Common.{◌≡◌, ◌<◌, ◌^◌, ◌∙◌, ℕ, arith, rules, ap, drop, length, refl, sym, w64}
+use Rattle.std.proofs.lemmas.Int.{ints, to_z_pos}
 use Rattle.std.proofs.lemmas.List.{take_at, length-replicate}
+use Rattle.amd_types.specs.declared.amd.Info.{Info}
 use Rattle.amd_types.proofs.Fitting.{fits_below}
 use Rattle.amd_engine.proofs.LentLists.{lent_empty}
 use Rattle.amd_engine.proofs.amd_2.amd_2_from.Given.{Over}
 use Rattle.amd_engine.proofs.amd_2.amd_2_from.Goals.{After-deref-2}
 use Rattle.amd_engine.proofs.amd_2.amd_2_from.Goals as goal
+
+pub overflow_cast-size : goal.overflow_cast-size
+overflow_cast-size g c =
+    let wide = c.requires.narrow.2 in let narrow = g.met.S.Signed.narrow in
+    let small : length c.args.len.now < 2 ^ 63 = omega (arith, wide, narrow) in search rules
+
+pub words-requires : goal.words-requires
+words-requires g c = record {
+  fits = (let wide = c.requires.narrow.2 in let narrow = g.met.S.Signed.narrow in
+      let is = ap lib.IntN.nat_abs (to_z_pos w64 (length c.args.len.now) (omega (arith, wide, narrow))) in omega (arith, is, wide));
+}
+
+pub fill_lists-requires-clause-narrow : goal.fill_lists-requires-clause-narrow
+fill_lists-requires-clause-narrow g c =
+    let n = c.requires.narrow in let word = n.2 in let cell = n.3 in let place = n.4 in
+    (omega (arith, word, place), omega (arith, cell))
+
+pub fill_lists-requires-clause-room : goal.fill_lists-requires-clause-room
+fill_lists-requires-clause-room g c = let room = c.in_ok-degree.ensures.capacity in (omega (arith, room), c.in_ok-lists.ensures)
+
+pub eliminate_lent-told-requires-clause-some : goal.eliminate_lent-told-requires-clause-some
+eliminate_lent-told-requires-clause-some g c = c.requires.some
+
+pub eliminate_lent-told-requires-clause-narrow : goal.eliminate_lent-told-requires-clause-narrow
+eliminate_lent-told-requires-clause-narrow g c = c.requires.narrow
+
+pub eliminate_lent-told-requires-clause-marks : goal.eliminate_lent-told-requires-clause-marks
+eliminate_lent-told-requires-clause-marks g c = c.requires.marks
+
+pub eliminate_lent-told-requires-clause-flag : goal.eliminate_lent-told-requires-clause-flag
+eliminate_lent-told-requires-clause-flag g c = c.requires.flag
 
 pub eliminate_lent-told-requires-clause-can : goal.eliminate_lent-told-requires-clause-can
 eliminate_lent-told-requires-clause-can g c = let r = c.requires in record {
@@ -66,3 +98,11 @@ returns-clause-orders g c = λ graph lists lays.
     (told.auto.e_len ∙ ap length c.deref_mut-5.ensures.value ∙ sym l.e_len.ok.0) in
     rw (p_is, q_is, nv_is, e_len_is, order.0, order.1, c.finish.ensures.tells, b.head, b.w, c.pe-1.given.1.1 (sym told.ensures.loans.0))
     (told.ensures.orders graph lists c.args.info.now lays)
+
+pub returns-clause-compactions : goal.returns-clause-compactions
+returns-clause-compactions g c =
+    let packs = c.eliminate_lent-told.ensures.packs in let tells = ap (λ (info : Info). info.n_cmp_a) c.finish.ensures.tells in
+    omega (arith, tells, packs)
+
+pub returns-clause-refused : goal.returns-clause-refused
+returns-clause-refused g c = tt
