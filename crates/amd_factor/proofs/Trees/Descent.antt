@@ -30,6 +30,11 @@ module _ (o : Order) (q : ℕ) where
   leads k None h = tt
   leads k (Some next) h = h.1
 
+  -- past a child the way is shorter
+  pub fewer_left : (child : ℕ) (v : Option ℕ) → IsLastChild o q child v → steps_left v < suc child
+  fewer_left child None h = omega arith
+  fewer_left child (Some next) h = let l = h.0 in omega (arith, l)
+
   -- on the way past a child
   pub ahead_past : (child m : ℕ) (v : Option ℕ) → IsLastChild o q child v → IsParent o.graph o.rows m q → m ≤ child → m ≢ child →
       IsAhead v m

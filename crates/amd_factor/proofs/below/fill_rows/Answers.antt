@@ -40,3 +40,13 @@ returns-clause-rows g c =
     (ap length c.requires.1.0.owners) in
     hold-supernodes g.b c.requires.1.0.laws c.rows.next (naturals (map g.I.Index.value c.rows.rows))
     (subst (λ m. WrittenTo g.b m c.rows.next (naturals (map g.I.Index.value c.rows.rows))) all c.rows.invariant.written)
+
+pub rows-preserved : goal.rows-preserved
+rows-preserved g c = record {
+  written = c.add_row.ensures.written;
+  told = c.add_row.ensures.told;
+  marks = c.add_row.ensures.marks;
+}
+
+pub returns-clause-told : goal.returns-clause-told
+returns-clause-told g c = c.rows.invariant.told

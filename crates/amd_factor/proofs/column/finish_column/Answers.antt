@@ -80,3 +80,15 @@ returns-clause-numbers g c =
     are_append value done c.write_merged.new.out
     (merged (naturals (map value (slice_range done c.args.plan.from c.args.plan.to))) c.args.fresh.now)
     (subst (λ ys. AreNonNegative (map value ys)) (sym c.split_at_mut-done.ensures.front) c.requires.1.1.numbers) c.write_merged.ensures
+
+pub returns-clause-columns : goal.returns-clause-columns
+returns-clause-columns g c = c.close_column.ensures.columns
+
+pub returns-clause-parents : goal.returns-clause-parents
+returns-clause-parents g c = c.close_column.ensures.parents
+
+pub returns-clause-links : goal.returns-clause-links
+returns-clause-links g c = c.close_column.ensures.links
+
+pub returns-clause-end : goal.returns-clause-end
+returns-clause-end g c = c.close_column.ensures.end

@@ -1,7 +1,7 @@
-use Rattle.std.proofs.Common.{◌≡◌, ◌≤◌, ◌+◌, ◌++◌, ◌∙◌, ap, arith, inr, length, map, subst, sym, take}
+use Rattle.std.proofs.Common.{ℕ, List, [], ◌≡◌, ◌≤◌, ◌+◌, ◌++◌, ◌∙◌, ap, arith, inr, length, length-take, map, refl, subst, sym, take}
 use Rattle.std.specs.Prelude.{slice_index}
 use Rattle.std.proofs.lemmas.Grind.{common_steps}
-use Rattle.std.proofs.lemmas.List.{length-take-le}
+use Rattle.std.proofs.lemmas.List.{append-nil, length-take-le}
 use Rattle.std.proofs.lemmas.List.Elements.{Contains-get_or}
 use Rattle.amd_factor.specs.Numbers.{AreNonNegative}
 use Rattle.amd_factor.specs.Sharing.{StandsFrom}
@@ -9,6 +9,10 @@ use Rattle.amd_factor.proofs.Factors.PlaceNumbers.{are_append}
 use Rattle.amd_factor.proofs.Factors.Sharing.{same_front, stands_alone, stands_appended, written_front}
 use Rattle.amd_factor.proofs.sharing.append_rows.Goals as goal
 use Rattle.amd_factor.proofs.sharing.append_rows.Goals.{then-plan, else-plan}
+
+-- the first numbers are no more than there is room for
+within_room : {A : Type 0} (n room : ℕ) (xs : List A) → n ≤ room → length (take n xs) ≤ room
+within_room n room xs l = simp length-take (omega (arith, l))
 
 pub write_places-requires-clause-fits : goal.write_places-requires-clause-fits
 write_places-requires-clause-fits g c = λ k l. (
@@ -39,3 +43,36 @@ returns-clause-placed g c =
                 (stands_appended value o k first from to fresh planned.plans c.requires.follows out c.write_places.ensures w.if-plan.false)
           ]));
     }
+
+pub returns-then-room-used-clause-kept : goal.returns-then-room-used-clause-kept
+returns-then-room-used-clause-kept g c = refl
+
+pub returns-then-room-used-clause-room : goal.returns-then-room-used-clause-room
+returns-then-room-used-clause-room g c = c.requires.place.bound
+
+pub lengthen-requires : goal.lengthen-requires
+lengthen-requires g c =
+    let can = c.requires.place in let within = can.within in let bound = can.bound in let size = c.if-room-used.false in
+    record { room = (omega (arith, size, within, bound), bound) }
+
+pub returns-in_err-lengthen-clause-kept : goal.returns-in_err-lengthen-clause-kept
+returns-in_err-lengthen-clause-kept g c =
+    same_front c.args.used c.args.rows.now.items c.lengthen.new.rows.items (take c.args.used c.lengthen.new.rows.items)
+    c.requires.place.within c.lengthen.ensures.kept refl
+
+pub returns-in_err-lengthen-clause-room : goal.returns-in_err-lengthen-clause-room
+returns-in_err-lengthen-clause-room g c = c.lengthen.ensures.room
+
+pub returns-clause-kept : goal.returns-clause-kept
+returns-clause-kept g c =
+    let done = c.split_at_mut-free.result.0.now in let items = c.args.rows.now.items in let can = c.requires.place in
+    let is = same_front c.args.used items c.lengthen.new.rows.items done can.within c.lengthen.ensures.kept (grind (arith, common_steps)) in
+    let begin : c.args.used ≡ length done = sym (length-take-le c.args.used items can.within) ∙ sym (ap length is) in
+    let low : c.args.used ≤ c.lengthen.new.rows.len = (let long = c.in_ok-lengthen.ensures.long in let len = c.lengthen.new.rows.ok.0 in
+    omega (arith, long, len)) in
+    written_front c.args.used c.lengthen.new.rows.len done [] _ _ (omega (arith, begin)) low ∙ append-nil done ∙ is
+
+pub returns-clause-room : goal.returns-clause-room
+returns-clause-room g c =
+    let room = c.lengthen.ensures.room in let len = c.lengthen.new.rows.ok.0 in
+    within_room c.lengthen.new.rows.len c.args.room _ (omega (arith, room, len))

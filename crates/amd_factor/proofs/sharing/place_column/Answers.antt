@@ -1,16 +1,21 @@
-use Rattle.std.proofs.Common.{◌≡◌, ◌≤◌, ◌+◌, ◌-◌, ◌++◌, ◌∙◌, ap, arith, inl, inr, length, map, pos, subst, sym, take}
+use Rattle.std.proofs.Common.{ℕ, List, [], ◌≡◌, ◌≤◌, ◌+◌, ◌-◌, ◌++◌, ◌∙◌, ap}
+use Rattle.std.proofs.Common.{arith, inl, inr, length, length-take, map, pos, refl, subst, sym, take}
 use Rattle.std.specs.Prelude.{Contains, slice_index, slice_range}
 use Rattle.std.proofs.lemmas.Bool.{eqb-true}
 use Rattle.std.proofs.lemmas.Grind.{common_steps}
-use Rattle.std.proofs.lemmas.List.{length-take-le}
+use Rattle.std.proofs.lemmas.List.{append-nil, length-take-le}
 use Rattle.std.proofs.lemmas.List.Elements.{Contains-get_or}
 use Rattle.amd_types.specs.Naturals.{naturals}
 use Rattle.amd_factor.specs.Merging.{merged}
 use Rattle.amd_factor.specs.Numbers.{AreNonNegative, Plans}
-use Rattle.amd_factor.specs.Sharing.{StandsFrom}
+use Rattle.amd_factor.specs.Sharing.{Follows, StandsFrom}
 use Rattle.amd_factor.proofs.Factors.PlaceNumbers.{are_range, counts_range, place_of}
 use Rattle.amd_factor.proofs.Factors.Sharing.{last_row, numbers_behind, same_front, stands_behind, stands_shared, written_front}
 use Rattle.amd_factor.proofs.sharing.place_column.Goals as goal
+
+-- the first numbers are no more than there is room for
+within_room : {A : Type 0} (n room : ℕ) (xs : List A) → n ≤ room → length (take n xs) ≤ room
+within_room n room xs l = simp length-take (omega (arith, l))
 
 pub returns-then-is_empty-clause-placed : goal.returns-then-is_empty-clause-placed
 returns-then-is_empty-clause-placed g c =
@@ -78,3 +83,66 @@ returns-clause-placed g c =
           (subst (λ b. StandsFrom value o k b (b + (to - from + length fresh)) (first ++ out)) begin
           (stands_behind value o k first from to fresh plans.plans out written));
     }
+
+pub returns-then-is_empty-clause-kept : goal.returns-then-is_empty-clause-kept
+returns-then-is_empty-clause-kept g c = refl
+
+pub returns-then-is_empty-clause-room : goal.returns-then-is_empty-clause-room
+returns-then-is_empty-clause-room g c = c.requires.place.bound
+
+pub append_rows-requires-clause-place : goal.append_rows-requires-clause-place
+append_rows-requires-clause-place g c = c.requires.place
+
+pub append_rows-requires-clause-follows : goal.append_rows-requires-clause-follows
+append_rows-requires-clause-follows g c =
+    subst (λ xs. Follows (naturals (map g.N.Index.value (take c.args.used xs))) c.args.plan.from c.args.plan.to c.args.fresh.now)
+    c.deref.ensures.value (c.can_append.ensures c.if-can_append.true)
+
+pub returns-then-can_append-clause-placed : goal.returns-then-can_append-clause-placed
+returns-then-can_append-clause-placed g c = c.append_rows.ensures.placed
+
+pub returns-then-can_append-clause-kept : goal.returns-then-can_append-clause-kept
+returns-then-can_append-clause-kept g c = c.append_rows.ensures.kept
+
+pub returns-then-can_append-clause-room : goal.returns-then-can_append-clause-room
+returns-then-can_append-clause-room g c = c.append_rows.ensures.room
+
+pub can_append-requires-clause-numbers : goal.can_append-requires-clause-numbers
+can_append-requires-clause-numbers g c =
+    subst (λ xs. AreNonNegative (map g.N.Index.value (take c.args.used xs))) (sym c.deref.ensures.value) c.requires.place.planned.numbers
+
+pub can_append-requires-clause-range : goal.can_append-requires-clause-range
+can_append-requires-clause-range g c = c.requires.place.planned.plans.range
+
+pub returns-then-room-used-clause-kept : goal.returns-then-room-used-clause-kept
+returns-then-room-used-clause-kept g c = refl
+
+pub returns-then-room-used-clause-room : goal.returns-then-room-used-clause-room
+returns-then-room-used-clause-room g c = c.requires.place.bound
+
+pub lengthen-requires : goal.lengthen-requires
+lengthen-requires g c =
+    let can = c.requires.place in let within = can.within in let bound = can.bound in let size = c.if-room-used.false in
+    record { room = (omega (arith, size, within, bound), bound) }
+
+pub returns-clause-kept : goal.returns-clause-kept
+returns-clause-kept g c =
+    let done = c.split_at_mut-done.result.0.now in let items = c.args.rows.now.items in let can = c.requires.place in
+    let is = same_front c.args.used items c.lengthen.new.rows.items done can.within c.lengthen.ensures.kept (grind (arith, common_steps)) in
+    let begin : c.args.used ≡ length done = sym (length-take-le c.args.used items can.within) ∙ sym (ap length is) in
+    let low : c.args.used ≤ c.lengthen.new.rows.len = (let long = c.in_ok-lengthen.ensures.long in let len = c.lengthen.new.rows.ok.0 in
+    omega (arith, long, len)) in
+    written_front c.args.used c.lengthen.new.rows.len done [] _ _ (omega (arith, begin)) low ∙ append-nil done ∙ is
+
+pub returns-clause-room : goal.returns-clause-room
+returns-clause-room g c =
+    let room = c.lengthen.ensures.room in let len = c.lengthen.new.rows.ok.0 in
+    within_room c.lengthen.new.rows.len c.args.room _ (omega (arith, room, len))
+
+pub returns-in_err-lengthen-clause-kept : goal.returns-in_err-lengthen-clause-kept
+returns-in_err-lengthen-clause-kept g c =
+    same_front c.args.used c.args.rows.now.items c.lengthen.new.rows.items (take c.args.used c.lengthen.new.rows.items)
+    c.requires.place.within c.lengthen.ensures.kept refl
+
+pub returns-in_err-lengthen-clause-room : goal.returns-in_err-lengthen-clause-room
+returns-in_err-lengthen-clause-room g c = c.lengthen.ensures.room

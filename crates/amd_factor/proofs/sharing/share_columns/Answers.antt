@@ -3,6 +3,7 @@ use Rattle.std.specs.Prelude.{◌^◌}
 use Rattle.std.proofs.lemmas.Grind.{common_steps}
 use Rattle.std.proofs.lemmas.List.{length-take-le, take-take}
 use Rattle.amd_types.specs.Naturals.{naturals}
+use Rattle.amd_factor.specs.Gathering.{MarksTell}
 use Rattle.amd_factor.specs.Numbers.{Plans}
 use Rattle.amd_factor.specs.Sharing.{IsPlanned, Share, StandsFrom, TellFirsts}
 use Rattle.amd_factor.proofs.Factors.Sharing.{firsts_longer, places_kept, share_kept, share_longer}
@@ -78,3 +79,42 @@ stand_column-requires g c κs inside =
         },
       ),
     )
+
+pub place_column-requires : goal.place_column-requires
+place_column-requires g c =
+    let q = c.requires.1.1.1 in let i = c.columns.invariant in let value = g.N.Index.value in let used = c.columns.used in
+    let plan = c.plan_shared-plan.result in let lists = c.plan_shared-plan.new.lists in
+    let rows = take used c.columns.rows.items in let start = q.0.neighbours.room in record {
+      place = record {
+        order = g.o;
+        column = c.columns.k;
+        planned = record {
+          plans = subst (λ ys. Plans g.o c.columns.k (naturals (map value rows)) plan.from plan.to (take plan.count ys))
+              (sym c.deref-in-columns.ensures.value)
+              (subst (λ xs. Plans g.o c.columns.k (naturals (map value (take used xs))) plan.from plan.to
+              (take plan.count lists.fresh.items)) c.deref.ensures.value c.plan_shared-plan.ensures.plans);
+          numbers = i.columns.numbers;
+          small = omega (arith, start);
+        };
+        fit = c.requires.1.1.0;
+        within = i.used;
+        bound = i.room;
+      };
+    }
+
+pub columns-preserved : goal.columns-preserved
+columns-preserved g c =
+    let i = c.columns.invariant in let value = g.N.Index.value in let k = c.columns.k in let placed = c.in-Some.placed in
+    let told = c.in_ok-placed.ensures.placed in let is = (rw c.in-Some.is at told) in
+    let stand = c.stand_column.ensures in let lists = c.stand_column.new.lists in
+    let after = c.deref-in-columns-2.ensures.value in record {
+      columns = subst (λ xs. Share value g.o (k + 1) lists (take placed.used xs)) after stand.columns;
+      used = is.within;
+      room = c.place_column.ensures.room;
+      places = stand.places;
+      firsts = subst (λ xs. TellFirsts g.o (k + 1) lists.starts.items lists.ends.items (naturals (map value (take placed.used xs)))
+          c.stand_column.new.firsts) after stand.firsts;
+      long = stand.left.0 ∙ i.long;
+      left = λ m l. stand.left.1 m (omega (arith, l)) ∙ i.left m (omega (arith, l));
+      marks = subst (MarksTell g.o (k + 1) _ _) (sym stand.marks) c.plan_shared-plan.ensures.marks;
+    }
