@@ -16,8 +16,8 @@ use amd_calls::records::{Needs, Parameters, Statistics};
 use amd_calls::within::{bytes_or_most, order_within};
 use amd_lent::Piece;
 
-/// How many bytes of a block an ordering takes, for every matrix with so many rows and entries; `SIZE_MAX` where that is
-/// no `size_t`, and no block is so large.
+/// How many bytes of a block an ordering takes, for every matrix with so many rows and entries; `SIZE_MAX` where that
+/// is no `size_t`, and no block is so large.
 #[unsafe(no_mangle)]
 pub extern "C" fn rimopaku_workspace_bytes_i32(rows: usize, entries: usize) -> usize
     ensures { result ≡ min (workspace_bytes rows entries) 18446744073709551615 }
@@ -52,8 +52,9 @@ pub extern "C" fn rimopaku_columns_bytes_i32(rows: usize, entries: usize) -> usi
 /// # Errors
 ///
 /// A negative number; `p`, `p_inv` and `statistics` stay as they were. It is -2, `Invalid`, exactly where `p` or
-/// `p_inv` has not `n` places, or `n` is not 0 and the input is no column form; and -1, `OutOfMemory`, exactly where the
-/// call is valid otherwise, `n` is not 0, and the block has fewer bytes than `rimopaku_workspace_bytes_i32(n, a_p[n])`.
+/// `p_inv` has not `n` places, or `n` is not 0 and the input is no column form; and -1, `OutOfMemory`, exactly where
+/// the call is valid otherwise, `n` is not 0, and the block has fewer bytes than
+/// `rimopaku_workspace_bytes_i32(n, a_p[n])`.
 ///
 /// Source: AMD user guide; Amestoy, Davis and Duff 1996 and 2004.
 #[unsafe(no_mangle)]

@@ -17,7 +17,8 @@ fn unit_of(letter: u8) -> Option<u64>
     }
 }
 
-/// What stands before the letter of a text, and how many bytes that stands for: all of it and 1 where it ends with none.
+/// What stands before the letter of a text, and how many bytes that stands for: all of it and 1 where it ends with
+/// none.
 fn parts_of(text: &str) -> (&str, u64)
     ensures { AreUnitParts text.now result.0.now result.1 }
 {

@@ -1,8 +1,8 @@
 // What the command tells on standard error while it works: a line at the beginning of a stage that is large, or that
-// begins where the run has taken some time already. On a terminal such a stage has a bar: the reading of a file one that
-// fills with what was read, and the ordering and the drawing one that is empty at first and full when they are done,
-// since neither can tell how far it is. With `--progress` each stage is told, with its bar. Tested alone: no contract
-// can speak of the clock or of a terminal.
+// begins where the run has taken some time already. On a terminal such a stage has a bar: the reading of a file one
+// that fills with what was read, and the ordering and the drawing one that is empty at first and full when they are
+// done, since neither can tell how far it is. With `--progress` each stage is told, with its bar. Tested alone: no
+// contract can speak of the clock or of a terminal.
 
 use std::fmt::Display;
 use std::fs;

@@ -1,6 +1,6 @@
-// Whether a matrix asks for more memory than it may: the rows and the entries that its line of the size tells, looked at
-// before the matrix is read. How many bytes a row and an entry take was measured, and is what a run takes about. What
-// stands in the first lines of a text is tested alone.
+// Whether a matrix asks for more memory than it may: the rows and the entries that its line of the size tells, looked
+// at before the matrix is read. How many bytes a row and an entry take was measured, and is what a run takes about.
+// What stands in the first lines of a text is tested alone.
 
 ghost use Rattle.std.specs.Prelude.{◌≡◌, ◌↔◌, IsTrue, unwrap_or};
 ghost use Rattle.amd_cli.specs.Limits.{AsksTooMuch, IsUnjustified, bytes_for, entry_bytes, row_bytes};

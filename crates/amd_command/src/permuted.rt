@@ -105,7 +105,8 @@ pub fn pattern_text(alloc: Global, matrix: &Matrix<Global>, p: &[usize]) -> Resu
 ///
 /// # Errors
 ///
-/// `Form` where `p` is no permutation of the rows, or the text none of such a matrix; `Memory` where memory was refused.
+/// `Form` where `p` is no permutation of the rows, or the text none of such a matrix; `Memory` where memory was
+/// refused.
 pub fn valued_text(
     alloc: Global,
     text: &[u8],

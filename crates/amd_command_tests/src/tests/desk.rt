@@ -1,6 +1,6 @@
 // A runtime for tests: its input is a text, it keeps what is shown on standard output and told on standard error, its
-// output may fail, it may move no file, and its clock goes on by so many seconds whenever it is read. Files are those of
-// the host, but that its input is a pipe and its standard error no terminal.
+// output may fail, it may move no file, and its clock goes on by so many seconds whenever it is read. Files are those
+// of the host, but that its input is a pipe and its standard error no terminal.
 
 use std::alloc::{Allocator, Global};
 use std::cell::{Cell, RefCell};

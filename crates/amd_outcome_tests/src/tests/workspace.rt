@@ -114,8 +114,8 @@ fn what_is_no_input_of_a_workspace(rt: HostRuntime) {
     check!(&rt; no_order == Some(Refusal::NotPermutation));
 }
 
-/// The bytes in a block: for 5 rows and 14 entries eight for each of 2 * 14 + 11 * 5 + 7 numbers, and 16 for each row; none
-/// where they are no number of 64 bits.
+/// The bytes in a block: for 5 rows and 14 entries eight for each of 2 * 14 + 11 * 5 + 7 numbers, and 16 for each row;
+/// none where they are no number of 64 bits.
 #[test]
 fn bytes_of_a_block(rt: HostRuntime) {
     check!(&rt; factor_bytes(5, 14) == Some(720 + 80));

@@ -137,8 +137,8 @@ fn each_request_of_order(rt: HostRuntime) {
 /// What stands in lists of 32 bits that nothing was written to.
 const UNTOUCHED_NARROW: [i32; 5] = [-7; 5];
 
-/// Orders a matrix with five rows in 32 bits into lists of the caller, which are as before where there is no answer, and
-/// says whether there was one.
+/// Orders a matrix with five rows in 32 bits into lists of the caller, which are as before where there is no answer,
+/// and says whether there was one.
 fn orders_narrow(rt: &impl Abort, heap: &Refusing<Global>, a_i: &[i32; 14]) -> bool {
     let (mut p, mut p_inv) = (UNTOUCHED_NARROW, UNTOUCHED_NARROW);
     let a_p = [0, 2, 6, 10, 12, 14];
