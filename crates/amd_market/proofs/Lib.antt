@@ -4,6 +4,10 @@ pub mod BoeingLemmas
 pub mod CardLemmas
 pub mod FaultLemmas
 pub mod StopLemmas
+pub mod UnreadLemmas
+pub mod ThirdLine
+pub mod JoinedLemmas
 pub mod FileLemmas
 pub mod ColumnLemmas
 pub mod KeyLemmas
+pub mod KeyPairs

@@ -6,6 +6,7 @@ use Rattle.amd_lines.proofs.LineLemmas.{takes-none, takes-append}
 use Rattle.amd_market.proofs.FaultLemmas.{all-first, any-line, for-here, for-behind, handed-on}
 use Rattle.amd_market.proofs.BoeingLemmas.{fills-more, table-none, table-turn, table-whole}
 use Rattle.amd_market.proofs.StopLemmas.{list-stop}
+use Rattle.amd_market.proofs.UnreadLemmas.{no-value}
 use Rattle.amd_market.proofs.boeing.take_numbers.Goals as goal
 
 pub lines-init : goal.lines-init
@@ -17,6 +18,13 @@ lines-init g c =
       λ ns js h. table-none c.args.fields _ _ _ js ns c.new-numbers.ensures.items h,
       λ h. c.new-numbers.ensures.items,
     )
+
+pub returns-in_err-take_some-clause-takes : goal.returns-in_err-take_some-clause-takes
+returns-in_err-take_some-clause-takes g c = no-value _ _ c.from_residual.result c.from_residual.ensures.1
+
+pub overflow_sub-count : goal.overflow_sub-count
+overflow_sub-count g c =
+    let old = c.len.ensures in let here = c.len-in-lines.ensures in let test = c.lines-test.true in omega (arith, old, here, test)
 
 pub returns-in_err-take_some-clause-fails : goal.returns-in_err-take_some-clause-fails
 returns-in_err-take_some-clause-fails g c =

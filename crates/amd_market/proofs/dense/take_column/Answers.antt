@@ -3,10 +3,18 @@ use Rattle.std.proofs.Common.{◌∷◌, [], arith}
 use Rattle.amd_market.proofs.ArrayLemmas.{values-none, values-append, column-none, column-next}
 use Rattle.amd_market.proofs.FaultLemmas.{for-behind, handed-on}
 use Rattle.amd_market.proofs.StopLemmas.{column-split, values-behind}
+use borrow.Author.Count.{falls}
+use Rattle.amd_market.proofs.UnreadLemmas.{no-value}
 use Rattle.amd_market.proofs.dense.take_column.Goals as goal
 
 pub rows-init : goal.rows-init
 rows-init g c = rw (column-none c.args.first c.args.column) (values-none _ _ _ _)
+
+pub returns-in_err-take_place-clause-takes : goal.returns-in_err-take_place-clause-takes
+returns-in_err-take_place-clause-takes g c = no-value _ _ c.from_residual.result c.from_residual.ensures.1
+
+pub rows-smaller : goal.rows-smaller
+rows-smaller g c = falls c.args.n c.rows.row c.rows-test.true
 
 pub returns-in_err-take_place-clause-fails : goal.returns-in_err-take_place-clause-fails
 returns-in_err-take_place-clause-fails g c =

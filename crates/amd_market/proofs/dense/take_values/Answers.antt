@@ -3,6 +3,8 @@ use Rattle.std.proofs.Common.{[], add-one, arith}
 use Rattle.amd_market.proofs.ArrayLemmas.{values-none, values-append, first-within}
 use Rattle.amd_market.proofs.FaultLemmas.{for-behind, handed-on}
 use Rattle.amd_market.proofs.StopLemmas.{array-split, values-behind}
+use borrow.Author.Count.{falls}
+use Rattle.amd_market.proofs.UnreadLemmas.{no-value}
 use Rattle.amd_market.proofs.dense.take_values.Goals as goal
 
 pub columns-init : goal.columns-init
@@ -13,6 +15,12 @@ take_column-requires-clause-rows g c =
     let within = first-within c.args.header.symmetry c.columns.column in
     let first = c.first_row-first.ensures in
     omega (arith, within, first)
+
+pub returns-in_err-take_column-clause-takes : goal.returns-in_err-take_column-clause-takes
+returns-in_err-take_column-clause-takes g c = no-value _ _ c.from_residual.result c.from_residual.ensures.1
+
+pub columns-smaller : goal.columns-smaller
+columns-smaller g c = falls c.args.n c.columns.column c.columns-test.true
 
 pub returns-in_err-take_column-clause-fails : goal.returns-in_err-take_column-clause-fails
 returns-in_err-take_column-clause-fails g c =
