@@ -1,10 +1,11 @@
 -- A listing by the places of its numbers, and read back in their order.
 use Rattle.std.proofs.Common.{ℕ, ℤ, ◌≡◌, ◌<◌, ◌≤◌, ◌+◌, ◌++◌, ◌∷◌, [], cond, inl, inr, sym, ◌∙◌, ap, arith, List, length, take}
-use Rattle.std.proofs.Common.{get_or, Option, None, Some}
+use Rattle.std.proofs.Common.{get_or, replicate, Option, None, Some}
 use Rattle.std.specs.Prelude.{slice_index, nat_lt}
 use Rattle.std.proofs.Math.ListN.{set}
 use Rattle.std.proofs.lemmas.List.{length-set, get_or-set_same, get_or-set_other, take_more, take_all}
-use Rattle.std.proofs.lemmas.Bool.{cases_eq, cases_lt, lt-ltb}
+use Rattle.std.proofs.lemmas.List.{length-replicate, get_or-replicate, get_or_past}
+use Rattle.std.proofs.lemmas.Bool.{cases_eq, cases_lt, le-ltb, lt-ltb}
 use Rattle.amd_model.specs.Input.Columns.{at}
 use Rattle.amd_model.specs.Listing.{Tree}
 use Rattle.amd_plain.specs.Views.{some_at}
@@ -40,6 +41,28 @@ pub record AreSoFar (j n : ℕ) (listing : List ℕ) (places : List (Option ℕ)
 
 module _ (t : Tree) (order : List ℤ) (o : IsPostorderOf t order)
     (inside : (k : ℕ) → k < length o.listing → slice_index o.listing k < t.size) where
+  -- at first no number is at a place
+  pub so_far_start : (n : ℕ) (places : List (Option ℕ)) → n ≡ length order → places ≡ replicate n None →
+      AreSoFar 0 t.size o.listing places
+  so_far_start n places same none = record {
+    room = (let a = ap length none in let b = none_long in let r = o.room in omega (arith, a, b, r, same));
+    each = λ k l. clear k ∙
+        sym (ap (λ b. cond b (Some (slice_index o.listing k)) None) (le-ltb (slice_index o.listing k) 0 (omega arith)));
+    rest = λ k l. clear k;
+  }
+    where
+      absent : Option ℕ
+      absent = None
+
+      none_long : length (replicate n absent) ≡ n
+      none_long = length-replicate n absent
+
+      clear : (k : ℕ) → some_at places k ≡ None
+      clear k = ap (λ xs. some_at xs k) none ∙ elim (cases_lt k n) [
+        | inl l ↦ get_or-replicate n k absent absent l
+        | inr l ↦ get_or_past (replicate n absent) k absent (let e = none_long in omega (arith, e, l))
+      ]
+
   pub so_far_end : (j : ℕ) (places : List (Option ℕ)) → j ≡ t.size → AreSoFar j t.size o.listing places → IsByPlace t.size o.listing places
   so_far_end j places q a = record {
     room = a.room;

@@ -20,3 +20,4 @@ pub mod ElementRows
 pub mod ByPlace
 pub mod BlockForest
 pub mod ListingLaw
+pub mod HandedLists

@@ -29,6 +29,14 @@ numbers_push xs x i f size was is a h = elim (cases_lt a i) [
   | inr l ↦ (let e : a ≡ i = omega (arith, h, l) in ap (num (xs ++ x ∷ [])) e ∙ get_or_push xs x 0 i size ∙ is ∙ ap f (sym e))
 ]
 
+-- a mark more
+pub marks_push : (xs : List Bool) (x : Bool) (i : ℕ) (f : ℕ → Bool) → length xs ≡ i → ((a : ℕ) → a < i → mark_at xs a ≡ f a) → x ≡ f i →
+    (a : ℕ) → a < i + 1 → mark_at (xs ++ x ∷ []) a ≡ f a
+marks_push xs x i f size was is a h = elim (cases_lt a i) [
+  | inl l ↦ get_or_append_left xs (x ∷ []) false a (omega (arith, size, l)) ∙ was a l
+  | inr l ↦ (let e : a ≡ i = omega (arith, h, l) in ap (mark_at (xs ++ x ∷ [])) e ∙ get_or_push xs x false i size ∙ is ∙ ap f (sym e))
+]
+
 -- one value at each of n places
 pub same_length : {X : Type 0} (n : ℕ) (x : X) (xs : List X) → xs ≡ replicate n x → length xs ≡ n
 same_length n x xs h = ap length h ∙ length-replicate n x

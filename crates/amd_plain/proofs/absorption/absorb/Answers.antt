@@ -1,3 +1,4 @@
+-- the goals of absorption::absorb.
 use Rattle.std.proofs.Common.{ℕ, Bool, false, Some, List, ◌≡◌, ◌<◌, ◌∙◌, ◌&&◌, ◌||◌, ◌==◌, not, cond, nat_eq, nat_lt, ap, sym, subst}
 use Rattle.std.proofs.Common.{length, length-set, filter, flat_map}
 use Rattle.std.proofs.lemmas.Bool.{cond-true, cond-false}
@@ -11,6 +12,7 @@ use Rattle.amd_plain.proofs.KeptParts.{touched_below, spared_is, adopted_is, in_
 use Rattle.std.proofs.Common.{lt_of_lt_of_le, le_of_eq}
 use Rattle.amd_plain.specs.Views.{Below}
 use Rattle.amd_plain.proofs.ReadLists.{read_below}
+use Rattle.std.proofs.lemmas.Result.{IfOk-from_err}
 use Rattle.amd_plain.proofs.absorption.absorb.Goals as goal
 
 pub count_beyond-requires-clause-range : goal.count_beyond-requires-clause-range
@@ -18,7 +20,7 @@ count_beyond-requires-clause-range g c =
     let elements = c.args.lists.now.elements.items in
     let below = touched_below (length c.args.counts.now.size.now) elements (has (list_at elements c.args.pivot)) c.args.front.now
     c.in_ok-touched.touched.items c.requires.lists.elements c.in_ok-touched.ensures.list in
-    rw c.deref.ensures.value below
+    subst (Below (length c.args.counts.now.size.now)) (sym c.deref.ensures.value) below
 
 pub spare-requires-clause-range : goal.spare-requires-clause-range
 spare-requires-clause-range g c =
@@ -27,7 +29,8 @@ spare-requires-clause-range g c =
     c.in_ok-touched.touched.items c.requires.lists.elements c.in_ok-touched.ensures.list in
     let room : length c.deref-3.result.now ≡ length c.args.counts.now.size.now = ap length c.deref-3.ensures.value ∙
     c.count_beyond.ensures.size ∙ c.requires.marked.beyond in
-    rw (c.deref-2.ensures.value, room) below
+    subst (λ m. Below m c.deref-2.result.now) (sym room) (subst (Below (length c.args.counts.now.size.now)) (sym c.deref-2.ensures.value)
+    below)
 
 pub adopt-requires-2-clause-range : goal.adopt-requires-2-clause-range
 adopt-requires-2-clause-range g c =
@@ -36,7 +39,8 @@ adopt-requires-2-clause-range g c =
     c.in_ok-touched.touched.items c.requires.lists.elements c.in_ok-touched.ensures.list in
     let room : length c.deref-7.result.now ≡ length c.args.counts.now.size.now = ap length c.deref-7.ensures.value ∙ c.spare.ensures.size ∙
     c.in_ok-touched.ensures.size ∙ c.requires.marked.elements.0 in
-    rw (c.deref-6.ensures.value, room) below
+    subst (λ m. Below m c.deref-6.result.now) (sym room) (subst (Below (length c.args.counts.now.size.now)) (sym c.deref-6.ensures.value)
+    below)
 
 pub clear_all-requires-2 : goal.clear_all-requires-2
 clear_all-requires-2 g c =
@@ -45,7 +49,10 @@ clear_all-requires-2 g c =
     c.in_ok-touched.touched.items c.requires.lists.elements c.in_ok-touched.ensures.list in
     let room : length c.clear_all.new.marks.items ≡ length c.args.counts.now.size.now = c.clear_all.ensures.size ∙ c.spare.ensures.size ∙
     c.in_ok-touched.ensures.size ∙ c.requires.marked.elements.0 in
-    rw (c.deref-11.ensures.value, room) (record { range = below })
+    record {
+      range = subst (λ m. Below m c.deref-11.result.now) (sym room) (subst (Below (length c.args.counts.now.size.now)) (sym
+          c.deref-11.ensures.value) below);
+    }
 
 pub returns : goal.returns
 returns g c =
@@ -196,3 +203,37 @@ touched_by-requires-clause-range g c = subst (λ n. Below n c.args.front.now) (s
 pub touched_by-requires-clause-elements : goal.touched_by-requires-clause-elements
 touched_by-requires-clause-elements g c = subst (λ n. ListsBelow n c.args.lists.now.elements.items) (sym c.requires.marked.elements.0)
     c.requires.lists.elements
+
+pub touched_by-requires-clause-pivot : goal.touched_by-requires-clause-pivot
+touched_by-requires-clause-pivot g c = lt_of_lt_of_le (c.requires.pivot.0)
+    (le_of_eq (sym (c.requires.marked.elements.0)))
+
+pub touched_by-requires-clause-clear : goal.touched_by-requires-clause-clear
+touched_by-requires-clause-clear g c = c.requires.marked.elements.1
+
+pub returns-in_err-touched-clause-absorbed : goal.returns-in_err-touched-clause-absorbed
+returns-in_err-touched-clause-absorbed g c = IfOk-from_err c.from_residual.result _ c.from_residual.ensures.0
+
+pub returns-in_err-touched-clause-lists : goal.returns-in_err-touched-clause-lists
+returns-in_err-touched-clause-lists g c = IfOk-from_err c.from_residual.result _ c.from_residual.ensures.0
+
+pub returns-in_err-touched-clause-parent : goal.returns-in_err-touched-clause-parent
+returns-in_err-touched-clause-parent g c = IfOk-from_err c.from_residual.result _ c.from_residual.ensures.0
+
+pub returns-in_err-touched-clause-idle : goal.returns-in_err-touched-clause-idle
+returns-in_err-touched-clause-idle g c = IfOk-from_err c.from_residual.result _ c.from_residual.ensures.0
+
+pub count_beyond-requires-clause-lengths : goal.count_beyond-requires-clause-lengths
+count_beyond-requires-clause-lengths g c = (c.requires.fronts.0, c.requires.fronts.1, c.requires.marked.beyond)
+
+pub index-requires : goal.index-requires
+index-requires g c = lt_of_lt_of_le (c.requires.pivot.0)
+    (le_of_eq (sym (c.args.lists.now.elements.ok.0 ∙ c.requires.lists.elements.0)))
+
+pub index-requires-2 : goal.index-requires-2
+index-requires-2 g c = lt_of_lt_of_le (c.requires.pivot.0)
+    (le_of_eq (sym (c.shorten.new.lists.elements.ok.0 ∙ c.shorten.ensures.elements.0)))
+
+pub index_mut-requires : goal.index_mut-requires
+index_mut-requires g c = lt_of_lt_of_le (c.requires.pivot.0)
+    (le_of_eq (sym (c.clear_all-3.new.marks.ok.0 ∙ c.clear_all-3.ensures.size ∙ c.requires.marked.rows.0)))

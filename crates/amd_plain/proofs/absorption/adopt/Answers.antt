@@ -1,7 +1,12 @@
+-- the goals of absorption::adopt.
 use Rattle.std.proofs.Common.{ℕ, Option, Some, None, List, ◌≡◌, ◌<◌, ◌∙◌, ap, refl, arith, length, get_or, set, length-set}
 use Rattle.amd_plain.specs.Views.{mark_at, some_at}
 use Rattle.amd_model.specs.Quotient.{has}
 use Rattle.amd_plain.proofs.Kept.{set_passing, set_none}
+use Rattle.std.proofs.Common.{lt_of_lt_of_le, le_of_eq, sym}
+use Rattle.std.proofs.Common.{cond, ◌&&◌}
+use Rattle.std.proofs.lemmas.List.{take_all}
+use borrow.Author.Count.{falls}
 use Rattle.amd_plain.proofs.absorption.adopt.Goals as goal
 use Rattle.amd_plain.proofs.absorption.adopt.Goals.{then-taken-e, else-taken-e}
 
@@ -29,3 +34,24 @@ loop-e-preserved g c =
             w.if-taken-e.false was.adopted);
       }
     ]
+
+pub bounds-list-e-index : goal.bounds-list-e-index
+bounds-list-e-index g c = c.loop-e-test.true
+
+pub loop-e-smaller : goal.loop-e-smaller
+loop-e-smaller g c = falls (length c.args.list.now) c.loop-e.e-index c.loop-e-test.true
+
+pub bounds-taken-e : goal.bounds-taken-e
+bounds-taken-e g c = c.requires.range c.loop-e.e-index 0 c.loop-e-test.true
+
+pub index_mut-requires : goal.index_mut-requires
+index_mut-requires g c = lt_of_lt_of_le (c.requires.range c.loop-e.e-index 0 c.loop-e-test.true)
+    (le_of_eq (sym (c.loop-e.parent.ok.0 ∙ c.loop-e.invariant.size ∙ c.requires.length)))
+
+pub returns-clause-size : goal.returns-clause-size
+returns-clause-size g c = c.loop-e.invariant.size
+
+pub returns-clause-adopted : goal.returns-clause-adopted
+returns-clause-adopted g c e = c.loop-e.invariant.adopted e
+    ∙ ap (λ xs. cond (has xs e && mark_at c.args.taken.now e) (Some c.args.pivot) (some_at c.args.parent.now.items e))
+    (take_all c.loop-e.e-index c.args.list.now c.loop-e-test.false)

@@ -1,3 +1,4 @@
+-- the goals of absorption::count_beyond.
 use Rattle.std.proofs.Common.{ℕ, List, ◌≡◌, ◌<◌, ◌∙◌, ap, sym, subst, arith, length, get_or, take}
 use Rattle.std.proofs.lemmas.Bool.{cond-true}
 use Rattle.std.proofs.lemmas.List.{take_all}
@@ -6,6 +7,8 @@ use Rattle.amd_plain.specs.Views.{num, list_at, Below}
 use Rattle.amd_plain.specs.Rounds.{less, plain_rows_left}
 use Rattle.amd_plain.proofs.ListPlaces.{list_read, list_below}
 use Rattle.amd_round_laws.proofs.Lists.Taken.{left_next}
+use Rattle.std.proofs.Common.{lt_of_lt_of_le, le_of_eq}
+use borrow.Author.Count.{falls}
 use Rattle.amd_plain.proofs.absorption.count_beyond.Goals as goal
 
 pub loop-i-init : goal.loop-i-init
@@ -46,3 +49,25 @@ returns-clause-counted g c = λ e h. c.loop-i.invariant.counted e h
 
 pub bounds-size-i : goal.bounds-size-i
 bounds-size-i g c = c.requires.front c.loop-i.i-index 0 c.loop-i-test.true
+
+pub bounds-front-i-index : goal.bounds-front-i-index
+bounds-front-i-index g c = c.loop-i-test.true
+
+pub loop-i-smaller : goal.loop-i-smaller
+loop-i-smaller g c = falls (length c.args.front.now) c.loop-i.i-index c.loop-i-test.true
+
+pub count_borders-requires-clause-lengths : goal.count_borders-requires-clause-lengths
+count_borders-requires-clause-lengths g c = (
+  c.requires.lengths.1 ∙ sym c.requires.lengths.0,
+  c.requires.lengths.2 ∙ sym c.requires.lengths.0,
+)
+
+pub count_borders-requires-clause-range : goal.count_borders-requires-clause-range
+count_borders-requires-clause-range g c = subst (λ n. Below n c.args.touched.now) (sym c.requires.lengths.0) c.requires.range
+
+pub index-requires : goal.index-requires
+index-requires g c = lt_of_lt_of_le (c.requires.front c.loop-i.i-index 0 c.loop-i-test.true)
+    (le_of_eq (sym (c.args.elements.now.ok.0 ∙ c.requires.elements.0)))
+
+pub returns-clause-size : goal.returns-clause-size
+returns-clause-size g c = c.loop-i.invariant.size

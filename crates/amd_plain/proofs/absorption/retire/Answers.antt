@@ -1,3 +1,4 @@
+-- the goals of absorption::retire.
 use Rattle.std.proofs.Common.{ℕ, Bool, Option, Some, None, List, ◌≡◌, ◌<◌, ◌∙◌, ap, refl, sym, arith, length, get_or, set, length-set}
 use Rattle.amd_plain.specs.Views.{num, some_at}
 use Rattle.amd_plain.specs.Rounds.{plain_mass}
@@ -5,6 +6,8 @@ use Rattle.amd_model.specs.Quotient.{has}
 use Rattle.amd_plain.proofs.Kept.{set_passing, set_none}
 use Rattle.std.proofs.Common.{◌&&◌, cond}
 use Rattle.std.proofs.lemmas.List.{take_all}
+use Rattle.std.proofs.Common.{lt_of_lt_of_le, le_of_eq}
+use borrow.Author.Count.{falls}
 use Rattle.amd_plain.proofs.absorption.retire.Goals as goal
 use Rattle.amd_plain.proofs.absorption.retire.Goals.{then-keeps_nothing, else-keeps_nothing}
 
@@ -53,3 +56,28 @@ pub returns-clause-links : goal.returns-clause-links
 returns-clause-links g c x = c.loop-i.invariant.links x
     ∙ ap (λ xs. cond (has xs x && plain_mass c.args.lists.now.elements.items c.args.lists.now.variables.items x) (Some c.args.pivot)
     (some_at c.args.link.now.items x)) (take_all c.loop-i.i-index c.args.front.now c.loop-i-test.false)
+
+pub bounds-front-i-index : goal.bounds-front-i-index
+bounds-front-i-index g c = c.loop-i-test.true
+
+pub loop-i-smaller : goal.loop-i-smaller
+loop-i-smaller g c = falls (length c.args.front.now) c.loop-i.i-index c.loop-i-test.true
+
+pub keeps_nothing-requires-clause-elements : goal.keeps_nothing-requires-clause-elements
+keeps_nothing-requires-clause-elements g c = lt_of_lt_of_le (c.requires.range c.loop-i.i-index 0 c.loop-i-test.true)
+    (le_of_eq (sym (c.requires.lengths.0)))
+
+pub keeps_nothing-requires-clause-variables : goal.keeps_nothing-requires-clause-variables
+keeps_nothing-requires-clause-variables g c = lt_of_lt_of_le (c.requires.range c.loop-i.i-index 0 c.loop-i-test.true)
+    (le_of_eq (sym (c.requires.lengths.1)))
+
+pub index_mut-requires : goal.index_mut-requires
+index_mut-requires g c = lt_of_lt_of_le (c.requires.range c.loop-i.i-index 0 c.loop-i-test.true)
+    (le_of_eq (sym (c.loop-i.size.ok.0 ∙ c.loop-i.invariant.size)))
+
+pub index_mut-requires-then-keeps_nothing : goal.index_mut-requires-then-keeps_nothing
+index_mut-requires-then-keeps_nothing g c = lt_of_lt_of_le (c.requires.range c.loop-i.i-index 0 c.loop-i-test.true)
+    (le_of_eq (sym (c.loop-i.link.ok.0 ∙ c.loop-i.invariant.link ∙ c.requires.lengths.2)))
+
+pub returns-clause-lengths : goal.returns-clause-lengths
+returns-clause-lengths g c = (c.loop-i.invariant.size, c.loop-i.invariant.link)

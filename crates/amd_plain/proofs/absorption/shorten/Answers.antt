@@ -1,3 +1,4 @@
+-- the goals of absorption::shorten.
 use Rattle.std.proofs.Common.{ℕ, Bool, List, ◌<◌, refl, arith, length, get_or, not, ◌&&◌, nat_lt}
 use Rattle.amd_plain.specs.Views.{num, mark_at}
 use Rattle.amd_model.specs.Quotient.{has}
@@ -5,6 +6,8 @@ use Rattle.amd_plain.proofs.Kept.{keep_next, below_next}
 use Rattle.std.proofs.Common.{filter}
 use Rattle.amd_plain.specs.Views.{list_at}
 use Rattle.amd_plain.proofs.Kept.{changed_all}
+use Rattle.std.proofs.Common.{lt_of_lt_of_le, le_of_eq, sym, ◌∙◌}
+use borrow.Author.Count.{falls}
 use Rattle.amd_plain.proofs.absorption.shorten.Goals as goal
 
 pub loop-i-init : goal.loop-i-init
@@ -55,3 +58,20 @@ returns-clause-variables g c = c.loop-i.invariant.variables
 
 pub returns-clause-elements : goal.returns-clause-elements
 returns-clause-elements g c = c.loop-i.invariant.elements
+
+pub bounds-front-i-index : goal.bounds-front-i-index
+bounds-front-i-index g c = c.loop-i-test.true
+
+pub loop-i-smaller : goal.loop-i-smaller
+loop-i-smaller g c = falls (length c.args.front.now) c.loop-i.i-index c.loop-i-test.true
+
+pub index_mut-requires : goal.index_mut-requires
+index_mut-requires g c = lt_of_lt_of_le (c.requires.range c.loop-i.i-index 0 c.loop-i-test.true)
+    (le_of_eq (sym (c.loop-i.lists.elements.ok.0 ∙ c.loop-i.invariant.elements.0)))
+
+pub index_mut-requires-in-loop-i : goal.index_mut-requires-in-loop-i
+index_mut-requires-in-loop-i g c = lt_of_lt_of_le (c.requires.range c.loop-i.i-index 0 c.loop-i-test.true)
+    (le_of_eq (sym (c.loop-i.lists.variables.ok.0 ∙ c.loop-i.invariant.variables.0)))
+
+pub returns-clause-members : goal.returns-clause-members
+returns-clause-members g c = c.loop-i.invariant.members

@@ -1,3 +1,4 @@
+-- the goals of absorption::spare.
 use Rattle.std.proofs.Common.{ℕ, Bool, false, List, ◌≡◌, ◌<◌, ◌∙◌, ap, refl, sym, arith, length, get_or, set, length-set, not, ◌&&◌, nat_eq}
 use Rattle.std.proofs.lemmas.Bool.{and_left, not_from_false, not_from_true}
 use Rattle.amd_plain.specs.Views.{mark_at, num}
@@ -6,6 +7,8 @@ use Rattle.amd_plain.proofs.Kept.{set_passing, set_none}
 use Rattle.std.proofs.Common.{true, cond}
 use Rattle.std.proofs.Math.Bool.{and-true, and-false}
 use Rattle.std.proofs.lemmas.List.{take_all}
+use Rattle.std.proofs.Common.{lt_of_lt_of_le, le_of_eq}
+use borrow.Author.Count.{falls}
 use Rattle.amd_plain.proofs.absorption.spare.Goals as goal
 use Rattle.amd_plain.proofs.absorption.spare.Goals.{then-aggressive, else-aggressive, then-not-beyond-e, else-not-beyond-e}
 
@@ -49,3 +52,19 @@ returns-clause-spared g c e = let kept : Bool = not (c.args.aggressive && nat_eq
     c.loop-e.invariant.spared e ∙ ap (λ xs. cond (has xs e && kept) false (mark_at c.args.taken.now.items e))
     (take_all c.loop-e.e-index c.args.touched.now c.loop-e-test.false)
     ∙ cleared_where (has c.args.touched.now e && kept) (mark_at c.args.taken.now.items e)
+
+pub bounds-touched-e-index : goal.bounds-touched-e-index
+bounds-touched-e-index g c = c.loop-e-test.true
+
+pub loop-e-smaller : goal.loop-e-smaller
+loop-e-smaller g c = falls (length c.args.touched.now) c.loop-e.e-index c.loop-e-test.true
+
+pub bounds-beyond-e : goal.bounds-beyond-e
+bounds-beyond-e g c = c.requires.range c.loop-e.e-index 0 c.loop-e-test.true
+
+pub index_mut-requires : goal.index_mut-requires
+index_mut-requires g c = lt_of_lt_of_le (c.requires.range c.loop-e.e-index 0 c.loop-e-test.true)
+    (le_of_eq (sym (c.loop-e.taken.ok.0 ∙ c.loop-e.invariant.size ∙ sym c.requires.length)))
+
+pub returns-clause-size : goal.returns-clause-size
+returns-clause-size g c = c.loop-e.invariant.size

@@ -1,8 +1,11 @@
+-- the goals of absorption::take_off.
 use Rattle.std.proofs.Common.{ℕ, List, ◌≡◌, ◌<◌, ◌-◌, ◌∙◌, ap, refl, arith, length, get_or, set, length-set}
 use Rattle.std.proofs.lemmas.List.{get_or_read, take_all}
 use Rattle.amd_plain.specs.Views.{num}
 use Rattle.amd_plain.specs.Rounds.{less}
 use Rattle.amd_plain.proofs.Taken.{less_written}
+use Rattle.std.proofs.Common.{lt_of_lt_of_le, le_of_eq, sym}
+use borrow.Author.Count.{falls}
 use Rattle.amd_plain.proofs.absorption.take_off.Goals as goal
 
 pub loop-e-init : goal.loop-e-init
@@ -25,3 +28,20 @@ loop-e-preserved g c =
 pub returns-clause-taken : goal.returns-clause-taken
 returns-clause-taken g c = λ e. c.loop-e.invariant.taken e ∙
     ap (less e c.args.rows (num c.args.beyond.now.items e)) (take_all c.loop-e.e-index c.args.elements.now c.loop-e-test.false)
+
+pub bounds-elements-e-index : goal.bounds-elements-e-index
+bounds-elements-e-index g c = c.loop-e-test.true
+
+pub loop-e-smaller : goal.loop-e-smaller
+loop-e-smaller g c = falls (length c.args.elements.now) c.loop-e.e-index c.loop-e-test.true
+
+pub index-requires : goal.index-requires
+index-requires g c = lt_of_lt_of_le (c.requires.range c.loop-e.e-index 0 c.loop-e-test.true)
+    (le_of_eq (sym (c.loop-e.beyond.ok.0 ∙ c.loop-e.invariant.size)))
+
+pub index_mut-requires : goal.index_mut-requires
+index_mut-requires g c = lt_of_lt_of_le (c.requires.range c.loop-e.e-index 0 c.loop-e-test.true)
+    (le_of_eq (sym (c.loop-e.beyond.ok.0 ∙ c.loop-e.invariant.size)))
+
+pub returns-clause-size : goal.returns-clause-size
+returns-clause-size g c = c.loop-e.invariant.size

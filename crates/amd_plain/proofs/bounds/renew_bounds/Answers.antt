@@ -1,3 +1,4 @@
+-- the goals of bounds::renew_bounds.
 use Rattle.std.proofs.Common.{◌≡◌, ◌<◌, ◌+◌, ◌-◌, ℕ, length, get_or, arith, ap, sym, ◌∙◌}
 use Rattle.std.specs.Prelude.{sum_by, min, true}
 use Rattle.std.proofs.lemmas.Grind.{get_or_default_zero}
@@ -13,6 +14,7 @@ use Rattle.amd_plain.proofs.ListPlaces.{list_read}
 use Rattle.std.proofs.Common.{lt_of_lt_of_le, le_of_eq, refl}
 use Rattle.amd_plain.proofs.Kept.{changed_all}
 use Rattle.amd_plain.proofs.ReadLists.{read_below}
+use borrow.Author.Count.{falls}
 use Rattle.amd_plain.proofs.bounds.renew_bounds.Goals as goal
 
 pub loop-i-init : goal.loop-i-init
@@ -117,3 +119,24 @@ sum_at-outside-requires g c = record {
       (get_or c.args.made.now c.loop-i.i-index 0) c.index-in-loop-i.result.now c.deref-in-loop-i.result.now c.requires.variables
       (c.requires.range c.loop-i.i-index 0 c.loop-i-test.true) c.index-in-loop-i.ensures c.deref-in-loop-i.ensures.value refl;
 }
+
+pub bounds-made-i-index : goal.bounds-made-i-index
+bounds-made-i-index g c = c.loop-i-test.true
+
+pub loop-i-smaller : goal.loop-i-smaller
+loop-i-smaller g c = falls (length c.args.made.now) c.loop-i.i-index c.loop-i-test.true
+
+pub index-requires : goal.index-requires
+index-requires g c = lt_of_lt_of_le (c.requires.range c.loop-i.i-index 0 c.loop-i-test.true)
+    (le_of_eq (sym (c.args.lists.now.elements.ok.0 ∙ c.requires.elements.0)))
+
+pub index-requires-in-loop-i : goal.index-requires-in-loop-i
+index-requires-in-loop-i g c = lt_of_lt_of_le (c.requires.range c.loop-i.i-index 0 c.loop-i-test.true)
+    (le_of_eq (sym (c.args.lists.now.variables.ok.0 ∙ c.requires.variables.0)))
+
+pub index-requires-in-loop-i-2 : goal.index-requires-in-loop-i-2
+index-requires-in-loop-i-2 g c = lt_of_lt_of_le (c.requires.range c.loop-i.i-index 0 c.loop-i-test.true)
+    (le_of_eq (sym (c.loop-i.bound.ok.0 ∙ c.loop-i.invariant.room ∙ c.requires.lengths.1)))
+
+pub returns-clause-length : goal.returns-clause-length
+returns-clause-length g c = c.loop-i.invariant.room

@@ -1,3 +1,4 @@
+-- the goals of bounds::renew_lists.
 use Rattle.std.proofs.Common.{◌≡◌, ◌<◌, ◌∷◌, ℕ, length, get_or, set, arith, ap, sym, refl, subst, ◌∙◌}
 use Rattle.amd_model.specs.Quotient.{turned}
 use Rattle.amd_plain.specs.Views.{list_at, Below}
@@ -6,6 +7,9 @@ use Rattle.amd_plain.proofs.Kept.{changed_more, changed_none, unchanged}
 use Rattle.amd_plain.proofs.ListPlaces.{list_read, list_set_same, list_set_other, lists_set, list_below}
 use Rattle.std.proofs.lemmas.List.Elements.{All-cons}
 use Rattle.amd_plain.proofs.Kept.{changed_all}
+use Rattle.std.proofs.Common.{lt_of_lt_of_le, le_of_eq}
+use borrow.Author.Count.{falls}
+use Rattle.std.proofs.lemmas.Result.{IfOk-from_err}
 use Rattle.amd_plain.proofs.bounds.renew_lists.Goals as goal
 
 pub loop-i-init : goal.loop-i-init
@@ -82,3 +86,35 @@ returns-clause-variables g c = c.loop-i.invariant.variables
 
 pub returns-clause-elements : goal.returns-clause-elements
 returns-clause-elements g c = c.loop-i.invariant.elements
+
+pub bounds-made-i-index : goal.bounds-made-i-index
+bounds-made-i-index g c = c.loop-i-test.true
+
+pub index_mut-requires : goal.index_mut-requires
+index_mut-requires g c = lt_of_lt_of_le (c.requires.range c.loop-i.i-index 0 c.loop-i-test.true)
+    (le_of_eq (sym (c.loop-i.lists.elements.ok.0 ∙ c.loop-i.invariant.elements.0)))
+
+pub index_mut-requires-in-loop-i-2 : goal.index_mut-requires-in-loop-i-2
+index_mut-requires-in-loop-i-2 g c = lt_of_lt_of_le (c.requires.range c.loop-i.i-index 0 c.loop-i-test.true)
+    (le_of_eq (sym (c.loop-i.lists.variables.ok.0 ∙ c.loop-i.invariant.variables.0)))
+
+pub returns-in_err-insert-clause-new_elements : goal.returns-in_err-insert-clause-new_elements
+returns-in_err-insert-clause-new_elements g c = IfOk-from_err c.from_residual.result _ c.from_residual.ensures.0
+
+pub returns-in_err-insert-clause-new_variables : goal.returns-in_err-insert-clause-new_variables
+returns-in_err-insert-clause-new_variables g c = IfOk-from_err c.from_residual.result _ c.from_residual.ensures.0
+
+pub returns-in_err-insert-clause-members : goal.returns-in_err-insert-clause-members
+returns-in_err-insert-clause-members g c = IfOk-from_err c.from_residual.result _ c.from_residual.ensures.0
+
+pub returns-in_err-insert-clause-elements : goal.returns-in_err-insert-clause-elements
+returns-in_err-insert-clause-elements g c = IfOk-from_err c.from_residual.result _ c.from_residual.ensures.0
+
+pub returns-in_err-insert-clause-variables : goal.returns-in_err-insert-clause-variables
+returns-in_err-insert-clause-variables g c = IfOk-from_err c.from_residual.result _ c.from_residual.ensures.0
+
+pub loop-i-smaller : goal.loop-i-smaller
+loop-i-smaller g c = falls (length c.args.made.now) c.loop-i.i-index c.loop-i-test.true
+
+pub returns-clause-members : goal.returns-clause-members
+returns-clause-members g c = c.loop-i.invariant.members

@@ -1,3 +1,4 @@
+-- the goals of by_bound::last_placed.
 use Rattle.std.proofs.Common.{ℕ, List, Bool, false, [], ◌∷◌, ◌++◌, ◌≡◌, ◌<◌, ◌&&◌, ap, sym, ◌∙◌, length, Some}
 use Rattle.std.proofs.Common.{append_assoc, lt_of_lt_of_le, le_of_eq}
 use Rattle.std.specs.Prelude.{nat_lt, ◌==◌}
@@ -8,6 +9,7 @@ use Rattle.amd_model.proofs.Quotient.Lists.{filter_yes, filter_no}
 use Rattle.amd_plain.specs.Views.{num}
 use Rattle.amd_plain.proofs.by_bound.last_placed.Goals.{else-size-i-gt0-via-then-size-i-gt0+else-bound-i}
 use Rattle.amd_plain.proofs.by_bound.last_placed.Goals.{else-size-i-gt0-via-else-size-i-gt0}
+use Rattle.std.proofs.Common.{append-nil, refl}
 use Rattle.amd_plain.proofs.by_bound.last_placed.Goals as goal
 
 pub loop-i-preserved : goal.loop-i-preserved
@@ -52,3 +54,6 @@ bounds-size-i g c = (All-pop (λ x. x < length c.args.size.now) c.loop-i.list.it
 pub bounds-bound-i : goal.bounds-bound-i
 bounds-bound-i g c = lt_of_lt_of_le (All-pop (λ x. x < length c.args.size.now) c.loop-i.list.items c.pop.new.self.items
     (Some c.in-Some.i) c.in-Some.ensures.items c.loop-i.invariant.range).1 (le_of_eq (sym c.requires.lengths))
+
+pub loop-i-init : goal.loop-i-init
+loop-i-init g c = record { range = c.requires.range; tail = ([], sym (append-nil c.args.list.now.items), refl) }

@@ -1,3 +1,4 @@
+-- the goals of by_bound::place_all.
 use Rattle.std.proofs.Common.{ℕ, true, List, [], ◌∷◌, ◌++◌, filter, ◌≡◌, ◌<◌, ◌≤◌, ◌⊎◌, ◌+◌, ◌∙◌, inr, sym, ap, arith, subst, length}
 use Rattle.std.proofs.Common.{get_or, drop}
 use Rattle.std.specs.Prelude.{◌==◌}
@@ -10,6 +11,9 @@ use Rattle.amd_plain.proofs.ListPlaces.{list_read, list_below, lists_set}
 use Rattle.amd_plain.proofs.BucketLists.{pushed, least_next, least_lower, least_end}
 use Rattle.std.proofs.Common.{append-nil}
 use Rattle.std.proofs.lemmas.List.{at_drop_all}
+use Rattle.std.proofs.Common.{inl, refl}
+use borrow.Author.Count.{falls}
+use Rattle.std.proofs.lemmas.Result.{IfOk-from_err}
 use Rattle.amd_plain.proofs.by_bound.place_all.Goals as goal
 use Rattle.amd_plain.proofs.by_bound.place_all.Goals.{then-b-least, else-b-least}
 
@@ -75,3 +79,36 @@ returns-clause-placed g c b =
     sym (append-nil (list_at c.loop-i.lists.items b))
     ∙ sym (at_drop_all (λ xs. list_at c.loop-i.lists.items b ++ filter (λ i. num c.args.bound.now i == b) xs) c.args.made.now
     c.loop-i.i-index c.loop-i-test.false) ∙ c.loop-i.invariant.placed b
+
+pub loop-i-init : goal.loop-i-init
+loop-i-init g c = record {
+  range = c.requires.range;
+  placed = λ b. refl;
+  before = omega arith;
+  least = λ i h. inl h;
+  one = inl refl;
+}
+
+pub bounds-made-i-index : goal.bounds-made-i-index
+bounds-made-i-index g c = c.loop-i-test.true
+
+pub bounds-bound-i : goal.bounds-bound-i
+bounds-bound-i g c = c.requires.made c.loop-i.i-index 0 c.loop-i-test.true
+
+pub returns-in_err-push-clause-placed : goal.returns-in_err-push-clause-placed
+returns-in_err-push-clause-placed g c = IfOk-from_err c.from_residual.result _ c.from_residual.ensures.0
+
+pub returns-in_err-push-clause-range : goal.returns-in_err-push-clause-range
+returns-in_err-push-clause-range g c = IfOk-from_err c.from_residual.result _ c.from_residual.ensures.0
+
+pub returns-in_err-push-clause-least : goal.returns-in_err-push-clause-least
+returns-in_err-push-clause-least g c = IfOk-from_err c.from_residual.result _ c.from_residual.ensures.0
+
+pub returns-in_err-push-clause-one : goal.returns-in_err-push-clause-one
+returns-in_err-push-clause-one g c = IfOk-from_err c.from_residual.result _ c.from_residual.ensures.0
+
+pub loop-i-smaller : goal.loop-i-smaller
+loop-i-smaller g c = falls (length c.args.made.now) c.loop-i.i-index c.loop-i-test.true
+
+pub returns-clause-range : goal.returns-clause-range
+returns-clause-range g c = c.loop-i.invariant.range

@@ -1,4 +1,4 @@
-use Rattle.std.proofs.Common.{rules, arith, [], ◌≡◌, ◌^◌, ◌<◌, ◌*◌, ◌==◌, ◌&&◌, ◌++◌, ◌∷◌, length, sym, ◌∙◌, ap, subst, is_none, not}
+use Rattle.std.proofs.Common.{arith, [], ◌≡◌, ◌^◌, ◌<◌, ◌*◌, ◌==◌, ◌&&◌, ◌++◌, ◌∷◌, length, sym, ◌∙◌, ap, subst, is_none, not}
 use Rattle.std.proofs.Common.{ℕ, ℤ, Bool, List, Option, map, pos, cond}
 use Rattle.std.specs.Prelude.{flat_map, nat_eq, nat_lt, slice_index}
 use Rattle.std.proofs.lemmas.Result.{IfOk-from_err}
@@ -74,7 +74,7 @@ parent_links-requires g c =
     let h = c.requires.ended in let st = h.stands in record {
       fits = λ e p q.
           let small = parent_small _ _ _ _ _ st (ended h) e p (ap (λ xs. some_at xs e) (sym c.deref.ensures.value) ∙ q) in
-          let few : length c.deref.result.now * 8 < 2 ^ 64 = search rules in
+          let few : length c.deref.result.now * 8 < 2 ^ 64 = (let room = c.deref.type_inv.1 in omega (arith, room)) in
           let same : length c.deref.result.now ≡ h.graph.size = ap length c.deref.ensures.value ∙ st.sized.parent in
           omega (arith, small, few, same);
     }
@@ -98,7 +98,7 @@ pub of_elements-requires-clause-fits : goal.of_elements-requires-clause-fits
 of_elements-requires-clause-fits g c = λ e some.
     let h = c.requires.ended in let w = c.args.work.now in let st = h.stands in
     let small = block_small _ _ _ _ _ st (ended h) e (subst (λ xs. 0 < num xs e) c.deref-2.ensures.value some) in
-    let few : length c.deref-2.result.now * 8 < 2 ^ 64 = search rules in
+    let few : length c.deref-2.result.now * 8 < 2 ^ 64 = (let room = c.deref-2.type_inv.1 in omega (arith, room)) in
     let same : length c.deref-2.result.now ≡ h.graph.size = ap length c.deref-2.ensures.value ∙ st.sized.block in
     let is : num c.deref-3.result.now e ≡ num w.block.items e = ap (λ xs. num xs e) c.deref-3.ensures.value in
     omega (arith, small, few, same, is)
@@ -123,7 +123,7 @@ pub of_elements-requires-2-clause-fits : goal.of_elements-requires-2-clause-fits
 of_elements-requires-2-clause-fits g c = λ e some.
     let h = c.requires.ended in let w = c.args.work.now in let st = h.stands in
     let small = front_small _ _ _ _ _ st (ended h) e (subst (λ xs. 0 < num xs e) c.deref-4.ensures.value some) in
-    let few : length c.deref-4.result.now * 8 < 2 ^ 64 = search rules in
+    let few : length c.deref-4.result.now * 8 < 2 ^ 64 = (let room = c.deref-4.type_inv.1 in omega (arith, room)) in
     let same : length c.deref-4.result.now ≡ h.graph.size = ap length c.deref-4.ensures.value ∙ st.sized.block in
     let is : num c.deref-5.result.now e ≡ num w.front.items e = ap (λ xs. num xs e) c.deref-5.ensures.value in
     omega (arith, small, few, same, is)
@@ -151,7 +151,7 @@ postorder-requires-clause-forest g c =
 pub postorder-requires-clause-numbers : goal.postorder-requires-clause-numbers
 postorder-requires-clause-numbers g c =
     let st = c.requires.ended.stands in let w = c.args.work.now in
-    let few : length c.deref-2.result.now * 8 < 2 ^ 64 = search rules in
+    let few : length c.deref-2.result.now * 8 < 2 ^ 64 = (let room = c.deref-2.type_inv.1 in omega (arith, room)) in
     let same : length c.deref-2.result.now ≡ c.requires.ended.graph.size = ap length c.deref-2.ensures.value ∙ st.sized.block in
     let size : c.len.result ≡ c.requires.ended.graph.size = c.len.ensures ∙ w.size.ok.0 ∙ st.sized.size in
     omega (arith, few, same, size)

@@ -1,3 +1,4 @@
+-- the goals of marks::add_classes.
 use Rattle.std.proofs.Common.{ℕ, List, Bool, true, false, [], ◌∷◌, ◌++◌, fold, ◌≡◌, ◌<◌, ◌+◌, ◌∙◌, ◌||◌, sym, ap, length, set}
 use Rattle.std.proofs.Common.{length-set, get_or, drop}
 use Rattle.std.specs.Prelude.{nat_lt}
@@ -8,6 +9,9 @@ use Rattle.amd_model.proofs.Quotient.Lists.{filter_yes, filter_no}
 use Rattle.amd_plain.specs.Views.{mark_at, num, plain_live}
 use Rattle.amd_plain.proofs.MarkLists.{marks_next, marks_end, marks_old, marked_passed, unmarked_added, known_added}
 use Rattle.std.proofs.Common.{lt_of_lt_of_le, le_of_eq}
+use Rattle.std.proofs.Common.{refl}
+use borrow.Author.Count.{falls}
+use Rattle.std.proofs.lemmas.Result.{IfOk-from_err}
 use Rattle.amd_plain.proofs.marks.add_classes.Goals as goal
 use Rattle.amd_plain.proofs.marks.add_classes.Goals.{then-size-j-gt0+then-not-index+in_ok-push, else-size-j-gt0}
 use Rattle.amd_plain.proofs.marks.add_classes.Goals.{else-size-j-gt0-via-then-size-j-gt0+else-not-index}
@@ -82,3 +86,33 @@ returns-clause-list g c =
     sym (at_drop_all (λ xs. fold (add_new (mark_at c.loop-j.marks.items)) c.loop-j.out.items (plain_live c.args.size.now xs))
     c.args.list.now
     c.loop-j.j-index c.loop-j-test.false) ∙ c.loop-j.invariant.list
+
+pub loop-j-init : goal.loop-j-init
+loop-j-init g c = record { size = refl; known = c.requires.known; list = refl; marked = λ j. refl }
+
+pub bounds-list-j-index : goal.bounds-list-j-index
+bounds-list-j-index g c = c.loop-j-test.true
+
+pub bounds-size-j : goal.bounds-size-j
+bounds-size-j g c = lt_of_lt_of_le (c.requires.range c.loop-j.j-index 0 c.loop-j-test.true)
+    (le_of_eq (sym (c.requires.lengths)))
+
+pub index-requires : goal.index-requires
+index-requires g c = lt_of_lt_of_le (c.requires.range c.loop-j.j-index 0 c.loop-j-test.true)
+    (le_of_eq (sym (c.loop-j.marks.ok.0 ∙ c.loop-j.invariant.size)))
+
+pub index_mut-requires : goal.index_mut-requires
+index_mut-requires g c = lt_of_lt_of_le (c.requires.range c.loop-j.j-index 0 c.loop-j-test.true)
+    (le_of_eq (sym (c.loop-j.marks.ok.0 ∙ c.loop-j.invariant.size)))
+
+pub loop-j-smaller : goal.loop-j-smaller
+loop-j-smaller g c = falls (length c.args.list.now) c.loop-j.j-index c.loop-j-test.true
+
+pub returns-in_err-push-clause-list : goal.returns-in_err-push-clause-list
+returns-in_err-push-clause-list g c = IfOk-from_err c.from_residual.result _ c.from_residual.ensures.0
+
+pub returns-in_err-push-clause-marked : goal.returns-in_err-push-clause-marked
+returns-in_err-push-clause-marked g c = IfOk-from_err c.from_residual.result _ c.from_residual.ensures.0
+
+pub returns-clause-size : goal.returns-clause-size
+returns-clause-size g c = c.loop-j.invariant.size

@@ -1,9 +1,13 @@
+-- the goals of marks::add_unmarked.
 use Rattle.std.proofs.Common.{ℕ, List, Bool, true, false, [], ◌∷◌, ◌++◌, fold, ◌≡◌, ◌<◌, ◌+◌, ◌∙◌, ◌||◌, sym, ap, length, set}
 use Rattle.std.proofs.Common.{length-set, get_or, drop, lt_of_lt_of_le, le_of_eq}
 use Rattle.std.proofs.lemmas.List.{at_drop_more, at_drop_all, get_or_read}
 use Rattle.amd_model.specs.Quotient.{has, add_new}
 use Rattle.amd_plain.specs.Views.{mark_at}
 use Rattle.amd_plain.proofs.MarkLists.{marks_next, marks_end, marks_old, marked_passed, unmarked_added, known_added}
+use Rattle.std.proofs.lemmas.Result.{IfOk-from_err}
+use Rattle.std.proofs.Common.{refl}
+use borrow.Author.Count.{falls}
 use Rattle.amd_plain.proofs.marks.add_unmarked.Goals as goal
 use Rattle.amd_plain.proofs.marks.add_unmarked.Goals.{then-not-index+in_ok-push, else-not-index}
 
@@ -56,3 +60,29 @@ pub returns-clause-list : goal.returns-clause-list
 returns-clause-list g c =
     sym (at_drop_all (λ xs. fold (add_new (mark_at c.loop-j.marks.items)) c.loop-j.out.items xs) c.args.list.now
     c.loop-j.j-index c.loop-j-test.false) ∙ c.loop-j.invariant.list
+
+pub bounds-list-j-index : goal.bounds-list-j-index
+bounds-list-j-index g c = c.loop-j-test.true
+
+pub loop-j-smaller : goal.loop-j-smaller
+loop-j-smaller g c = falls (length c.args.list.now) c.loop-j.j-index c.loop-j-test.true
+
+pub loop-j-init : goal.loop-j-init
+loop-j-init g c = record { size = refl; known = c.requires.known; list = refl; marked = λ j. refl }
+
+pub index-requires : goal.index-requires
+index-requires g c = lt_of_lt_of_le (c.requires.range c.loop-j.j-index 0 c.loop-j-test.true)
+    (le_of_eq (sym (c.loop-j.marks.ok.0 ∙ c.loop-j.invariant.size)))
+
+pub index_mut-requires : goal.index_mut-requires
+index_mut-requires g c = lt_of_lt_of_le (c.requires.range c.loop-j.j-index 0 c.loop-j-test.true)
+    (le_of_eq (sym (c.loop-j.marks.ok.0 ∙ c.loop-j.invariant.size)))
+
+pub returns-in_err-push-clause-list : goal.returns-in_err-push-clause-list
+returns-in_err-push-clause-list g c = IfOk-from_err c.from_residual.result _ c.from_residual.ensures.0
+
+pub returns-in_err-push-clause-marked : goal.returns-in_err-push-clause-marked
+returns-in_err-push-clause-marked g c = IfOk-from_err c.from_residual.result _ c.from_residual.ensures.0
+
+pub returns-clause-size : goal.returns-clause-size
+returns-clause-size g c = c.loop-j.invariant.size

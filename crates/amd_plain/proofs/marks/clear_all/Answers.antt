@@ -1,9 +1,12 @@
+-- the goals of marks::clear_all.
 use Rattle.std.proofs.Common.{ℕ, List, false, ◌<◌, ◌+◌, ◌∙◌, sym, length, length-set, get_or, drop, ◌&&◌, not}
 use Rattle.std.proofs.lemmas.List.{at_drop_more, at_drop_all}
 use Rattle.amd_model.specs.Quotient.{has}
 use Rattle.amd_plain.specs.Views.{mark_at}
 use Rattle.amd_plain.proofs.MarkLists.{clears_next, clears_end}
 use Rattle.std.proofs.Common.{lt_of_lt_of_le, le_of_eq}
+use Rattle.std.proofs.Common.{refl}
+use borrow.Author.Count.{falls}
 use Rattle.amd_plain.proofs.marks.clear_all.Goals as goal
 
 pub loop-j-preserved : goal.loop-j-preserved
@@ -20,3 +23,19 @@ pub returns-clause-cleared : goal.returns-clause-cleared
 returns-clause-cleared g c j =
     sym (at_drop_all (λ xs. mark_at c.loop-j.marks.items j && not (has xs j)) c.args.list.now c.loop-j.j-index c.loop-j-test.false ∙
     clears_end c.loop-j.marks.items j) ∙ c.loop-j.invariant.cleared j
+
+pub bounds-list-j-index : goal.bounds-list-j-index
+bounds-list-j-index g c = c.loop-j-test.true
+
+pub loop-j-smaller : goal.loop-j-smaller
+loop-j-smaller g c = falls (length c.args.list.now) c.loop-j.j-index c.loop-j-test.true
+
+pub loop-j-init : goal.loop-j-init
+loop-j-init g c = record { size = refl; cleared = λ j. refl }
+
+pub index_mut-requires : goal.index_mut-requires
+index_mut-requires g c = lt_of_lt_of_le (c.requires.range c.loop-j.j-index 0 c.loop-j-test.true)
+    (le_of_eq (sym (c.loop-j.marks.ok.0 ∙ c.loop-j.invariant.size)))
+
+pub returns-clause-size : goal.returns-clause-size
+returns-clause-size g c = c.loop-j.invariant.size

@@ -1,3 +1,4 @@
+-- the goals of marks::front_of.
 use Rattle.std.proofs.Common.{ℕ, List, Bool, true, [], fold, flat_map, ◌≡◌, ◌<◌, ◌≤◌, ◌+◌, ◌∙◌, ◌||◌, sym, ap, arith, length, length-set}
 use Rattle.std.proofs.Common.{get_or, drop}
 use Rattle.std.specs.Prelude.{◌==◌}
@@ -10,6 +11,8 @@ use Rattle.amd_plain.proofs.MarkLists.{marks_one, gathered_list, gathered_marks,
 use Rattle.std.proofs.Common.{lt_of_lt_of_le, le_of_eq, refl}
 use Rattle.std.proofs.Math.Bool.{or-true}
 use Rattle.amd_plain.proofs.ReadLists.{read_below}
+use borrow.Author.Count.{falls}
+use Rattle.std.proofs.lemmas.Result.{IfOk-from_err}
 use Rattle.amd_plain.proofs.marks.front_of.Goals as goal
 
 pub elements-init : goal.elements-init
@@ -137,3 +140,32 @@ add_classes-requires-clause-known g c j h =
 pub add_classes-requires-2-clause-known : goal.add_classes-requires-2-clause-known
 add_classes-requires-2-clause-known g c j h =
     c.elements.invariant.marked j ∙ ap (λ b. (j == c.args.pivot) || b) h ∙ or-true (j == c.args.pivot)
+
+pub index_mut-requires : goal.index_mut-requires
+index_mut-requires g c = lt_of_lt_of_le (c.requires.pivot)
+    (le_of_eq (sym (c.args.marks.now.ok.0 ∙ c.requires.size)))
+
+pub index-requires : goal.index-requires
+index-requires g c = lt_of_lt_of_le (c.requires.pivot)
+    (le_of_eq (sym (c.args.lists.now.elements.ok.0 ∙ c.requires.elements.0)))
+
+pub index-requires-2 : goal.index-requires-2
+index-requires-2 g c = lt_of_lt_of_le (c.requires.pivot)
+    (le_of_eq (sym (c.args.lists.now.variables.ok.0 ∙ c.requires.variables.0)))
+
+pub returns-in_err-add_classes-clause-list : goal.returns-in_err-add_classes-clause-list
+returns-in_err-add_classes-clause-list g c = IfOk-from_err c.from_residual.result _ c.from_residual.ensures.0
+
+pub returns-in_err-add_classes-clause-marked : goal.returns-in_err-add_classes-clause-marked
+returns-in_err-add_classes-clause-marked g c = IfOk-from_err c.from_residual.result _ c.from_residual.ensures.0
+
+pub returns-in_err-add_classes-2-clause-list : goal.returns-in_err-add_classes-2-clause-list
+returns-in_err-add_classes-2-clause-list g c =
+    IfOk-from_err c.from_residual-in_err-add_classes-2.result _ c.from_residual-in_err-add_classes-2.ensures.0
+
+pub returns-in_err-add_classes-2-clause-marked : goal.returns-in_err-add_classes-2-clause-marked
+returns-in_err-add_classes-2-clause-marked g c =
+    IfOk-from_err c.from_residual-in_err-add_classes-2.result _ c.from_residual-in_err-add_classes-2.ensures.0
+
+pub elements-smaller : goal.elements-smaller
+elements-smaller g c = falls (length c.deref-e-items.result.now) c.elements.e-index c.elements-test.true

@@ -1,3 +1,4 @@
+-- the goals of marks::touched_by.
 use Rattle.std.proofs.Common.{ℕ, List, fold, flat_map, ◌≡◌, ◌<◌, ◌+◌, ◌∙◌, ◌||◌, sym, ap, length, get_or, drop}
 use Rattle.std.proofs.lemmas.List.{at_drop_more}
 use Rattle.amd_model.specs.Quotient.{has, add_new}
@@ -8,6 +9,8 @@ use Rattle.std.proofs.Common.{lt_of_lt_of_le, le_of_eq, refl}
 use Rattle.std.proofs.lemmas.List.{at_drop_all}
 use Rattle.std.proofs.Math.Bool.{or-true}
 use Rattle.amd_plain.proofs.ReadLists.{read_below}
+use Rattle.std.proofs.lemmas.Result.{IfOk-from_err}
+use borrow.Author.Count.{falls}
 use Rattle.amd_plain.proofs.marks.touched_by.Goals as goal
 
 pub front-init : goal.front-init
@@ -75,3 +78,29 @@ add_unmarked-requires-clause-known g c j h = let own = has (list_at c.args.eleme
 
 pub returns-in_err-add_unmarked-clause-size : goal.returns-in_err-add_unmarked-clause-size
 returns-in_err-add_unmarked-clause-size g c = c.in_err-add_unmarked.ensures.size ∙ c.front.invariant.size
+
+pub bounds-front-i-index : goal.bounds-front-i-index
+bounds-front-i-index g c = c.front-test.true
+
+pub front-smaller : goal.front-smaller
+front-smaller g c = falls (length c.args.front.now) c.front.i-index c.front-test.true
+
+pub index-requires : goal.index-requires
+index-requires g c = lt_of_lt_of_le (c.requires.pivot)
+    (le_of_eq (sym (c.args.elements.now.ok.0 ∙ c.requires.elements.0)))
+
+pub index-requires-in-front : goal.index-requires-in-front
+index-requires-in-front g c = lt_of_lt_of_le (c.requires.range c.front.i-index 0 c.front-test.true)
+    (le_of_eq (sym (c.args.elements.now.ok.0 ∙ c.requires.elements.0)))
+
+pub returns-in_err-add_unmarked-clause-list : goal.returns-in_err-add_unmarked-clause-list
+returns-in_err-add_unmarked-clause-list g c = IfOk-from_err c.from_residual.result _ c.from_residual.ensures.0
+
+pub returns-in_err-add_unmarked-clause-marked : goal.returns-in_err-add_unmarked-clause-marked
+returns-in_err-add_unmarked-clause-marked g c = IfOk-from_err c.from_residual.result _ c.from_residual.ensures.0
+
+pub returns-clause-size : goal.returns-clause-size
+returns-clause-size g c = c.front.invariant.size
+
+pub returns-clause-marked : goal.returns-clause-marked
+returns-clause-marked g c = c.front.invariant.marked

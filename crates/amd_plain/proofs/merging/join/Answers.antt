@@ -1,3 +1,4 @@
+-- the goals of merging::join.
 use Rattle.std.proofs.Common.{◌≡◌, ◌≢◌, ◌<◌, ◌+◌, ℕ, Bool, true, false, List, length, get_or, set, arith, ap, sym, refl, subst, ◌∙◌, ◌&&◌}
 use Rattle.std.proofs.Common.{not, cond, Option, None, Some}
 use Rattle.std.specs.Prelude.{◌==◌}
@@ -10,6 +11,7 @@ use Rattle.amd_plain.proofs.Kept.{changed_more, changed_none, unchanged, changed
 use Rattle.amd_round_laws.proofs.Lists.Named.{has_at, below_gives}
 use Rattle.amd_plain.proofs.Joins.{Merged, merged_none, merged_stays, merged_fits, merged_moves, merged_all}
 use Rattle.std.proofs.Common.{lt_of_lt_of_le, le_of_eq}
+use borrow.Author.Count.{falls}
 use Rattle.amd_plain.proofs.merging.join.Goals as goal
 use Rattle.amd_plain.proofs.merging.join.Goals.{then-r-i, else-r-i}
 
@@ -130,3 +132,20 @@ returns-clause-links g c = λ x.
     both : (a b : Bool) (s o : Option ℕ) → cond a (cond b s o) o ≡ cond (a && b) s o
     both true b s o = refl
     both false b s o = refl
+
+pub bounds-rest-i-index : goal.bounds-rest-i-index
+bounds-rest-i-index g c = c.loop-i-test.true
+
+pub bounds-into-i : goal.bounds-into-i
+bounds-into-i g c = lt_of_lt_of_le (c.requires.range c.loop-i.i-index 0 c.loop-i-test.true)
+    (le_of_eq (sym (c.requires.lengths.0)))
+
+pub index-requires : goal.index-requires
+index-requires g c = lt_of_lt_of_le (c.requires.range c.loop-i.i-index 0 c.loop-i-test.true)
+    (le_of_eq (sym (c.loop-i.size.ok.0 ∙ c.loop-i.invariant.size_room)))
+
+pub loop-i-smaller : goal.loop-i-smaller
+loop-i-smaller g c = falls (length c.args.rest.now) c.loop-i.i-index c.loop-i-test.true
+
+pub returns-clause-lengths : goal.returns-clause-lengths
+returns-clause-lengths g c = (c.loop-i.invariant.size_room, c.loop-i.invariant.link_room)

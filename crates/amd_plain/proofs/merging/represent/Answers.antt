@@ -1,3 +1,4 @@
+-- the goals of merging::represent.
 use Rattle.std.proofs.Common.{◌≡◌, ◌<◌, ◌++◌, ◌∷◌, [], inl, inr, ℕ, length, set, sym, ap, subst, ◌∙◌}
 use Rattle.std.specs.Prelude.{◌==◌}
 use Rattle.std.proofs.lemmas.Bool.{cases_eq, eq-eqb, ne_eqb, cond-true, cond-false}
@@ -11,6 +12,7 @@ use Rattle.std.proofs.Common.{true, get_or-set_other, lt_of_lt_of_le, le_of_eq, 
 use Rattle.amd_plain.specs.Views.{num}
 use Rattle.amd_plain.specs.Rounds.{plain_alike}
 use Rattle.amd_plain.proofs.ReadLists.{read_below}
+use Rattle.std.proofs.lemmas.Result.{IfOk-from_err}
 use Rattle.amd_plain.proofs.merging.represent.Goals as goal
 
 pub representative_in-found-requires-clause-comparable : goal.representative_in-found-requires-clause-comparable
@@ -112,3 +114,44 @@ returns-in-Some-clause-ready g c = record {
   beyond = c.requires.ready.beyond;
   into = length-set c.args.scratch.now.into.items c.args.i c.in-Some.r ∙ c.requires.ready.into;
 }
+
+pub group_of-group-requires : goal.group_of-group-requires
+group_of-group-requires g c = record {
+  row = (c.requires.row, lt_of_lt_of_le c.requires.row (le_of_eq (sym c.requires.variables.0)));
+}
+
+pub index-requires : goal.index-requires
+index-requires g c = lt_of_lt_of_le (c.group_of-group.ensures.range)
+    (le_of_eq (sym (c.args.scratch.now.groups.ok.0 ∙ c.requires.ready.groups.0)))
+
+pub representative_in-found-requires-clause-elements : goal.representative_in-found-requires-clause-elements
+representative_in-found-requires-clause-elements g c = c.requires.ready.elements
+
+pub representative_in-found-requires-clause-rows : goal.representative_in-found-requires-clause-rows
+representative_in-found-requires-clause-rows g c = c.requires.ready.rows
+
+pub index_mut-requires : goal.index_mut-requires
+index_mut-requires g c = lt_of_lt_of_le (c.requires.row)
+    (le_of_eq (sym (c.args.scratch.now.into.ok.0 ∙ c.requires.ready.into)))
+
+pub index_mut-requires-in-None : goal.index_mut-requires-in-None
+index_mut-requires-in-None g c = lt_of_lt_of_le (c.group_of-group.ensures.range)
+    (le_of_eq (sym (c.args.scratch.now.groups.ok.0 ∙ c.requires.ready.groups.0)))
+
+pub returns-in-Some-clause-beyond : goal.returns-in-Some-clause-beyond
+returns-in-Some-clause-beyond g c = refl
+
+pub returns-in_ok-push-in-None-clause-beyond : goal.returns-in_ok-push-in-None-clause-beyond
+returns-in_ok-push-in-None-clause-beyond g c = refl
+
+pub returns-in_err-push-in-None-clause-looked : goal.returns-in_err-push-in-None-clause-looked
+returns-in_err-push-in-None-clause-looked g c = IfOk-from_err c.from_residual.result _ c.from_residual.ensures.0
+
+pub returns-in_err-push-in-None-clause-others : goal.returns-in_err-push-in-None-clause-others
+returns-in_err-push-in-None-clause-others g c = IfOk-from_err c.from_residual.result _ c.from_residual.ensures.0
+
+pub returns-in_err-push-in-None-clause-ready : goal.returns-in_err-push-in-None-clause-ready
+returns-in_err-push-in-None-clause-ready g c = IfOk-from_err c.from_residual.result _ c.from_residual.ensures.0
+
+pub returns-in_err-push-in-None-clause-beyond : goal.returns-in_err-push-in-None-clause-beyond
+returns-in_err-push-in-None-clause-beyond g c = IfOk-from_err c.from_residual.result _ c.from_residual.ensures.0

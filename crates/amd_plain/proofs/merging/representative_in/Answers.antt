@@ -1,3 +1,4 @@
+-- the goals of merging::representative_in.
 use Rattle.std.proofs.Common.{ap, sym, ◌∙◌}
 use Rattle.std.proofs.lemmas.Bool.{eqb-true, false≢true}
 use Rattle.std.proofs.lemmas.List.{nil_from_length}
@@ -87,3 +88,28 @@ returns-clause-elements g c = (
 
 pub returns-clause-found : goal.returns-clause-found
 returns-clause-found g c = c.first_alike-found.ensures
+
+pub returns-then-is_empty-clause-elements : goal.returns-then-is_empty-clause-elements
+returns-then-is_empty-clause-elements g c = c.requires.elements
+
+pub returns-then-is_empty-clause-rows : goal.returns-then-is_empty-clause-rows
+returns-then-is_empty-clause-rows g c = c.requires.rows
+
+pub index-requires : goal.index-requires
+index-requires g c = lt_of_lt_of_le c.requires.comparable.row (le_of_eq (sym c.args.lists.now.elements.ok.0))
+
+pub index-requires-2 : goal.index-requires-2
+index-requires-2 g c = lt_of_lt_of_le (c.requires.comparable.row)
+    (le_of_eq (sym (c.args.lists.now.variables.ok.0 ∙ c.requires.comparable.variables.0)))
+
+pub returns-clause-rows : goal.returns-clause-rows
+returns-clause-rows g c =
+    let vs = c.args.lists.now.variables.items in
+    let row = lt_of_lt_of_le c.requires.comparable.row (le_of_eq (sym c.requires.comparable.variables.0)) in (
+      c.clear_all-2.ensures.size ∙ c.mark_all-2.ensures.size ∙ c.requires.rows.0,
+      λ j. cleared_own j (mark_at c.args.rows.now.items j) (mark_at c.mark_all-2.new.marks.items j)
+          (mark_at c.clear_all-2.new.marks.items j) c.deref-2.result.now c.deref-6.result.now (c.requires.rows.1 j)
+          (c.mark_all-2.ensures.marked j) (c.clear_all-2.ensures.cleared j)
+          (list_deref vs c.args.i c.index-2.result.now c.deref-2.result.now row c.index-2.ensures c.deref-2.ensures.value
+          ∙ sym (list_deref vs c.args.i c.index-4.result.now c.deref-6.result.now row c.index-4.ensures c.deref-6.ensures.value)),
+    )

@@ -1,4 +1,5 @@
-use Rattle.std.proofs.Common.{rules, ℕ, List, ◌≡◌, ◌<◌, ◌∙◌, ap, length, refl, subst}
+-- the goals of rounds::make_element.
+use Rattle.std.proofs.Common.{ℕ, List, ◌≡◌, ◌<◌, ◌∙◌, ap, length, refl, subst}
 use Rattle.std.specs.Prelude.{flat_map, ◌++◌, ◌==◌}
 use Rattle.amd_plain.specs.Views.{list_at, plain_live, ListsBelow}
 use Rattle.amd_plain.specs.Buckets.{Chosen}
@@ -6,6 +7,7 @@ use Rattle.amd_plain.specs.Rounds.{firsts, plain_counts, PlainAbsorbed}
 use Rattle.amd_plain.specs.Keeps.{IsIdle}
 use Rattle.amd_plain.specs.declared.work.PlainLists.{PlainLists}
 use Rattle.amd_plain.proofs.FrontLists.{pivot_below, front_below, front_once, front_other}
+use Rattle.std.proofs.lemmas.Result.{IfOk-from_err}
 use Rattle.amd_plain.proofs.rounds.make_element.Goals as goal
 
 -- the list of the element of a pivot
@@ -48,7 +50,7 @@ pub front_of-requires-clause-clear : goal.front_of-requires-clause-clear
 front_of-requires-clause-clear g c = c.requires.sized.idle.rows.1
 
 pub returns-in_err-front : goal.returns-in_err-front
-returns-in_err-front g c = search rules
+returns-in_err-front g c = record { makes = IfOk-from_err c.from_residual.result _ c.from_residual.ensures.0 }
 
 pub absorb-requires-clause-fronts : goal.absorb-requires-clause-fronts
 absorb-requires-clause-fronts g c = let s = c.requires.sized in
@@ -97,7 +99,7 @@ absorb-requires-clause-marked g c = let idle = c.requires.sized.idle in
     })
 
 pub returns-in_err-absorb : goal.returns-in_err-absorb
-returns-in_err-absorb g c = search rules
+returns-in_err-absorb g c = record { makes = IfOk-from_err c.from_residual-in_err-absorb.result _ c.from_residual-in_err-absorb.ensures.0 }
 
 pub returns : goal.returns
 returns g c =

@@ -1,9 +1,11 @@
-use Rattle.std.proofs.Common.{rules, ℕ, true, List, ◌∷◌, ◌++◌, ◌≡◌, ◌<◌, ◌+◌, ◌∙◌, ◌==◌, inl, inr, ap, refl, sym, arith, subst, cond}
+-- the goals of rounds::renew_classes.
+use Rattle.std.proofs.Common.{ℕ, true, List, ◌∷◌, ◌++◌, ◌≡◌, ◌<◌, ◌+◌, ◌∙◌, ◌==◌, inl, inr, ap, refl, sym, arith, subst, cond}
 use Rattle.std.proofs.Common.{filter, length, length-set, lt_of_lt_of_le, le_of_eq, le_trans}
 use Rattle.amd_model.specs.Quotient.{has, turned}
 use Rattle.amd_plain.specs.Views.{num, list_at, ListsBelow}
 use Rattle.amd_plain.proofs.ListPlaces.{lists_set, put_at, list_written}
 use Rattle.amd_plain.proofs.RenewedParts.{renewed, renewed_small}
+use Rattle.std.proofs.lemmas.Result.{IfOk-from_err}
 use Rattle.amd_plain.proofs.rounds.renew_classes.Goals as goal
 
 pub renew_bounds-requires-clause-lengths : goal.renew_bounds-requires-clause-lengths
@@ -54,7 +56,7 @@ pub renew_lists-requires-clause-once : goal.renew_lists-requires-clause-once
 renew_lists-requires-clause-once g c = rw c.deref-4.ensures.value c.requires.once
 
 pub returns-in_err-renew_lists : goal.returns-in_err-renew_lists
-returns-in_err-renew_lists g c = search rules
+returns-in_err-renew_lists g c = record { renews = IfOk-from_err c.from_residual.result _ c.from_residual.ensures.0 }
 
 pub place_all-requires-clause-range : goal.place_all-requires-clause-range
 place_all-requires-clause-range g c =
@@ -83,7 +85,8 @@ place_all-requires-clause-small g c =
     omega (arith, s, e, row))
 
 pub returns-in_err-place_all : goal.returns-in_err-place_all
-returns-in_err-place_all g c = search rules
+returns-in_err-place_all g c =
+    record { renews = IfOk-from_err c.from_residual-in_err-place_all.result _ c.from_residual-in_err-place_all.ensures.0 }
 
 pub index_mut-requires : goal.index_mut-requires
 index_mut-requires g c =

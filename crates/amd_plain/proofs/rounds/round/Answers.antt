@@ -1,4 +1,5 @@
-use Rattle.std.proofs.Common.{rules, ◌<◌, arith, length, subst, sym}
+-- the goals of rounds::round.
+use Rattle.std.proofs.Common.{◌<◌, arith, length, subst, sym}
 use Rattle.std.specs.Prelude.{◌^◌}
 use Rattle.std.proofs.lemmas.Result.{on_ok_weaker}
 use Rattle.amd_plain.specs.Parts.{MergesPlainClasses}
@@ -7,6 +8,7 @@ use Rattle.amd_plain.proofs.BucketsLaw.{some_class}
 use Rattle.amd_plain.proofs.RoundParts.{merge_sized, merge_pivot, merge_range, merge_once, merge_lists_once, merge_live}
 use Rattle.amd_plain.proofs.RoundParts.{renew_sized, renew_pivot, renew_range, renew_once, renew_sizes, renew_small, renew_live}
 use Rattle.amd_plain.proofs.RoundParts.{renew_border, renew_dense, fewer, is_round}
+use Rattle.std.proofs.lemmas.Result.{IfOk-from_err}
 use Rattle.amd_plain.proofs.rounds.round.Goals as goal
 
 pub make_element-requires-clause-sized : goal.make_element-requires-clause-sized
@@ -18,10 +20,10 @@ make_element-requires-clause-some g c = let st = c.requires.stands in
     some_class st.0 st.1 c.args.work.now st.2 st.3 st.4 c.requires.left
 
 pub returns-in_err-pivot-clause-round : goal.returns-in_err-pivot-clause-round
-returns-in_err-pivot-clause-round g c = search rules
+returns-in_err-pivot-clause-round g c = IfOk-from_err c.from_residual.result _ c.from_residual.ensures.0
 
 pub returns-in_err-pivot-clause-fewer : goal.returns-in_err-pivot-clause-fewer
-returns-in_err-pivot-clause-fewer g c = search rules
+returns-in_err-pivot-clause-fewer g c = IfOk-from_err c.from_residual.result _ c.from_residual.ensures.0
 
 pub merge_classes-requires-clause-sized : goal.merge_classes-requires-clause-sized
 merge_classes-requires-clause-sized g c = let st = c.requires.stands in
@@ -55,10 +57,10 @@ merge_classes-requires-clause-live g c = let st = c.requires.stands in
     c.in_ok-pivot.pivot c.in_ok-pivot.front.items c.in_ok-pivot.ensures.makes)
 
 pub returns-in_err-made-clause-round : goal.returns-in_err-made-clause-round
-returns-in_err-made-clause-round g c = search rules
+returns-in_err-made-clause-round g c = IfOk-from_err c.from_residual-in_err-made.result _ c.from_residual-in_err-made.ensures.0
 
 pub returns-in_err-made-clause-fewer : goal.returns-in_err-made-clause-fewer
-returns-in_err-made-clause-fewer g c = search rules
+returns-in_err-made-clause-fewer g c = IfOk-from_err c.from_residual-in_err-made.result _ c.from_residual-in_err-made.ensures.0
 
 pub renew_classes-requires-clause-sized : goal.renew_classes-requires-clause-sized
 renew_classes-requires-clause-sized g c =
