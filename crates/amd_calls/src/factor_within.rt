@@ -122,8 +122,8 @@ fn columns_inside<I: Index>(
     requires room { slice_index (naturals (map I.value a_p.now)) (length parents.old) + 4 * length parents.old + 1
         ≤ length memory.old }
     ensures factor { IfOk result (λ total. (w : WritesFactor (pos (length parents.old)) (map I.value a_p.now)
-        (map I.value a_i.now) (map I.value p.now) (map I.value rows.old) (map I.value rows.new) pointers.new parents.new)
-        × (total ≡ length w.entries)) }
+        (map I.value a_i.now) (map I.value p.now) (map I.value rows.old) (map I.value rows.new) pointers.new
+        parents.new) × (total ≡ length w.entries)) }
     ensures fault { IfErr result (IsFault (pos (length parents.old)) (map I.value a_p.now) (map I.value a_i.now)
         (map I.value p.now) (length rows.old)) }
     ensures reason { IfErr result (λ e. (e ≡ NotPermutation) ⊎ (e ≡ RoomTooSmall)) }

@@ -149,8 +149,8 @@ fn column<I: Index, V: Visitor, U: Unsigned, A: Allocator>(
     diagonal
 }
 
-/// Reads the rows of column `j`, one of `size`, from the place `first` on. They are all that is left of it, so no row is
-/// compared.
+/// Reads the rows of column `j`, one of `size`, from the place `first` on. They are all that is left of it, so no row
+/// is compared.
 fn column_end<I: Index, V: Visitor>(
     size: usize,
     j: usize,
@@ -293,8 +293,8 @@ pub fn lower_first<I: Index>(size: usize, j: usize, a_p: &[I], a_i: &[I]) -> usi
     }
 }
 
-/// As `walk`, where no entry of the matrix is above the diagonal: no column waits for another one, so no pointer is kept
-/// of how far it was read.
+/// As `walk`, where no entry of the matrix is above the diagonal: no column waits for another one, so no pointer is
+/// kept of how far it was read.
 pub fn walk_lower<I: Index, V: Visitor>(size: usize, a_p: &[I], a_i: &[I], visitor: &mut V)
     requires form { IsColumnForm (pos size) size (map I.value a_p.now) (map I.value a_i.now) }
     requires sorted { IsSorted size (map I.value a_p.now) (map I.value a_i.now) }

@@ -63,11 +63,13 @@ fn column<I: Index, V: ArcVisitor>(
     requires form { IsColumnForm (pos size) size (map I.value a_p.now) (map I.value a_i.now) }
     requires places { (rows : List ℕ) × ArePlaces size rows places.now }
     requires column_in { column < size }
-    requires held { V.holds size (arcs_before places.now (naturals (map I.value a_p.now)) (naturals (map I.value a_i.now))
-        size) (arcs_before places.now (naturals (map I.value a_p.now)) (naturals (map I.value a_i.now)) column)
+    requires held { V.holds size
+        (arcs_before places.now (naturals (map I.value a_p.now)) (naturals (map I.value a_i.now)) size)
+        (arcs_before places.now (naturals (map I.value a_p.now)) (naturals (map I.value a_i.now)) column)
         visitor.now starts.old neighbours.old }
-    ensures held { V.holds size (arcs_before places.now (naturals (map I.value a_p.now)) (naturals (map I.value a_i.now))
-        size) (arcs_before places.now (naturals (map I.value a_p.now)) (naturals (map I.value a_i.now)) (column + 1))
+    ensures held { V.holds size
+        (arcs_before places.now (naturals (map I.value a_p.now)) (naturals (map I.value a_i.now)) size)
+        (arcs_before places.now (naturals (map I.value a_p.now)) (naturals (map I.value a_i.now)) (column + 1))
         visitor.now starts.new neighbours.new }
 {
     let here = places[column];

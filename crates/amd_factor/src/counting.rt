@@ -101,8 +101,8 @@ pub fn matrix_counts<I: Index, A: Allocator + Copy>(
 /// for each row. Memory for a quarter of it is asked for before the first column, and more where this does not suffice,
 /// twice as much each time. Where all that room is not enough, where more rows than that have to be marked again, or
 /// where there are 2^31 rows, it is given back. Then the arcs are counted by their meetings in the elimination tree: no
-/// entry is written, and beside the lists of neighbours a few numbers a row are taken. So the steps are as many as there
-/// are rows and entries of the matrix, times at most the logarithm of the number of rows.
+/// entry is written, and beside the lists of neighbours a few numbers a row are taken. So the steps are as many as
+/// there are rows and entries of the matrix, times at most the logarithm of the number of rows.
 ///
 /// # Errors
 ///

@@ -20,8 +20,8 @@
 //! - `tree`, `ranks`, `meeting`, `sweep`, `sizes`: how many entries the columns have, in slices: the elimination tree,
 //!   its postorder, and a sweep over all arcs.
 //! - `needs`, `counted`, `sharing`, `counting`: what a factor needs; [`counts`], by columns that share their entries.
-//! - `partition`, `below`, `rows_below`, `supernodal`: [`supernodes`]: the places are cut into supernodes by the counts,
-//!   and the rows climb through these; [`supernode_partition`] and [`write_rows`] do the two apart.
+//! - `partition`, `below`, `rows_below`, `supernodal`: [`supernodes`]: the places are cut into supernodes by the
+//!   counts, and the rows climb through these; [`supernode_partition`] and [`write_rows`] do the two apart.
 //! - `sizing`, `expanding`: [`supernode_sizes`]: how much room they need; [`expand`]: their columns.
 //! - `supernode_laws`: a law of the supernodes.
 //! - `entrance`, `refusal`, `lent`, `inside`, `workspace`: [`FactorWorkspace`]: the input is tested, and counts and

@@ -327,8 +327,8 @@ fn share_columns<N: Index, A: Allocator>(
     Ok(Some(used))
 }
 
-/// Puts in the place of each end how many entries its column has, and in that of each link the parent of the column, its
-/// first entry.
+/// Puts in the place of each end how many entries its column has, and in that of each link the parent of the column,
+/// its first entry.
 fn tell_columns(starts: &[usize], firsts: &[usize], ends: &mut [usize], link: &mut [Option<usize>])
     requires places { (length starts.now ≡ length ends.old) × (length ends.old ≤ length firsts.now) ×
         (length link.old ≡ length ends.old) }

@@ -75,8 +75,8 @@ fn fitting_rows<I: Index>(
     Ok(size)
 }
 
-/// The bytes of the memory of exact factors for so many rows and entries in a block, where they are a number of 64 bits:
-/// 16 for each entry, 104 for each row, and 56, in whole units of 16.
+/// The bytes of the memory of exact factors for so many rows and entries in a block, where they are a number of 64
+/// bits: 16 for each entry, 104 for each row, and 56, in whole units of 16.
 pub fn factor_bytes(rows: usize, entries: usize) -> Option<usize>
     ensures { SomeIff result (factor_bytes rows entries < 2 ^ 64) (factor_bytes rows entries) }
 {
@@ -85,8 +85,8 @@ pub fn factor_bytes(rows: usize, entries: usize) -> Option<usize>
 }
 
 impl FactorWorkspace<Lodged> {
-    /// The memory of the exact factors of all matrices with at most so many rows and entries, in a block that the caller
-    /// lends; none, exactly where it has fewer than [`crate::factor_bytes`] bytes.
+    /// The memory of the exact factors of all matrices with at most so many rows and entries, in a block that the
+    /// caller lends; none, exactly where it has fewer than [`crate::factor_bytes`] bytes.
     pub fn in_block(block: Piece, rows: usize, entries: usize) -> Option<FactorWorkspace<Lodged>>
         ensures { MatchOption result (block.size < factor_bytes rows entries)
             (λ w. (factor_bytes rows entries ≤ block.size) × (w.rows ≡ rows) × (w.entries ≡ entries)) }

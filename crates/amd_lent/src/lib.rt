@@ -1,5 +1,5 @@
-//! Memory that a caller lends: as an allocator, which cuts pieces off one block and takes none back, and as lists that lie
-//! in it and never ask for more.
+//! Memory that a caller lends: as an allocator, which cuts pieces off one block and takes none back, and as lists that
+//! lie in it and never ask for more.
 #![tactic(auto)]
 
 mod lent;

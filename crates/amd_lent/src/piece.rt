@@ -57,7 +57,8 @@ impl Piece {
         unsafe { lodge(ptr as *mut T, 0, places) }
     }
 
-    /// An empty list with so many places in the first `size` bytes, which never asks for other memory, and what is left.
+    /// An empty list with so many places in the first `size` bytes, which never asks for other memory, and what is
+    /// left.
     pub fn split_list<T>(self, places: usize, size: usize) -> (Vec<T, Lodged>, Piece)
         requires cut { IsWhole size × (size ≤ self.size) }
         requires room { (places * type_size T.row ≤ size) × (places < 2 ^ 63) }

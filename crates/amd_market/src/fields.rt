@@ -150,7 +150,8 @@ fn bracket_place(text: &[u8]) -> Option<usize>
 /// What stands before the first bracket of a text, and the text from there on.
 fn at_bracket(text: &[u8]) -> Option<(&[u8], &[u8])>
     ensures { MatchOption result (All (λ b. is_bracket b ≡ false) text.now)
-        (λ p. (text.now ≡ p.0.now ++ p.1.now) × (slice_index p.1.now 0 ≡ 40) × All (λ b. is_bracket b ≡ false) p.0.now) }
+        (λ p. (text.now ≡ p.0.now ++ p.1.now) × (slice_index p.1.now 0 ≡ 40)
+        × All (λ b. is_bracket b ≡ false) p.0.now) }
 {
     let place = bracket_place(text)?;
     Some(text.split_at(place))

@@ -158,8 +158,8 @@ impl Unsigned for u32 {
     ghost narrow = { Prim.search rules };
 }
 
-/// A word of a workspace: contracts see an integer. It lies in memory as its number does, so that `amd_lending` can lend
-/// a slice of numbers as one of words.
+/// A word of a workspace: contracts see an integer. It lies in memory as its number does, so that `amd_lending` can
+/// lend a slice of numbers as one of words.
 #[derive(Drop)]
 #[repr(transparent)]
 pub struct Word<S: Signed> {

@@ -149,8 +149,8 @@ fn general_lists<I: Index, S: Signed, U: Unsigned, A: Allocator + Copy>(
     *words = own;
 }
 
-/// Lays the lists of a pattern of `size` rows that has no entry above the diagonal, entry by entry, over `fill` words that
-/// are written before and name rows. What `next` is afterwards is not said.
+/// Lays the lists of a pattern of `size` rows that has no entry above the diagonal, entry by entry, over `fill` words
+/// that are written before and name rows. What `next` is afterwards is not said.
 fn entry_lists<I: Index, S: Signed, U: Unsigned, A: Allocator + Copy>(
     size: usize,
     a_p: &[I],
@@ -178,9 +178,9 @@ fn entry_lists<I: Index, S: Signed, U: Unsigned, A: Allocator + Copy>(
     *words = own;
 }
 
-/// Lays the lists of a pattern of `size` rows that has no entry above the diagonal, `free` words in all, in `room` words
-/// at most: entry by entry, or where that takes longer row by row. What `next` is afterwards is not said. `heads` is
-/// empty and has room for a number of each column. Behind the lists stand `size` words or more that name rows.
+/// Lays the lists of a pattern of `size` rows that has no entry above the diagonal, `free` words in all, in `room`
+/// words at most: entry by entry, or where that takes longer row by row. What `next` is afterwards is not said. `heads`
+/// is empty and has room for a number of each column. Behind the lists stand `size` words or more that name rows.
 fn lower_lists<I: Index, S: Signed, U: Unsigned, A: Allocator + Copy>(
     size: usize,
     a_p: &[I],
@@ -211,8 +211,8 @@ fn lower_lists<I: Index, S: Signed, U: Unsigned, A: Allocator + Copy>(
 }
 
 /// Lays the lists of the neighbours of each of `size` rows, whose degrees stand in `len`, in `room` words at most.
-/// Answers where the last one ends. Those of a pattern that has no entry above the diagonal are written by `lower_lists`,
-/// all others by `general_lists`. Behind the lists stand `size` words or more that name rows; the rest
+/// Answers where the last one ends. Those of a pattern that has no entry above the diagonal are written by
+/// `lower_lists`, all others by `general_lists`. Behind the lists stand `size` words or more that name rows; the rest
 /// of the room is not written. What the memory held before, but for the degrees, is not read; it has room for `size`
 /// rows and `room` words, where none is needed for the numbers of rows, and keeps it.
 pub fn lay<I: Index, S: Signed, P: Signed, U: Unsigned, A: Allocator + Copy>(

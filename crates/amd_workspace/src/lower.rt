@@ -1,8 +1,8 @@
 // Long lists of a pattern that has no entry above the diagonal, row by row. There the list of a row is its earlier
-// neighbours, rising, and then its column below the diagonal. No pass searches for a place. One writes the columns, each
-// behind the room for the earlier neighbours of its row. Another one reads each column back, and adds its row to the
-// earlier neighbours of each row that it names; it follows the first one as soon as it can. Source: Amestoy, Davis and
-// Duff 2004 (the forming of A + A').
+// neighbours, rising, and then its column below the diagonal. No pass searches for a place. One writes the columns,
+// each behind the room for the earlier neighbours of its row. Another one reads each column back, and adds its row to
+// the earlier neighbours of each row that it names; it follows the first one as soon as it can. Source: Amestoy, Davis
+// and Duff 2004 (the forming of A + A').
 
 ghost use Rattle.std.specs.Prelude.{◌≡◌, ◌<◌, ◌≤◌, ◌+◌, ◌-◌, ◌++◌, ◌/◌, ℕ, List, true, map, length, pos, replicate};
 ghost use Rattle.std.specs.Prelude.{slice_index, slice_range};
@@ -247,10 +247,10 @@ fn lay_rows<I: Index, S: Signed, U: Unsigned, A: Allocator>(
     push_rows(iw, size - 1, size);
 }
 
-/// Lays the lists of a pattern of `size` rows that has no entry above the diagonal, row by row, in `room` words at most.
-/// What `next` is afterwards is not said. `heads` is empty and has room for a number of each column. Behind the lists
-/// stand `size` words that name rows; the rest of the room is not written. Where there is room for many words and the
-/// rows stand in any order, the earlier neighbours are written band by band.
+/// Lays the lists of a pattern of `size` rows that has no entry above the diagonal, row by row, in `room` words at
+/// most. What `next` is afterwards is not said. `heads` is empty and has room for a number of each column. Behind the
+/// lists stand `size` words that name rows; the rest of the room is not written. Where there is room for many words and
+/// the rows stand in any order, the earlier neighbours are written band by band.
 pub fn row_lists<I: Index, S: Signed, U: Unsigned, A: Allocator + Copy>(
     size: usize,
     a_p: &[I],

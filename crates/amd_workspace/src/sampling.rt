@@ -72,8 +72,8 @@ pub fn is_scattered<I: Index>(size: usize, a_p: &[I], a_i: &[I], room: usize) ->
 
 /// Whether the lists of `size` rows, `free` words in all, are written entry by entry over words that are filled before,
 /// with one loop for each column: where they are so short that loops for parts of them would cost more. They may be
-/// longer where they stay in a cache, or where the columns have different lengths, so that the ends of loops are hard to
-/// foresee.
+/// longer where they stay in a cache, or where the columns have different lengths, so that the ends of loops are hard
+/// to foresee.
 pub fn are_short<I: Index>(size: usize, a_p: &[I], a_i: &[I], free: usize) -> bool
     requires form { IsColumnForm (pos size) size (map I.value a_p.now) (map I.value a_i.now) }
 {
