@@ -2,15 +2,15 @@
 // search through the rows before it alone. No elimination occurs. Rows are named by their places.
 
 use crate::plain::{count_at, is_edge};
-use std::alloc::{AllocError, AllocFailed, Allocator};
+use std::alloc::{AllocError, AllocFailed, Global};
 
 /// The pattern of a factor.
 #[derive(Drop)]
-pub struct SearchedFactor<A: Allocator> {
+pub struct SearchedFactor {
     /// For each place the places of the rows that an edge joins with its row, rising.
-    pub edges: Vec<Vec<usize, A>, A>,
+    pub edges: Vec<Vec<usize>>,
     /// For each place the entries of its column, without the diagonal, rising.
-    pub columns: Vec<Vec<usize, A>, A>,
+    pub columns: Vec<Vec<usize>>,
 }
 
 /// What a factor needs: the sums of `c`, of `c (c + 1) / 2` and of `c^2` over the sizes `c` of its columns, and the
@@ -28,13 +28,13 @@ pub struct SearchedNeed {
 }
 
 /// The places of the rows that an edge joins with the row at place `k`, rising.
-fn edges_of<A: Allocator>(
-    alloc: A,
+fn edges_of(
+    alloc: Global,
     a_p: &[i64],
     a_i: &[i64],
     p: &[i64],
     k: usize,
-) -> Result<Vec<usize, A>, AllocFailed<usize>> {
+) -> Result<Vec<usize>, AllocFailed<usize>> {
     let mut places = Vec::new(alloc);
     for j in 0..p.len() {
         if is_edge(a_p, a_i, count_at(p, k), count_at(p, j)) {
@@ -45,12 +45,12 @@ fn edges_of<A: Allocator>(
 }
 
 /// For each place the places of the rows that an edge joins with its row, rising.
-fn edges_by_place<A: Allocator + Copy>(
-    alloc: A,
+fn edges_by_place(
+    alloc: Global,
     a_p: &[i64],
     a_i: &[i64],
     p: &[i64],
-) -> Result<Vec<Vec<usize, A>, A>, AllocError> {
+) -> Result<Vec<Vec<usize>>, AllocError> {
     let mut edges = Vec::new(alloc);
     for k in 0..p.len() {
         let places = edges_of(alloc, a_p, a_i, p, k)?;
@@ -60,11 +60,11 @@ fn edges_by_place<A: Allocator + Copy>(
 }
 
 /// Marks places as reached. The search goes on through those of them that come before place `k`, each once.
-fn reach<A: Allocator>(
+fn reach(
     places: &[usize],
     k: usize,
     reached: &mut [bool],
-    through: &mut Vec<usize, A>,
+    through: &mut Vec<usize>,
 ) -> Result<(), AllocFailed<usize>> {
     for &place in places {
         let Some(is_reached) = reached.get_mut(place) else {
@@ -79,11 +79,7 @@ fn reach<A: Allocator>(
 }
 
 /// For each place whether a path of edges leads to it from place `k`, all of whose inner places come before `k`.
-fn reached_from<A: Allocator + Copy>(
-    alloc: A,
-    edges: &[Vec<usize, A>],
-    k: usize,
-) -> Result<Vec<bool, A>, AllocError> {
+fn reached_from(alloc: Global, edges: &[Vec<usize>], k: usize) -> Result<Vec<bool>, AllocError> {
     let mut reached = vec![in alloc; false; edges.len()]?;
     let mut through = Vec::new(alloc);
     through.push(k)?;
@@ -99,11 +95,7 @@ fn reached_from<A: Allocator + Copy>(
 }
 
 /// The column of place `k`: the places after it that are reached through places before it, rising.
-fn column_of<A: Allocator + Copy>(
-    alloc: A,
-    edges: &[Vec<usize, A>],
-    k: usize,
-) -> Result<Vec<usize, A>, AllocError> {
+fn column_of(alloc: Global, edges: &[Vec<usize>], k: usize) -> Result<Vec<usize>, AllocError> {
     let reached = reached_from(alloc, edges, k)?;
     let mut column = Vec::new(alloc);
     for (place, &is_reached) in reached.iter().enumerate() {
@@ -115,12 +107,12 @@ fn column_of<A: Allocator + Copy>(
 }
 
 /// The factor of a matrix whose row `p[k]` stands at place `k`.
-pub fn factor_of<A: Allocator + Copy>(
-    alloc: A,
+pub fn factor_of(
+    alloc: Global,
     a_p: &[i64],
     a_i: &[i64],
     p: &[i64],
-) -> Result<SearchedFactor<A>, AllocError> {
+) -> Result<SearchedFactor, AllocError> {
     let edges = edges_by_place(alloc, a_p, a_i, p)?;
     let mut columns = Vec::new(alloc);
     for k in 0..p.len() {
@@ -131,7 +123,7 @@ pub fn factor_of<A: Allocator + Copy>(
 }
 
 /// What a factor with these columns needs.
-pub fn need_of<A: Allocator>(columns: &[Vec<usize, A>]) -> SearchedNeed {
+pub fn need_of(columns: &[Vec<usize>]) -> SearchedNeed {
     let mut need = SearchedNeed {
         lnz: 0,
         n_mult_subs_ldl: 0,
@@ -162,7 +154,7 @@ fn are_among(places: &[usize], others: &[usize]) -> bool {
 }
 
 /// Whether each entry of a factor is an edge, so that nothing fills in.
-pub fn fills_nothing<A: Allocator>(factor: &SearchedFactor<A>) -> bool {
+pub fn fills_nothing(factor: &SearchedFactor) -> bool {
     for (column, places) in factor.columns.iter().zip(&factor.edges) {
         if !are_among(column, places) {
             return false;

@@ -3,7 +3,7 @@
 use crate::inputs::{
     complete, complete_below, cycle, drawn, drawn_with_hub, grid, path, star, star_to_last,
 };
-use std::alloc::{AllocError, Allocator, Global};
+use std::alloc::{AllocError, Global};
 
 /// A family of inputs: those of `inputs`, each under its name there, and matrices without entries.
 #[derive(Clone, Copy, Debug, Drop)]
@@ -29,10 +29,7 @@ fn rows_of(family: Family, size: i64) -> i64 {
 }
 
 /// Pointers of so many columns without entries.
-fn without_entries<A: Allocator + Copy>(
-    alloc: A,
-    n: i64,
-) -> Result<(Vec<i64, A>, Vec<i64, A>), AllocError> {
+fn without_entries(alloc: Global, n: i64) -> Result<(Vec<i64>, Vec<i64>), AllocError> {
     let mut a_p = Vec::new(alloc);
     a_p.push(0)?;
     for _ in 0..n {
@@ -42,11 +39,7 @@ fn without_entries<A: Allocator + Copy>(
 }
 
 /// The graph of a family at this size; without entries where the family has matrices that are drawn.
-fn graph_of<A: Allocator + Copy>(
-    alloc: A,
-    family: Family,
-    size: i64,
-) -> Result<(Vec<i64, A>, Vec<i64, A>), AllocError> {
+fn graph_of(alloc: Global, family: Family, size: i64) -> Result<(Vec<i64>, Vec<i64>), AllocError> {
     match family {
         Family::Path => path(alloc, size),
         Family::Cycle => cycle(alloc, size),
@@ -61,11 +54,11 @@ fn graph_of<A: Allocator + Copy>(
 
 /// The input of a family at this size, which is the seed of a matrix that is drawn: the number of rows, the pointers
 /// and the rows.
-pub fn member<A: Allocator + Copy>(
-    alloc: A,
+pub fn member(
+    alloc: Global,
     family: Family,
     size: i64,
-) -> Result<(i64, Vec<i64, A>, Vec<i64, A>), AllocError> {
+) -> Result<(i64, Vec<i64>, Vec<i64>), AllocError> {
     let seed = u64::try_from(size).unwrap_or(0);
     match family {
         Family::Drawn => drawn(alloc, seed),

@@ -2,20 +2,20 @@
 // the children of each node.
 
 use crate::inputs::draw;
-use std::alloc::{AllocError, AllocFailed, Allocator};
+use std::alloc::{AllocError, AllocFailed, Global};
 
 /// Elements with their parents. A place with `nv` above 0 holds an element; the rank of its parent is greater than its
 /// own.
 #[derive(Drop)]
-pub struct Forest<A: Allocator> {
+pub struct Forest {
     /// The parent of each element, -1 where it has none.
-    pub parent: Vec<isize, A>,
+    pub parent: Vec<isize>,
     /// Above 0 for an element.
-    pub nv: Vec<isize, A>,
+    pub nv: Vec<isize>,
     /// The size of each element.
-    pub f_size: Vec<isize, A>,
+    pub f_size: Vec<isize>,
     /// The rank of each element.
-    pub rank: Vec<usize, A>,
+    pub rank: Vec<usize>,
 }
 
 /// A number from -1 on, below `n - 1`.
@@ -51,7 +51,7 @@ fn draw_parent(state: &mut u64, n: u64, e: usize, nv: &[isize], rank: &[usize]) 
 }
 
 /// Draws the number, the size and the rank of a place more.
-fn push_place<A: Allocator>(state: &mut u64, forest: &mut Forest<A>) -> Result<(), AllocError> {
+fn push_place(state: &mut u64, forest: &mut Forest) -> Result<(), AllocError> {
     forest.nv.push(draw_number(state, 5))?;
     forest.f_size.push(draw_number(state, 4).max(0))?;
     let rank = usize::try_from(draw(state, 30)).unwrap_or(0);
@@ -60,11 +60,7 @@ fn push_place<A: Allocator>(state: &mut u64, forest: &mut Forest<A>) -> Result<(
 }
 
 /// Draws the parent of each place.
-fn push_parents<A: Allocator>(
-    state: &mut u64,
-    n: u64,
-    forest: &mut Forest<A>,
-) -> Result<(), AllocFailed<isize>> {
+fn push_parents(state: &mut u64, n: u64, forest: &mut Forest) -> Result<(), AllocFailed<isize>> {
     for e in 0..forest.nv.len() {
         let first = draw_parent(state, n, e, &forest.nv, &forest.rank);
         let second = draw_parent(state, n, e, &forest.nv, &forest.rank);
@@ -74,7 +70,7 @@ fn push_parents<A: Allocator>(
 }
 
 /// A forest with up to 12 places, drawn from a seed. Many elements have the same size, and many places hold none.
-pub fn drawn_forest<A: Allocator + Copy>(alloc: A, seed: u64) -> Result<Forest<A>, AllocError> {
+pub fn drawn_forest(alloc: Global, seed: u64) -> Result<Forest, AllocError> {
     let n = seed % 13;
     let mut state = seed;
     let mut forest = Forest {
@@ -91,12 +87,12 @@ pub fn drawn_forest<A: Allocator + Copy>(alloc: A, seed: u64) -> Result<Forest<A
 }
 
 /// The elements with a given parent, rising; those without a parent are the roots.
-fn rising<A: Allocator + Copy>(
-    alloc: A,
+fn rising(
+    alloc: Global,
     parent: isize,
     parents: &[isize],
     nv: &[isize],
-) -> Result<Vec<usize, A>, AllocFailed<usize>> {
+) -> Result<Vec<usize>, AllocFailed<usize>> {
     let mut children = Vec::new(alloc);
     for e in 0..nv.len() {
         if number_at(nv, e) > 0 && number_at(parents, e) == parent {
@@ -120,10 +116,7 @@ fn largest(elements: &[usize], f_size: &[isize]) -> usize {
 }
 
 /// Moves the last one of the elements of largest size to the end.
-fn largest_last<A: Allocator>(
-    elements: &mut Vec<usize, A>,
-    f_size: &[isize],
-) -> Result<(), AllocFailed<usize>> {
+fn largest_last(elements: &mut Vec<usize>, f_size: &[isize]) -> Result<(), AllocFailed<usize>> {
     let place = largest(elements, f_size);
     if place < elements.len() {
         let element = elements.remove(place);
@@ -133,14 +126,14 @@ fn largest_last<A: Allocator>(
 }
 
 /// Lists the subtrees of the elements, down to a depth, each node after those below it.
-fn list_trees<A: Allocator + Copy>(
-    alloc: A,
+fn list_trees(
+    alloc: Global,
     depth: usize,
     elements: &[usize],
     parents: &[isize],
     nv: &[isize],
     f_size: &[isize],
-    listing: &mut Vec<usize, A>,
+    listing: &mut Vec<usize>,
 ) -> Result<(), AllocFailed<usize>> {
     if depth == 0 {
         return Ok(());
@@ -155,12 +148,12 @@ fn list_trees<A: Allocator + Copy>(
 }
 
 /// The elements in postorder: children rising, but the last one of those of largest size at the end; roots rising.
-pub fn listing_of<A: Allocator + Copy>(
-    alloc: A,
+pub fn listing_of(
+    alloc: Global,
     parents: &[isize],
     nv: &[isize],
     f_size: &[isize],
-) -> Result<Vec<usize, A>, AllocFailed<usize>> {
+) -> Result<Vec<usize>, AllocFailed<usize>> {
     let mut listing = Vec::new(alloc);
     let roots = rising(alloc, -1, parents, nv)?;
     list_trees(alloc, nv.len(), &roots, parents, nv, f_size, &mut listing)?;

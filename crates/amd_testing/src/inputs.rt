@@ -3,14 +3,10 @@
 
 ghost use Rattle.std.specs.Prelude.{◌≤◌};
 
-use std::alloc::{AllocError, AllocFailed, Allocator};
+use std::alloc::{AllocError, AllocFailed, Global};
 
 /// Adds the rows of the entries in column `j`, in the order in which they stand.
-fn push_rows<A: Allocator>(
-    entries: &[(i64, i64)],
-    j: i64,
-    a_i: &mut Vec<i64, A>,
-) -> Result<(), AllocFailed<i64>> {
+fn push_rows(entries: &[(i64, i64)], j: i64, a_i: &mut Vec<i64>) -> Result<(), AllocFailed<i64>> {
     for &(row, column) in entries {
         if column == j {
             a_i.push(row)?;
@@ -21,11 +17,11 @@ fn push_rows<A: Allocator>(
 
 /// The column form of a list of entries, each a row and a column. A column has its rows in the order in which they
 /// stand there. This is slow: it takes `n` times as many steps as there are entries.
-pub fn columns_of<A: Allocator + Copy>(
-    alloc: A,
+pub fn columns_of(
+    alloc: Global,
     n: i64,
     entries: &[(i64, i64)],
-) -> Result<(Vec<i64, A>, Vec<i64, A>), AllocError> {
+) -> Result<(Vec<i64>, Vec<i64>), AllocError> {
     let mut a_p = Vec::new(alloc);
     let mut a_i = Vec::new(alloc);
     a_p.push(0)?;
@@ -37,11 +33,11 @@ pub fn columns_of<A: Allocator + Copy>(
 }
 
 /// Adds the entries of column `j` of a full matrix without its diagonal, from row `from` on.
-fn push_column<A: Allocator>(
+fn push_column(
     from: i64,
     n: i64,
     j: i64,
-    entries: &mut Vec<(i64, i64), A>,
+    entries: &mut Vec<(i64, i64)>,
 ) -> Result<(), AllocFailed<(i64, i64)>> {
     for i in from..n {
         if i != j {
@@ -52,20 +48,14 @@ fn push_column<A: Allocator>(
 }
 
 /// A star whose centre is row 0.
-pub fn star<A: Allocator + Copy>(
-    alloc: A,
-    n: i64,
-) -> Result<(Vec<i64, A>, Vec<i64, A>), AllocError> {
+pub fn star(alloc: Global, n: i64) -> Result<(Vec<i64>, Vec<i64>), AllocError> {
     let mut entries = Vec::new(alloc);
     push_column(0, n, 0, &mut entries)?;
     columns_of(alloc, n, &entries)
 }
 
 /// A star whose centre is the last row.
-pub fn star_to_last<A: Allocator + Copy>(
-    alloc: A,
-    n: i64,
-) -> Result<(Vec<i64, A>, Vec<i64, A>), AllocError> {
+pub fn star_to_last(alloc: Global, n: i64) -> Result<(Vec<i64>, Vec<i64>), AllocError> {
     let last = n.saturating_sub(1);
     let mut entries = Vec::new(alloc);
     for i in 1..n {
@@ -75,10 +65,7 @@ pub fn star_to_last<A: Allocator + Copy>(
 }
 
 /// The entries of a path: each row but the first one in the column before its own.
-fn path_entries<A: Allocator>(
-    alloc: A,
-    n: i64,
-) -> Result<Vec<(i64, i64), A>, AllocFailed<(i64, i64)>> {
+fn path_entries(alloc: Global, n: i64) -> Result<Vec<(i64, i64)>, AllocFailed<(i64, i64)>> {
     let mut entries = Vec::new(alloc);
     for i in 1..n {
         entries.push((i, i.saturating_sub(1)))?;
@@ -87,19 +74,13 @@ fn path_entries<A: Allocator>(
 }
 
 /// A path, in which each row is joined to the next one.
-pub fn path<A: Allocator + Copy>(
-    alloc: A,
-    n: i64,
-) -> Result<(Vec<i64, A>, Vec<i64, A>), AllocError> {
+pub fn path(alloc: Global, n: i64) -> Result<(Vec<i64>, Vec<i64>), AllocError> {
     let entries = path_entries(alloc, n)?;
     columns_of(alloc, n, &entries)
 }
 
 /// A cycle of at least three rows: a path whose last row is joined to the first one.
-pub fn cycle<A: Allocator + Copy>(
-    alloc: A,
-    n: i64,
-) -> Result<(Vec<i64, A>, Vec<i64, A>), AllocError> {
+pub fn cycle(alloc: Global, n: i64) -> Result<(Vec<i64>, Vec<i64>), AllocError> {
     let mut entries = path_entries(alloc, n)?;
     entries.push((n.saturating_sub(1), 0))?;
     columns_of(alloc, n, &entries)
@@ -107,10 +88,7 @@ pub fn cycle<A: Allocator + Copy>(
 
 /// A square grid with `side` rows of the matrix on each side, at least one: each is joined to the one on its right and
 /// to the one below it.
-pub fn grid<A: Allocator + Copy>(
-    alloc: A,
-    side: i64,
-) -> Result<(Vec<i64, A>, Vec<i64, A>), AllocError> {
+pub fn grid(alloc: Global, side: i64) -> Result<(Vec<i64>, Vec<i64>), AllocError> {
     let width = side.max(1);
     let n = width.saturating_mul(width);
     let mut entries = Vec::new(alloc);
@@ -126,10 +104,7 @@ pub fn grid<A: Allocator + Copy>(
 }
 
 /// A complete graph by the entries below the diagonal alone.
-pub fn complete_below<A: Allocator + Copy>(
-    alloc: A,
-    n: i64,
-) -> Result<(Vec<i64, A>, Vec<i64, A>), AllocError> {
+pub fn complete_below(alloc: Global, n: i64) -> Result<(Vec<i64>, Vec<i64>), AllocError> {
     let mut entries = Vec::new(alloc);
     for j in 0..n {
         push_column(j, n, j, &mut entries)?;
@@ -138,10 +113,7 @@ pub fn complete_below<A: Allocator + Copy>(
 }
 
 /// A complete graph: a full matrix without its diagonal.
-pub fn complete<A: Allocator + Copy>(
-    alloc: A,
-    n: i64,
-) -> Result<(Vec<i64, A>, Vec<i64, A>), AllocError> {
+pub fn complete(alloc: Global, n: i64) -> Result<(Vec<i64>, Vec<i64>), AllocError> {
     let mut entries = Vec::new(alloc);
     for j in 0..n {
         push_column(0, n, j, &mut entries)?;
@@ -166,10 +138,7 @@ fn rows_of(seed: u64) -> u64
 }
 
 /// Adds three entries for each row, drawn from a seed, the row of an entry before its column.
-fn push_drawn<A: Allocator>(
-    seed: u64,
-    entries: &mut Vec<(i64, i64), A>,
-) -> Result<(), AllocFailed<(i64, i64)>> {
+fn push_drawn(seed: u64, entries: &mut Vec<(i64, i64)>) -> Result<(), AllocFailed<(i64, i64)>> {
     let n = rows_of(seed);
     let mut state = seed;
     for _ in 0..3 * n {
@@ -180,10 +149,7 @@ fn push_drawn<A: Allocator>(
 }
 
 /// A matrix drawn from a seed. Most of them are jumbled. The result begins with the number of rows.
-pub fn drawn<A: Allocator + Copy>(
-    alloc: A,
-    seed: u64,
-) -> Result<(i64, Vec<i64, A>, Vec<i64, A>), AllocError> {
+pub fn drawn(alloc: Global, seed: u64) -> Result<(i64, Vec<i64>, Vec<i64>), AllocError> {
     let n = i64::try_from(rows_of(seed)).unwrap_or(0);
     let mut entries = Vec::new(alloc);
     push_drawn(seed, &mut entries)?;
@@ -192,10 +158,7 @@ pub fn drawn<A: Allocator + Copy>(
 }
 
 /// A matrix drawn from a seed, with a column 0 that has each row, so that row 0 may be dense.
-pub fn drawn_with_hub<A: Allocator + Copy>(
-    alloc: A,
-    seed: u64,
-) -> Result<(i64, Vec<i64, A>, Vec<i64, A>), AllocError> {
+pub fn drawn_with_hub(alloc: Global, seed: u64) -> Result<(i64, Vec<i64>, Vec<i64>), AllocError> {
     let n = i64::try_from(rows_of(seed)).unwrap_or(0);
     let mut entries = Vec::new(alloc);
     for i in 0..n {

@@ -2,7 +2,7 @@
 // column form, its edges and its degrees are those of the AMD user guide; the dense row parameter is a whole number of
 // thousandths.
 
-use std::alloc::{AllocError, AllocFailed, Allocator};
+use std::alloc::{AllocError, AllocFailed, Global};
 
 /// The number at a place as a count. Where there is none, or it is negative, this is the greatest count.
 pub fn count_at(numbers: &[i64], place: usize) -> usize {
@@ -193,13 +193,13 @@ pub fn threshold(t: i32, n: usize) -> usize {
 }
 
 /// For each row whether it is dense.
-pub fn dense_rows<A: Allocator>(
-    alloc: A,
+pub fn dense_rows(
+    alloc: Global,
     t: i32,
     n: usize,
     a_p: &[i64],
     a_i: &[i64],
-) -> Result<Vec<bool, A>, AllocError> {
+) -> Result<Vec<bool>, AllocError> {
     let limit = threshold(t, n);
     let mut dense = Vec::new(alloc);
     for i in 0..n {
@@ -235,12 +235,12 @@ pub fn stand_last(chosen: &[bool], p: &[i64]) -> bool {
 }
 
 /// Adds the columns in which row `i` stands, rising.
-fn push_columns<A: Allocator>(
+fn push_columns(
     n: usize,
     a_p: &[i64],
     a_i: &[i64],
     i: usize,
-    columns: &mut Vec<i64, A>,
+    columns: &mut Vec<i64>,
 ) -> Result<(), AllocFailed<i64>> {
     for j in 0..n {
         if has_pair(a_p, a_i, i, j) {
@@ -251,12 +251,12 @@ fn push_columns<A: Allocator>(
 }
 
 /// The transposed pattern in column form, each column strictly rising.
-pub fn clean_transpose<A: Allocator + Copy>(
-    alloc: A,
+pub fn clean_transpose(
+    alloc: Global,
     n: usize,
     a_p: &[i64],
     a_i: &[i64],
-) -> Result<(Vec<i64, A>, Vec<i64, A>), AllocError> {
+) -> Result<(Vec<i64>, Vec<i64>), AllocError> {
     let mut pointers = Vec::new(alloc);
     let mut columns = Vec::new(alloc);
     pointers.push(0)?;

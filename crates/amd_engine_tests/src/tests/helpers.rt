@@ -15,7 +15,7 @@ use std::process::Abort;
 use std::test::Fail;
 
 /// Asserts that a factor has these columns.
-fn check_columns(rt: &impl Abort, factor: &SearchedFactor<Global>, columns: &[&[usize]]) {
+fn check_columns(rt: &impl Abort, factor: &SearchedFactor, columns: &[&[usize]]) {
     check!(rt; factor.columns.len() == columns.len());
     for (column, want) in factor.columns.iter().zip(columns) {
         check!(rt; column.as_slice() == *want);

@@ -20,7 +20,7 @@ use std::process::Abort;
 use std::test::Fail;
 
 /// Whether a factor is the slow one: its columns, where they begin, and their first entries.
-fn is_same(factor: &Factor<Global>, slow: &SearchedFactor<Global>) -> bool {
+fn is_same(factor: &Factor<Global>, slow: &SearchedFactor) -> bool {
     let count = slow.columns.len();
     if factor.ptr.len() != count.saturating_add(1) || factor.parent.len() != count {
         return false;
@@ -94,7 +94,7 @@ fn check_columns(
     a_p: &[i64],
     a_i: &[i64],
     p: &[i64],
-    slow: &SearchedFactor<Global>,
+    slow: &SearchedFactor,
 ) -> Result<(), AllocError> {
     let room = need_of(&slow.columns).lnz;
     let Ok(factor) = columns(alloc, n, a_p, a_i, p, room) else {

@@ -13,7 +13,7 @@ use std::alloc::{Allocator, Global};
 use std::process::Abort;
 
 /// Whether counts are those of the slow factor: the sizes of its columns, their first entries, and what they need.
-pub fn are_counts(counted: &Counts<Global>, slow: &SearchedFactor<Global>) -> bool {
+pub fn are_counts(counted: &Counts<Global>, slow: &SearchedFactor) -> bool {
     if counted.sizes.len() != slow.columns.len() || counted.parent.len() != slow.columns.len() {
         return false;
     }

@@ -38,7 +38,7 @@ pub fn check_bounds(
     a_i: &[i64],
     p: &[i64],
     info: &Info,
-) -> Result<SearchedFactor<Global>, AllocError> {
+) -> Result<SearchedFactor, AllocError> {
     let factor = factor_of(alloc, a_p, a_i, p)?;
     let is_covered = covers(&bounds_in(info), &need_of(&factor.columns));
     check_matrix(rt, is_covered && info.n_div == info.lnz, a_p, a_i);
@@ -46,7 +46,7 @@ pub fn check_bounds(
 }
 
 /// Asserts that the factor of a forest without dense rows has its edges alone, and that the bounds say so.
-pub fn check_forest(rt: &impl Abort, factor: &SearchedFactor<Global>, info: &Info) {
+pub fn check_forest(rt: &impl Abort, factor: &SearchedFactor, info: &Info) {
     check!(rt; info.n_dense == 0 && info.lnz == info.nz_a_plus_at / 2);
     check!(rt; need_of(&factor.columns).lnz == info.lnz && fills_nothing(factor));
 }

@@ -26,7 +26,7 @@ fn check_choice(
     a_p: &[i64],
     a_i: &[i64],
     control: &Control,
-) -> Result<(SearchedFactor<Global>, Info), AllocError> {
+) -> Result<(SearchedFactor, Info), AllocError> {
     let Ok((p, p_inv, info)) = order(alloc, n, a_p, a_i, control) else {
         panic!(rt; "no answer");
     };
@@ -60,13 +60,7 @@ fn are_forests(family: Family) -> bool {
 
 /// Asserts that a record bounds the entries of the factor by exactly what is known for the family, and that nothing
 /// fills in where the graph is a forest without dense rows.
-fn check_known(
-    rt: &impl Abort,
-    family: Family,
-    n: i64,
-    factor: &SearchedFactor<Global>,
-    info: &Info,
-) {
+fn check_known(rt: &impl Abort, family: Family, n: i64, factor: &SearchedFactor, info: &Info) {
     if let Some(entries) = entries_of(family, n) {
         check!(rt; info.lnz == usize::try_from(entries).unwrap_or(0));
     }
