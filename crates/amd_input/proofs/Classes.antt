@@ -31,7 +31,7 @@ rise_more ai a j k next up last i low high = elim (dec_lt (i + 1) k) [
 ]
 
 -- a number that is not below 0
-not_below : (z : ℤ) → (z <ℤ pos 0 → ⊥) → pos 0 ≤ℤ z
+pub not_below : (z : ℤ) → (z <ℤ pos 0 → ⊥) → pos 0 ≤ℤ z
 not_below (pos n) h = omega (arith, ints)
 not_below (negsuc n) h = absurd (h (omega (arith, ints)))
 
