@@ -1,5 +1,5 @@
 -- the goals of mirrors::mirrored_degrees.
-use Rattle.std.proofs.Common.{◌≡◌, ◌+◌, inl, suc, map, get_or, arith, ap, sym, refl, ◌∙◌, subst, add-one}
+use Rattle.std.proofs.Common.{◌≡◌, ◌+◌, ◌≤◌, inl, inr, suc, length, map, get_or, arith, ap, sym, refl, ◌∙◌, subst, add-one, le_antisymm}
 use Rattle.amd_model.specs.Below.{sum_below, count_below}
 use Rattle.amd_types.specs.Naturals.{naturals, is_entry}
 use Rattle.amd_edges.specs.Visits.{AreCounts}
@@ -21,6 +21,36 @@ columns-init g c =
       read = mirrors_none c.args.size ap' ai c.args.next.now.items c.requires.next.empty;
       others = others_none c.args.size ap' ai c.args.degrees.now.items c.requires.degrees.empty;
     }
+
+pub returns-then-not-ends_upper-clause-lacks : goal.returns-then-not-ends_upper-clause-lacks
+returns-then-not-ends_upper-clause-lacks g c = inr (c.if-not-ends_upper.ensures.low refl)
+
+pub column-requires-clause-input : goal.column-requires-clause-input
+column-requires-clause-input g c = c.requires.input
+
+pub column-requires-clause-fits : goal.column-requires-clause-fits
+column-requires-clause-fits g c = c.requires.fits
+
+pub column-requires-clause-k_in : goal.column-requires-clause-k_in
+column-requires-clause-k_in g c = c.columns-test.true
+
+pub column-requires-clause-room : goal.column-requires-clause-room
+column-requires-clause-room g c =
+    let i = c.columns.invariant in
+    (subst (λ z. c.args.size ≤ z) (sym i.next) c.requires.next.room, subst (λ z. c.args.size ≤ z) (sym i.degrees) c.requires.degrees.room)
+
+pub column-requires-clause-read : goal.column-requires-clause-read
+column-requires-clause-read g c = c.columns.invariant.read
+
+pub column-requires-clause-others : goal.column-requires-clause-others
+column-requires-clause-others g c = c.columns.invariant.others
+
+pub returns-in_default-clause-lacks : goal.returns-in_default-clause-lacks
+returns-in_default-clause-lacks g c = inl c.in_default.ensures.lacks
+
+pub returns-in_default-clause-room : goal.returns-in_default-clause-room
+returns-in_default-clause-room g c =
+    let i = c.columns.invariant in let room = c.in_default.ensures.room in (room.0 ∙ i.next, room.1 ∙ i.degrees)
 
 pub columns-preserved : goal.columns-preserved
 unfolding count_below sum_below
@@ -46,6 +76,19 @@ columns-preserved g c =
       read = e.read;
       others = e.others;
     }
+
+pub all_read-requires-clause-form : goal.all_read-requires-clause-form
+all_read-requires-clause-form g c = c.requires.input.form
+
+pub all_read-requires-clause-long : goal.all_read-requires-clause-long
+all_read-requires-clause-long g c =
+    ap length c.deref.ensures.value ∙ c.columns.invariant.read.size ∙ le_antisymm c.columns.auto.k-end c.columns-test.false
+
+pub returns-then-all_read-clause-room : goal.returns-then-all_read-clause-room
+returns-then-all_read-clause-room g c = let i = c.columns.invariant in (i.next, i.degrees)
+
+pub returns-clause-room : goal.returns-clause-room
+returns-clause-room g c = let i = c.columns.invariant in (i.next, i.degrees)
 
 pub returns-then-all_read-clause-counted : goal.returns-then-all_read-clause-counted
 returns-then-all_read-clause-counted g c =

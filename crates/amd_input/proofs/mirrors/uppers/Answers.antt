@@ -1,12 +1,13 @@
 -- the goals of mirrors::uppers.
-use Rattle.std.proofs.Common.{◌≡◌, ◌+◌, ◌<◌, ◌^◌, arith, map, get_or, set, sym, ◌∙◌, subst, le_refl, le_of_lt}
+use Rattle.std.proofs.Common.{◌≡◌, ◌+◌, ◌<◌, ◌≤◌, ◌^◌, ℕ, List, length, arith, map, get_or, set, refl, sym, ◌∙◌, subst}
+use Rattle.std.proofs.Common.{le_refl, le_of_lt, lt_irrefl, lt_of_lt_of_le}
 use Rattle.std.proofs.lemmas.List.{length-map}
 use borrow.Author.Count.{falls}
 use Rattle.amd_types.specs.Naturals.{naturals}
 use Rattle.amd_edges.proofs.Forms.{pointer_fits, pointer_read, row_fits, place_in, place_up, sorted_form}
 use Rattle.amd_edges.proofs.Places.{entry_from}
-use Rattle.amd_edges.proofs.Reading.{row_below, before_end, reading_next}
-use Rattle.amd_input.specs.Mirrors.{HaveMirrors}
+use Rattle.amd_edges.proofs.Reading.{IsReading, row_below, row_from, before_end, reading_start, reading_next}
+use Rattle.amd_input.specs.Mirrors.{EndsUpper, HaveMirrors}
 use Rattle.amd_input.proofs.MirroredRows.{mirrors_next, mirrors_over, unread_from, upper_lacks}
 use Rattle.amd_input.proofs.mirrors.uppers.Goals as goal
 use Rattle.amd_input.proofs.mirrors.uppers.Goals.{then-mirror-count_at-via-then-mirror-count_at}
@@ -61,6 +62,20 @@ cell_of-requires g c =
     let l = row_below c.count_at.ensures.count c.count_at-j.ensures.count c.if-count_at-k.true in let m = c.requires.k_in in
     place_up c.args.size (map g.I.Index.value c.args.a_p.now) (map g.I.Index.value c.args.a_i.now) c.requires.input.form
     (omega (arith, l, m)) c.count_at-in-uppers.ensures.count (let t = c.if-mirror-count_at.false in omega (arith, t)) c.requires.fits
+
+pub uppers-init : goal.uppers-init
+uppers-init g c =
+    let r = c.requires in let n = c.args.size in let k = c.args.k in
+    let az = map g.I.Index.value c.args.a_p.now in let bz = map g.I.Index.value c.args.a_i.now in
+    let form = sorted_form n az bz r.input.form r.input.sorted in (
+      0,
+      record {
+        place = reading_start (naturals bz) (get_or (naturals az) k 0) c.count_at-end.result k c.count_at-place.result
+            c.count_at-place.ensures.count (row_from (sym c.count_at-end.ensures.count) (form.rising k r.k_in));
+        room = refl;
+        read = r.read;
+      },
+    )
 
 pub uppers-preserved : goal.uppers-preserved
 uppers-preserved g c =
@@ -146,10 +161,50 @@ count_at-requires-in-uppers-clause-within g c =
     (pointer_read g.I.Index.value c.args.a_p.now c.args.a_i.now c.args.size
     c.requires.input.form (c.count_at-j.result + 1) (omega (arith, l, m)) (omega (arith, c.well_formed))).0
 
+-- a row below k is a place of the list, which has k items
+row_inside : {j k len : ℕ} (items : List ℕ) → j < k → length items ≡ k → len ≡ length items → j < len
+row_inside items below size long = omega (arith, below, size, long)
+
 pub index-requires : goal.index-requires
-index-requires g c =
-    let l = row_below c.count_at.ensures.count c.count_at-j.ensures.count c.if-count_at-k.true in
-    let size = c.uppers.invariant.1.read.size in let len = c.uppers.next.ok.0 in omega (arith, l, size, len)
+index-requires g c = row_inside c.uppers.next.items (row_below c.count_at.ensures.count c.count_at-j.ensures.count c.if-count_at-k.true)
+    c.uppers.invariant.1.read.size c.uppers.next.ok.0
+
+pub index_mut-requires : goal.index_mut-requires
+index_mut-requires g c = row_inside c.uppers.next.items (row_below c.count_at.ensures.count c.count_at-j.ensures.count c.if-count_at-k.true)
+    c.uppers.invariant.1.read.size c.uppers.next.ok.0
+
+pub returns-then-mirror-count_at-clause-room : goal.returns-then-mirror-count_at-clause-room
+returns-then-mirror-count_at-clause-room g c = c.uppers.invariant.1.room
+
+pub returns-else-count_at-k-clause-room : goal.returns-else-count_at-k-clause-room
+returns-else-count_at-k-clause-room g c = c.uppers.invariant.1.room
+
+pub returns-after-uppers-clause-room : goal.returns-after-uppers-clause-room
+returns-after-uppers-clause-room g c = c.uppers.invariant.1.room
+
+-- the upper rows end where no row of the column follows, or one from k on
+reading_ends : (ap' ai : List ℕ) (k end m p : ℕ) → end ≡ get_or ap' (k + 1) 0 → IsReading ai (get_or ap' k 0) end k m p →
+    (p < end → k ≤ get_or ai p 0) → EndsUpper ap' ai k p
+reading_ends ap' ai k end m p ends so stop = record {
+  from = so.from;
+  to = (let to = so.to in omega (arith, to, ends));
+  before = λ r x y. lt_of_lt_of_le (so.read r x y) so.low;
+  behind = λ x. stop (omega (arith, x, ends));
+}
+
+pub returns-else-count_at-k-clause-ends : goal.returns-else-count_at-k-clause-ends
+returns-else-count_at-k-clause-ends g c =
+    let ap' = naturals (map g.I.Index.value c.args.a_p.now) in let ai = naturals (map g.I.Index.value c.args.a_i.now) in
+    let v = c.uppers.invariant in
+    reading_ends ap' ai c.args.k c.count_at-end.result v.0 c.uppers.place c.count_at-end.ensures.count v.1.place
+    (λ h. subst (λ z. c.args.k ≤ z) c.count_at.ensures.count c.if-count_at-k.false)
+
+pub returns-after-uppers-clause-ends : goal.returns-after-uppers-clause-ends
+returns-after-uppers-clause-ends g c =
+    let ap' = naturals (map g.I.Index.value c.args.a_p.now) in let ai = naturals (map g.I.Index.value c.args.a_i.now) in
+    let v = c.uppers.invariant in
+    reading_ends ap' ai c.args.k c.count_at-end.result v.0 c.uppers.place c.count_at-end.ensures.count v.1.place
+    (λ h. absurd (lt_irrefl c.uppers.place (lt_of_lt_of_le h c.uppers-test.false)))
 
 pub uppers-smaller : goal.uppers-smaller
 uppers-smaller g c = falls c.count_at-end.result c.uppers.place c.uppers-test.true
