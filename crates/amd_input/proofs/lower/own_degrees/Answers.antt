@@ -1,9 +1,10 @@
 -- the goals of lower::own_degrees.
-use Rattle.std.proofs.Common.{◌≡◌, ◌+◌, ◌++◌, ◌∷◌, [], suc, map, arith, ap, sym, refl, ◌∙◌, subst, add-one}
+use Rattle.std.proofs.Common.{◌≡◌, ◌+◌, ◌<◌, ◌≤◌, ◌++◌, ◌∷◌, [], ℕ, List, suc, length, map, arith, ap, sym, refl, ◌∙◌, subst, add-one, le_antisymm}
 use Rattle.amd_model.specs.Below.{sum_below, count_below}
 use Rattle.amd_model.proofs.Counting.Below.{count_most}
 use Rattle.amd_types.specs.Naturals.{naturals, is_entry}
 use Rattle.amd_edges.proofs.Forms.{same_diagonals}
+use Rattle.amd_input.specs.LowerRows.{AreLow}
 use Rattle.amd_input.specs.Mirrors.{CountOthers, is_beside}
 use Rattle.amd_input.proofs.Symmetry.{one_if}
 use Rattle.amd_input.proofs.LowerRows.{low_more}
@@ -21,6 +22,24 @@ columns-init g c =
       small = omega arith;
       room = refl;
     }
+
+pub own_rows-requires-clause-input : goal.own_rows-requires-clause-input
+own_rows-requires-clause-input g c = c.requires.ready.input
+
+pub own_rows-requires-clause-k_in : goal.own_rows-requires-clause-k_in
+own_rows-requires-clause-k_in g c = c.columns-test.true
+
+pub returns-in_err-own-clause-room : goal.returns-in_err-own-clause-room
+returns-in_err-own-clause-room g c = c.columns.invariant.room
+
+-- a list of k numbers that may grow up to n has room for one more
+room_left : {k n len now full : ℕ} (numbers : List ℕ) → length numbers ≡ k → len ≡ length numbers → k < n → n ≤ full → now ≡ full → len < now
+room_left numbers size long inside room kept = omega (arith, size, long, inside, room, kept)
+
+pub push_reserved-requires : goal.push_reserved-requires
+push_reserved-requires g c =
+    let i = c.columns.invariant in
+    room_left c.columns.degrees.items i.others.size c.columns.degrees.ok.0 c.columns-test.true c.requires.ready.list.room i.room
 
 pub cell_of-requires : goal.cell_of-requires
 cell_of-requires g c =
@@ -54,9 +73,23 @@ columns-preserved g c =
       room = c.push_reserved.ensures.capacity ∙ i.room;
     }
 
+pub returns-clause-others : goal.returns-clause-others
+returns-clause-others g c =
+    let ap' = naturals (map g.I.Index.value c.args.a_p.now) in let ai = naturals (map g.I.Index.value c.args.a_i.now) in
+    subst (λ z. CountOthers c.args.size ap' ai z c.columns.degrees.items) (le_antisymm c.columns.auto.k-end c.columns-test.false)
+    c.columns.invariant.others
+
+pub returns-clause-low : goal.returns-clause-low
+returns-clause-low g c =
+    let ap' = naturals (map g.I.Index.value c.args.a_p.now) in let ai = naturals (map g.I.Index.value c.args.a_i.now) in
+    subst (λ z. AreLow c.args.size ap' ai z) (le_antisymm c.columns.auto.k-end c.columns-test.false) c.columns.invariant.low
+
+pub returns-clause-room : goal.returns-clause-room
+returns-clause-room g c = c.columns.invariant.room
+
 pub returns-clause-diagonals : goal.returns-clause-diagonals
 returns-clause-diagonals g c =
     let n = c.args.size in let az = map g.I.Index.value c.args.a_p.now in let bz = map g.I.Index.value c.args.a_i.now in
-    let end : c.columns.k ≡ n = (let x = c.columns-test.false in let y = c.columns.auto.k-end in omega (arith, x, y)) in
+    let end : c.columns.k ≡ n = le_antisymm c.columns.auto.k-end c.columns-test.false in
     subst (λ z. c.columns.diagonals ≡ count_below z (λ j. is_entry n (naturals az) (naturals bz) j j)) end c.columns.invariant.count
     ∙ sym (same_diagonals n az bz c.requires.ready.input.form)
