@@ -1,5 +1,6 @@
 -- the goals of lower::own_degrees.
-use Rattle.std.proofs.Common.{◌≡◌, ◌+◌, ◌<◌, ◌≤◌, ◌++◌, ◌∷◌, [], ℕ, List, suc, length, map, arith, ap, sym, refl, ◌∙◌, subst, add-one, le_antisymm}
+use Rattle.std.proofs.Common.{◌≡◌, ◌+◌, ◌<◌, ◌≤◌, ◌++◌, ◌∷◌, [], ℕ, List, suc, length, map}
+use Rattle.std.proofs.Common.{arith, ap, sym, refl, ◌∙◌, subst, add-one, le_antisymm}
 use Rattle.amd_model.specs.Below.{sum_below, count_below}
 use Rattle.amd_model.proofs.Counting.Below.{count_most}
 use Rattle.amd_types.specs.Naturals.{naturals, is_entry}
@@ -33,7 +34,8 @@ pub returns-in_err-own-clause-room : goal.returns-in_err-own-clause-room
 returns-in_err-own-clause-room g c = c.columns.invariant.room
 
 -- a list of k numbers that may grow up to n has room for one more
-room_left : {k n len now full : ℕ} (numbers : List ℕ) → length numbers ≡ k → len ≡ length numbers → k < n → n ≤ full → now ≡ full → len < now
+room_left : {k n len now full : ℕ} (numbers : List ℕ) → length numbers ≡ k → len ≡ length numbers → k < n → n ≤ full →
+    now ≡ full → len < now
 room_left numbers size long inside room kept = omega (arith, size, long, inside, room, kept)
 
 pub push_reserved-requires : goal.push_reserved-requires

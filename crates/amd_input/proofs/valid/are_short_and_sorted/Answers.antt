@@ -1,4 +1,4 @@
-use Rattle.std.proofs.Common.{◌≡◌, ◌≤◌, length, map, arith, refl, subst}
+use Rattle.std.proofs.Common.{◌≡◌, ◌≤◌, length, map, arith, refl, subst, le_antisymm}
 use Rattle.std.proofs.lemmas.Bool.{false≢true}
 use Rattle.std.proofs.lemmas.List.{length-map}
 use Rattle.amd_model.specs.Input.Columns.{IsColumnForm, IsSorted}
@@ -45,11 +45,11 @@ groups-preserved g c = record {
 
 pub returns-clause-form : goal.returns-clause-form
 returns-clause-form g c e =
-    let same : c.groups.first ≡ c.args.columns = (let inside = c.groups.invariant.inside in let over = c.groups-test.false in omega (arith, inside, over)) in
-    subst (λ z. IsColumnForm (g.I.Index.value c.args.n_row) z (map g.I.Index.value c.args.a_p.now) (map g.I.Index.value c.args.a_i.now)) same
-    c.groups.invariant.form
+    let same : c.groups.first ≡ c.args.columns = le_antisymm c.groups.invariant.inside c.groups-test.false in
+    let n = g.I.Index.value in
+    subst (λ z. IsColumnForm (n c.args.n_row) z (map n c.args.a_p.now) (map n c.args.a_i.now)) same c.groups.invariant.form
 
 pub returns-clause-sorted : goal.returns-clause-sorted
 returns-clause-sorted g c e =
-    let same : c.groups.first ≡ c.args.columns = (let inside = c.groups.invariant.inside in let over = c.groups-test.false in omega (arith, inside, over)) in
+    let same : c.groups.first ≡ c.args.columns = le_antisymm c.groups.invariant.inside c.groups-test.false in
     subst (λ z. IsSorted z (map g.I.Index.value c.args.a_p.now) (map g.I.Index.value c.args.a_i.now)) same c.groups.invariant.sorted
