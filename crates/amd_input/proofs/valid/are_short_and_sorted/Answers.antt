@@ -1,4 +1,4 @@
-use Rattle.std.proofs.Common.{◌≡◌, ◌≤◌, length, map, arith, refl, subst, le_antisymm}
+use Rattle.std.proofs.Common.{◌≡◌, map, arith, refl, subst, le_antisymm}
 use Rattle.std.proofs.lemmas.Bool.{false≢true}
 use Rattle.std.proofs.lemmas.List.{length-map}
 use Rattle.amd_model.specs.Input.Columns.{IsColumnForm, IsSorted}
