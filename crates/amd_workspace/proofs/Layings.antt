@@ -49,6 +49,10 @@ place_set iw v j = map-set place iw v (pos j)
 pub written : {X : Type 0} (xs ys rest : List X) (count : ℕ) → xs ≡ ys → length ys ≡ count → take count (xs ++ rest) ≡ ys
 written xs ys rest count e l = take_at xs rest count (ap length e ∙ l) ∙ e
 
+-- the numbers of a room that is kept
+pub kept_room : {a b d x y z : ℕ} → a ∷ b ∷ d ∷ [] ≡ x ∷ y ∷ z ∷ [] → (a ≡ x) × (b ≡ y) × (d ≡ z)
+kept_room e = (cc, cc, cc)
+
 -- the words of a vector, when a row was written behind a list
 pub appended : (next lent_next : List ℕ) (iw lent_iw new_iw : List ℤ) (i j count : ℕ) → lent_next ≡ next → lent_iw ≡ iw →
     new_iw ≡ set lent_iw (get_or lent_next i 0) (pos j) → length iw ≡ count →

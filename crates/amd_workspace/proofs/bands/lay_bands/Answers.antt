@@ -36,6 +36,46 @@ module _ (new : List ℤ) {items lent : List ℤ} {count : ℕ} (value : lent �
   back : take count (new ++ drop (length new) items) ≡ new
   back = written new new (drop (length new) items) count refl (kept ∙ ap length value ∙ sym counted)
 
+pub push_until-requires-clause-input : goal.push_until-requires-clause-input
+push_until-requires-clause-input g c = c.requires.input
+
+pub push_until-requires-clause-degrees : goal.push_until-requires-clause-degrees
+push_until-requires-clause-degrees g c = c.requires.degrees
+
+pub push_until-requires-clause-room : goal.push_until-requires-clause-room
+push_until-requires-clause-room g c = let room = c.requires.room in omega (arith, room)
+
+pub push_until-requires-clause-fits : goal.push_until-requires-clause-fits
+push_until-requires-clause-fits g c = c.requires.fits.0
+
+pub overflow_sub-size : goal.overflow_sub-size
+overflow_sub-size g c = let some = c.requires.some in omega (arith, some)
+
+pub push_rows-requires-clause-small : goal.push_rows-requires-clause-small
+push_rows-requires-clause-small g c = let rows = c.requires.fits.0 in omega (arith, rows)
+
+pub push_heads-requires-clause-input : goal.push_heads-requires-clause-input
+push_heads-requires-clause-input g c = c.requires.input
+
+pub push_heads-requires-clause-degrees : goal.push_heads-requires-clause-degrees
+push_heads-requires-clause-degrees g c = c.requires.degrees
+
+pub push_heads-requires-clause-total : goal.push_heads-requires-clause-total
+push_heads-requires-clause-total g c = let cells = c.requires.fits.1 in omega (arith, cells)
+
+pub push_heads-requires-clause-empty : goal.push_heads-requires-clause-empty
+push_heads-requires-clause-empty g c = c.requires.empty.1
+
+pub push_heads-requires-clause-room : goal.push_heads-requires-clause-room
+push_heads-requires-clause-room g c = c.requires.wide
+
+pub returns-clause-capacity : goal.returns-clause-capacity
+returns-clause-capacity g c =
+    let a = c.push_until.ensures.capacity in let b = c.push_rows.ensures.capacity in omega (arith, a, b)
+
+pub returns-clause-heads : goal.returns-clause-heads
+returns-clause-heads g c = let kept = c.push_heads.ensures.capacity in omega (arith, kept)
+
 pub push_until-requires-clause-laid : goal.push_until-requires-clause-laid
 push_until-requires-clause-laid g c = let r = c.requires in
     let ap' = map g.I.Index.value c.args.a_p.now in let ai = map g.I.Index.value c.args.a_i.now in (

@@ -1,4 +1,5 @@
-use Rattle.std.proofs.Common.{◌++◌, ◌∷◌, [], arith, ap, length, ◌∙◌, w64, to_z, of_z}
+use Rattle.std.proofs.Common.{◌≡◌, replicate, ◌++◌, ◌∷◌, [], arith, ap, length, ◌∙◌, w64, to_z, of_z}
+use Rattle.std.proofs.lemmas.Int.{to_z-of_z}
 use Rattle.std.proofs.lemmas.List.{length-replicate, replicate_more}
 use Rattle.std.specs.Vec.{vec_capacity}
 use Rattle.amd_workspace.proofs.filling.fill_words.Goals as goal
@@ -23,3 +24,9 @@ words-init g c = record {
   room = c.clear.ensures.capacity ∙ ap vec_capacity c.replace-own.ensures.value;
   items = c.clear.ensures.items;
 }
+
+pub returns-clause-items : goal.returns-clause-items
+returns-clause-items g c =
+    let end : c.words.counter ≡ c.args.count = (let a = c.words-test.false in let b = c.words.auto.counter-end in omega (arith, a, b)) in
+    c.words.invariant.items ∙ ap (λ n. replicate n (to_z w64 (of_z w64 c.args.number))) end
+    ∙ ap (λ x. replicate c.args.count x) (to_z-of_z w64 c.args.number c.ranges.number)

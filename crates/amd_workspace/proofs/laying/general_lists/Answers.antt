@@ -1,5 +1,5 @@
 -- the goals of laying::general_lists.
-use Rattle.std.proofs.Common.{◌∷◌, [], ◌≡◌, ◌+◌, ◌<◌, ◌≤◌, ◌-◌, ◌++◌, ℕ, ℤ, List, map, length, arith, ap, ◌∙◌, pos}
+use Rattle.std.proofs.Common.{◌≡◌, ◌+◌, ◌<◌, ◌≤◌, ◌-◌, ◌++◌, ℕ, ℤ, List, map, length, arith, ap, ◌∙◌, pos}
 use Rattle.std.specs.Prelude.{replicate}
 use Rattle.std.specs.Vec.{vec_capacity}
 use Rattle.amd_model.specs.Input.Pattern.{graph_of, is_pair}
@@ -12,7 +12,7 @@ use Rattle.amd_workspace.specs.Copying.{HoldRows}
 use Rattle.amd_workspace.specs.Lower.{own_start}
 use Rattle.amd_workspace.specs.declared.lists.Words.{Words}
 use Rattle.amd_workspace.proofs.CopiedColumns.{filled_words, filled_long, filled_same, rows_empty}
-use Rattle.amd_workspace.proofs.Layings.{lays_none, walked_list}
+use Rattle.amd_workspace.proofs.Layings.{kept_room, lays_none, walked_list}
 use Rattle.amd_workspace.proofs.laying.general_lists.Goals as goal
 
 -- what was copied, and behind it the last row in more words
@@ -40,6 +40,76 @@ module _ (start size room len : ℕ) (xs ys : List ℤ) (most : length xs ≤ st
 -- what was taken out of its place is as empty as it was there
 taken_none : {S U A : Type 0} {old taken : Words S U A} → taken ≡ old → length old.iw.items ≡ 0 → length taken.iw.items ≡ 0
 taken_none is empty = ap (λ w. length w.iw.items) is ∙ empty
+
+pub copy_symmetric-copied-requires-clause-form : goal.copy_symmetric-copied-requires-clause-form
+copy_symmetric-copied-requires-clause-form g c = c.requires.form
+
+pub copy_symmetric-copied-requires-clause-sorted : goal.copy_symmetric-copied-requires-clause-sorted
+copy_symmetric-copied-requires-clause-sorted g c = c.requires.sorted
+
+pub copy_symmetric-copied-requires-clause-degrees : goal.copy_symmetric-copied-requires-clause-degrees
+copy_symmetric-copied-requires-clause-degrees g c = c.requires.degrees
+
+pub copy_symmetric-copied-requires-clause-empty : goal.copy_symmetric-copied-requires-clause-empty
+copy_symmetric-copied-requires-clause-empty g c = taken_none c.replace-own.ensures.value c.requires.empty.0
+
+pub copy_symmetric-copied-requires-clause-room : goal.copy_symmetric-copied-requires-clause-room
+copy_symmetric-copied-requires-clause-room g c =
+    let room = c.requires.room in let wide = c.requires.capacity in
+    let is = ap (λ w. vec_capacity w.iw) c.replace-own.ensures.value in omega (arith, room, wide, is)
+
+pub copy_symmetric-copied-requires-clause-fits : goal.copy_symmetric-copied-requires-clause-fits
+copy_symmetric-copied-requires-clause-fits g c = c.requires.fits.0
+
+pub overflow_sub-size : goal.overflow_sub-size
+overflow_sub-size g c = let some = c.requires.some in omega (arith, some)
+
+pub push_rows-requires-clause-room : goal.push_rows-requires-clause-room
+push_rows-requires-clause-room g c =
+    let room = c.requires.room in let wide = c.requires.capacity in
+    let is = ap (λ w. vec_capacity w.iw) c.replace-own.ensures.value in
+    let most = c.copy_symmetric-copied.ensures.long in let kept = c.copy_symmetric-copied.ensures.capacity in
+    omega (arith, room, wide, is, most, kept)
+
+pub push_rows-requires-clause-small : goal.push_rows-requires-clause-small
+push_rows-requires-clause-small g c = let rows = c.requires.fits.0 in omega (arith, rows)
+
+pub overflow_sub-rest : goal.overflow_sub-rest
+overflow_sub-rest g c =
+    let long = c.len.ensures ∙ c.copy_symmetric-copied.new.iw.ok.0 in let most = c.copy_symmetric-copied.ensures.long in
+    let room = c.requires.room in omega (arith, long, most, room)
+
+pub overflow_sub-size-2 : goal.overflow_sub-size-2
+overflow_sub-size-2 g c = let some = c.requires.some in omega (arith, some)
+
+pub push_rows-requires-2-clause-room : goal.push_rows-requires-2-clause-room
+push_rows-requires-2-clause-room g c =
+    let room = c.requires.room in let wide = c.requires.capacity in
+    let is = ap (λ w. vec_capacity w.iw) c.replace-own.ensures.value in
+    let long = c.len.ensures ∙ c.copy_symmetric-copied.new.iw.ok.0 in
+    let most = c.copy_symmetric-copied.ensures.long in let kept = c.copy_symmetric-copied.ensures.capacity in
+    omega (arith, room, wide, is, long, most, kept)
+
+pub push_rows-requires-2-clause-small : goal.push_rows-requires-2-clause-small
+push_rows-requires-2-clause-small g c = let rows = c.requires.fits.0 in omega (arith, rows)
+
+pub walk-requires-clause-form : goal.walk-requires-clause-form
+walk-requires-clause-form g c = c.requires.form
+
+pub walk-requires-clause-sorted : goal.walk-requires-clause-sorted
+walk-requires-clause-sorted g c = c.requires.sorted
+
+pub walk-requires-clause-fits : goal.walk-requires-clause-fits
+walk-requires-clause-fits g c = c.requires.fits.2
+
+pub walk-requires-clause-empty : goal.walk-requires-clause-empty
+walk-requires-clause-empty g c = c.requires.empty.1
+
+pub walk-requires-clause-room : goal.walk-requires-clause-room
+walk-requires-clause-room g c = c.requires.wide
+
+pub returns-clause-pointers : goal.returns-clause-pointers
+returns-clause-pointers g c = let kept = c.walk.ensures.room in omega (arith, kept)
 
 pub returns-then-copied-clause-long : goal.returns-then-copied-clause-long
 returns-then-copied-clause-long g c = let r = c.requires in let e = c.copy_symmetric-copied.ensures in
@@ -86,10 +156,6 @@ module _ (start size room : ℕ) (enough : start + size ≤ room) (old new : Lis
     (long : length old ≡ room) where
   walked_long : (start + size ≤ length new) × (length new ≤ room)
   walked_long = (omega (arith, enough, kept, long), omega (arith, kept, long))
-
--- the numbers of a room that is kept
-kept_room : {a b d x y z : ℕ} → a ∷ b ∷ d ∷ [] ≡ x ∷ y ∷ z ∷ [] → (a ≡ x) × (b ≡ y) × (d ≡ z)
-kept_room e = (cc, cc, cc)
 
 pub returns-clause-long : goal.returns-clause-long
 returns-clause-long g c = let r = c.requires in let e = c.copy_symmetric-copied.ensures in

@@ -128,3 +128,108 @@ pub returns-else-is_lower-clause-lists : goal.returns-else-is_lower-clause-lists
 returns-else-is_lower-clause-lists g c = lists _ _ _ _ c.requires.degrees _ _
     (starts_are g (goal.at.returns-else-is_lower-clause-lists g c).After-starts-free) _
     (rw c.deref-else-is_lower.ensures.value at c.general_lists.ensures.lists)
+
+pub starts-free-requires-clause-empty : goal.starts-free-requires-clause-empty
+starts-free-requires-clause-empty g c = (ap length c.clear.ensures.items, ap length c.clear-2.ensures.items)
+
+pub is_lower-requires-clause-form : goal.is_lower-requires-clause-form
+is_lower-requires-clause-form g c = c.requires.form
+
+pub is_lower-requires-clause-sorted : goal.is_lower-requires-clause-sorted
+is_lower-requires-clause-sorted g c = c.requires.sorted
+
+pub lower_lists-requires-clause-degrees : goal.lower_lists-requires-clause-degrees
+lower_lists-requires-clause-degrees g c =
+    subst (AreNeighbourCounts c.args.size (map g.I.Index.value c.args.a_p.now) (map g.I.Index.value c.args.a_i.now))
+    (sym c.deref-then-is_lower.ensures.value) c.requires.degrees
+
+pub lower_lists-requires-clause-heads : goal.lower_lists-requires-clause-heads
+lower_lists-requires-clause-heads g c = let wide = c.requires.room.lists.w in let kept = c.clear-4.ensures.capacity in
+    (ap length c.clear-4.ensures.items, omega (arith, wide, kept))
+
+pub general_lists-requires-clause-form : goal.general_lists-requires-clause-form
+general_lists-requires-clause-form g c = c.requires.form
+
+pub general_lists-requires-clause-sorted : goal.general_lists-requires-clause-sorted
+general_lists-requires-clause-sorted g c = c.requires.sorted
+
+pub general_lists-requires-clause-some : goal.general_lists-requires-clause-some
+general_lists-requires-clause-some g c = c.requires.some
+
+pub general_lists-requires-clause-degrees : goal.general_lists-requires-clause-degrees
+general_lists-requires-clause-degrees g c =
+    subst (AreNeighbourCounts c.args.size (map g.I.Index.value c.args.a_p.now) (map g.I.Index.value c.args.a_i.now))
+    (sym c.deref-else-is_lower.ensures.value) c.requires.degrees
+
+pub general_lists-requires-clause-room : goal.general_lists-requires-clause-room
+general_lists-requires-clause-room g c = c.requires.words
+
+pub general_lists-requires-clause-fits : goal.general_lists-requires-clause-fits
+general_lists-requires-clause-fits g c = let fits = c.requires.fits in (fits.0, fits.2, fits.3)
+
+pub general_lists-requires-clause-capacity : goal.general_lists-requires-clause-capacity
+general_lists-requires-clause-capacity g c =
+    let room = c.requires.room.words in let kept = c.clear-3.ensures.capacity in omega (arith, room, kept)
+
+pub general_lists-requires-clause-empty : goal.general_lists-requires-clause-empty
+general_lists-requires-clause-empty g c = (ap length c.clear-3.ensures.items, ap length c.clear-4.ensures.items)
+
+pub general_lists-requires-clause-wide : goal.general_lists-requires-clause-wide
+general_lists-requires-clause-wide g c =
+    let wide = c.requires.room.lists.w in let kept = c.clear-4.ensures.capacity in omega (arith, wide, kept)
+
+-- a list that is cleared and written has room for as many numbers as before
+kept_le : {n old cleared new : ℕ} → n ≤ old → cleared ≡ old → cleared ≤ new → n ≤ new
+kept_le few is kept = omega arith
+
+-- likewise one that keeps its room exactly
+kept_same : {n old cleared new : ℕ} → n ≤ old → cleared ≡ old → new ≡ cleared → n ≤ new
+kept_same few is kept = omega arith
+
+-- and one that is written twice
+kept_twice : {n old cleared started new : ℕ} → n ≤ old → cleared ≡ old → started ≡ cleared → started ≤ new → n ≤ new
+kept_twice few is same kept = omega arith
+
+pub returns-then-is_lower-clause-room : goal.returns-then-is_lower-clause-room
+returns-then-is_lower-clause-room g c = λ n words r.
+    let started = c.starts-free.ensures.capacity in let kept = c.lower_lists.ensures.capacity in record {
+      words = kept_le r.words c.clear-3.ensures.capacity kept.iw;
+      next = kept_twice r.next c.clear-2.ensures.capacity started.1 kept.next;
+      pe = kept_same r.pe c.clear.ensures.capacity started.0;
+      len = r.len;
+      lists = record {
+        e_len = r.lists.e_len;
+        w = kept_le r.lists.w c.clear-4.ensures.capacity c.lower_lists.ensures.heads;
+        head = r.lists.head;
+        sides = r.lists.sides;
+        hash = r.lists.hash;
+      };
+    }
+
+pub returns-then-is_lower-clause-degrees : goal.returns-then-is_lower-clause-degrees
+returns-then-is_lower-clause-degrees g c = refl
+
+pub returns-then-is_lower-clause-nv : goal.returns-then-is_lower-clause-nv
+returns-then-is_lower-clause-nv g c = refl
+
+pub returns-else-is_lower-clause-room : goal.returns-else-is_lower-clause-room
+returns-else-is_lower-clause-room g c = λ n words r.
+    let started = c.starts-free.ensures.capacity in let kept = c.general_lists.ensures.capacity in record {
+      words = kept_le r.words c.clear-3.ensures.capacity kept.iw;
+      next = kept_twice r.next c.clear-2.ensures.capacity started.1 kept.next;
+      pe = kept_same r.pe c.clear.ensures.capacity started.0;
+      len = r.len;
+      lists = record {
+        e_len = r.lists.e_len;
+        w = kept_le r.lists.w c.clear-4.ensures.capacity c.general_lists.ensures.pointers;
+        head = r.lists.head;
+        sides = r.lists.sides;
+        hash = r.lists.hash;
+      };
+    }
+
+pub returns-else-is_lower-clause-degrees : goal.returns-else-is_lower-clause-degrees
+returns-else-is_lower-clause-degrees g c = refl
+
+pub returns-else-is_lower-clause-nv : goal.returns-else-is_lower-clause-nv
+returns-else-is_lower-clause-nv g c = refl

@@ -41,6 +41,45 @@ columns-init g c = record {
       c.args.iw.now.items c.requires.some c.requires.empty c.requires.next c.requires.starts;
 }
 
+pub past_column-requires-clause-input : goal.past_column-requires-clause-input
+past_column-requires-clause-input g c = c.requires.input
+
+pub past_column-requires-clause-row : goal.past_column-requires-clause-row
+past_column-requires-clause-row g c = c.columns-test.true
+
+pub push_until-requires-clause-input : goal.push_until-requires-clause-input
+push_until-requires-clause-input g c = c.requires.input
+
+pub push_until-requires-clause-degrees : goal.push_until-requires-clause-degrees
+push_until-requires-clause-degrees g c = c.requires.degrees
+
+pub push_until-requires-clause-rows : goal.push_until-requires-clause-rows
+push_until-requires-clause-rows g c =
+    let few = c.past_column.ensures.few in let most = c.max-past.ensures in let laid = c.columns.invariant.laid.few in
+    (omega (arith, most), omega (arith, few, most, laid))
+
+pub push_until-requires-clause-laid : goal.push_until-requires-clause-laid
+push_until-requires-clause-laid g c =
+    let ap' = map g.I.Index.value c.args.a_p.now in let ai = map g.I.Index.value c.args.a_i.now in
+    (earlier_below c.args.size ap' ai c.columns.j, c.columns.next, c.columns.invariant.laid)
+
+pub push_until-requires-clause-room : goal.push_until-requires-clause-room
+push_until-requires-clause-room g c =
+    let room = c.requires.room in let wide = c.columns.invariant.capacity in omega (arith, room, wide)
+
+pub push_until-requires-clause-fits : goal.push_until-requires-clause-fits
+push_until-requires-clause-fits g c = c.requires.fits.0
+
+pub overflow_sub-size : goal.overflow_sub-size
+overflow_sub-size g c = let some = c.requires.some in omega (arith, some)
+
+pub push_rows-requires-clause-small : goal.push_rows-requires-clause-small
+push_rows-requires-clause-small g c = let rows = c.requires.fits.0 in omega (arith, rows)
+
+pub returns-clause-capacity : goal.returns-clause-capacity
+returns-clause-capacity g c =
+    let a = c.columns.invariant.capacity in let b = c.push_rows.ensures.capacity in omega (arith, a, b)
+
 pub cell_at-end-requires : goal.cell_at-end-requires
 unfolding graph_of
 cell_at-end-requires g c = let a = c.requires.degrees.size in let b = c.columns-test.true in omega (arith, a, b)

@@ -12,7 +12,7 @@ use Rattle.amd_round_laws.proofs.Lists.Rising.{count_yes, count_no}
 use Rattle.amd_round_laws.proofs.Starting.{class_test}
 use Rattle.amd_words.specs.Words.{num, flip_of}
 use Rattle.amd_lists.specs.Chains.{DegreeLists}
-use Rattle.amd_workspace.specs.Starting.{Rows, BeginsRows, held_in, begins_class, classes_of}
+use Rattle.amd_workspace.specs.Starting.{KeepsRows, Rows, BeginsRows, held_in, rows_in, begins_class, classes_of}
 use Rattle.amd_workspace.proofs.Starts.{aside, placed, AreEqual, equal_rows, equal_rest, none_begin, aside_rows, placed_rows, count_next}
 use Rattle.amd_workspace.proofs.Starts.{linked_none, linked_skip, linked_take}
 use Rattle.amd_workspace.proofs.starting.begin_rows.Goals as goal
@@ -32,14 +32,7 @@ rows-init g c =
     let held : ℕ → Bool = held_in (option_copied c.args.hold) c.args.threshold c.args.lists.now.len.now in
     let a = c.requires.words in let b = c.requires.cells in
     record {
-      begins = none_begin n held (record {
-        pe = c.args.lists.now.pe.now;
-        e_len = c.args.lists.now.e_len.now;
-        nv = c.args.lists.now.nv.now;
-        len = c.args.lists.now.len.now;
-        degree = c.args.lists.now.degree.now;
-        w = c.args.lists.now.w.now;
-      }) (record { pe = a.0; e_len = a.1; nv = a.2; len = refl; degree = b.0; w = b.1 });
+      begins = none_begin n held (rows_in c.args.lists.now) (record { pe = a.0; e_len = a.1; nv = a.2; len = refl; degree = b.0; w = b.1 });
       rest = λ j l. record { pe = refl; e_len = refl; nv = refl; len = refl; degree = refl; w = refl };
       links = c.requires.links;
       linked = linked_none n c.args.lists.now.head.now (nexts c.args.lists.now.sides.now) (lasts c.args.lists.now.sides.now)
@@ -76,34 +69,18 @@ overflow_add-live g c =
     let held : ℕ → Bool = held_in (option_copied c.args.hold) c.args.threshold c.args.lists.now.len.now in
     let most = count_most c.rows.i (begins_class held c.args.lists.now.len.now) in omega (arith, here, is, narrow, top, most)
 
+-- lists by bound under other names
+renamed : {n : ℕ} {head next last degree head' next' last' degree' : List ℕ} {lists : ℕ → List ℕ} → head' ≡ head → next' ≡ next →
+    last' ≡ last → degree' ≡ degree → DegreeLists n head next last degree lists → DegreeLists n head' next' last' degree' lists
+renamed a b d e was = rw (a, b, d, e) was
+
 pub rows-preserved : goal.rows-preserved
 rows-preserved g c =
     let len : List ℕ = c.args.lists.now.len.now in let n : ℕ = length len in let i : ℕ = c.rows.i in
     let held : ℕ → Bool = held_in (option_copied c.args.hold) c.args.threshold len in
-    let p : Rows = record {
-      pe = c.args.lists.now.pe.now;
-      e_len = c.args.lists.now.e_len.now;
-      nv = c.args.lists.now.nv.now;
-      len = c.args.lists.now.len.now;
-      degree = c.args.lists.now.degree.now;
-      w = c.args.lists.now.w.now;
-    } in
-    let q : Rows = record {
-      pe = c.rows.lists.pe.now;
-      e_len = c.rows.lists.e_len.now;
-      nv = c.rows.lists.nv.now;
-      len = c.rows.lists.len.now;
-      degree = c.rows.lists.degree.now;
-      w = c.rows.lists.w.now;
-    } in
-    let r : Rows = record {
-      pe = c.if-aside.lists.pe.now;
-      e_len = c.if-aside.lists.e_len.now;
-      nv = c.if-aside.lists.nv.now;
-      len = c.if-aside.lists.len.now;
-      degree = c.if-aside.lists.degree.now;
-      w = c.if-aside.lists.w.now;
-    } in
+    let p : Rows = rows_in c.args.lists.now in
+    let q : Rows = rows_in c.rows.lists in
+    let r : Rows = rows_in c.if-aside.lists in
     let was = c.rows.invariant in let at = c.rows.lists in
     let here : i < n = c.rows-test.true in
     let here_is : c.cell_lent-count.result ≡ num at.len.now i = c.cell_lent-count.ensures.is in
@@ -138,11 +115,11 @@ rows-preserved g c =
               ap (λ r. length (nexts r.sides.now)) w.lists-is ∙ was.links.1,
               ap (λ r. length (lasts r.sides.now)) w.lists-is ∙ was.links.2,
             );
-            linked = rw (ap (λ r. r.head.now) w.lists-is) (rw (ap (λ r. r.sides.now) w.lists-is)
-                (rw (ap (λ r. r.degree.now) w.lists-is ∙ wrote.bounds)
-                (linked_skip n i held len at.head.now (nexts at.sides.now) (lasts at.sides.now) at.degree.now was.linked none)));
+            linked = renamed (ap (λ r. r.head.now) w.lists-is) (ap (λ r. nexts r.sides.now) w.lists-is)
+                (ap (λ r. lasts r.sides.now) w.lists-is) (ap (λ r. r.degree.now) w.lists-is ∙ wrote.bounds)
+                (linked_skip n i held len at.head.now (nexts at.sides.now) (lasts at.sides.now) at.degree.now was.linked none);
             buckets = ap (λ r. r.hash.now) w.lists-is ∙ was.buckets;
-            loans = rw w.lists-is was.loans;
+            loans = subst (KeepsRows c.args.lists.now) (sym w.lists-is) was.loans;
             live = w.live-is ∙ count_no (begins_class held len) i c.rows.live was.live none;
             dense = w.n_dense-is ∙ ap (λ m. c.rows.n_dense + m) added ∙ count_next held i c.rows.n_dense was.dense;
           })
@@ -172,16 +149,17 @@ rows-preserved g c =
               ap (λ r. length (nexts r.sides.now)) w.lists-is ∙ wrote.lengths.1 ∙ long,
               ap (λ r. length (lasts r.sides.now)) w.lists-is ∙ wrote.lengths.2 ∙ long,
             );
-            linked = rw (ap (λ r. r.head.now) w.lists-is) (rw (ap (λ r. r.sides.now) w.lists-is) (rw (ap (λ r. r.degree.now) w.lists-is)
+            linked = renamed (ap (λ r. r.head.now) w.lists-is) (ap (λ r. nexts r.sides.now) w.lists-is)
+                (ap (λ r. lasts r.sides.now) w.lists-is) (ap (λ r. r.degree.now) w.lists-is)
                 (subst (λ m. DegreeLists m new.head (nexts new.sides) (lasts new.sides) new.degree
                 (λ b. reverse (classes_of held len (i + 1) b))) long
                 (linked_take (length (nexts at.sides.now)) i held len at.head.now (nexts at.sides.now) (lasts at.sides.now)
                 at.degree.now (subst (λ m. DegreeLists m at.head.now (nexts at.sides.now) (lasts at.sides.now) at.degree.now
                 (λ b. reverse (classes_of held len i b)))
                 (sym long) was.linked) new.head (nexts new.sides) (lasts new.sides) new.degree c.cell_lent-count.result count one
-                wrote.linked))));
+                wrote.linked));
             buckets = ap (λ r. r.hash.now) w.lists-is ∙ was.buckets;
-            loans = rw w.lists-is was.loans;
+            loans = subst (KeepsRows c.args.lists.now) (sym w.lists-is) was.loans;
             live = w.live-is ∙ count_yes (begins_class held len) i c.rows.live was.live one;
             dense = w.n_dense-is ∙ count_no held i c.rows.n_dense was.dense free;
           })
