@@ -1,7 +1,7 @@
 -- The walk where no entry is above the diagonal: no column reads of another one, so that each one is left from behind its
 -- diagonal entry on, and no edge was met before.
-use Rattle.std.proofs.Common.{◌≡◌, ◌≢◌, ◌+◌, ◌<◌, ◌≤◌, inl, inr, ℕ, zero, suc, Bool, true, false, List, [], get_or, map, ap, arith, refl, sym}
-use Rattle.std.proofs.Common.{◌∙◌, ◌⊎◌, subst, eqb, length, ltb, le_of_eq, le_of_lt, ◌&&◌}
+use Rattle.std.proofs.Common.{◌≡◌, ◌≢◌, ◌+◌, ◌<◌, ◌≤◌, inl, inr, ℕ, zero, suc, Bool, true, false, List, [], get_or, map}
+use Rattle.std.proofs.Common.{ap, arith, refl, sym, ◌∙◌, ◌⊎◌, subst, eqb, length, ltb, le_of_eq, le_of_lt, ◌&&◌}
 use Rattle.std.specs.List.{range_with_len}
 use Rattle.std.proofs.Math.ListN.{get_or-map}
 use Rattle.std.proofs.lemmas.Bool.{and_parts, and_from, cases_Bool, cases_eq, cases_lt, cond-false, cond-true, eq-eqb, eqb-true}

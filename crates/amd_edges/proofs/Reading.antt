@@ -1,5 +1,6 @@
 -- How far the rows of a column were read.
-use Rattle.std.proofs.Common.{◌≡◌, ◌+◌, ◌<◌, ◌≤◌, inl, inr, ℕ, List, get_or, arith, sym, subst, le_trans, le_of_eq, le_of_lt, lt_of_lt_of_le}
+use Rattle.std.proofs.Common.{◌≡◌, ◌≢◌, ◌+◌, ◌<◌, ◌≤◌, inl, inr, ℕ, List, get_or, arith, sym, subst}
+use Rattle.std.proofs.Common.{le_trans, le_of_eq, le_of_lt, lt_of_lt_of_le}
 use Rattle.std.proofs.lemmas.Bool.{cases_lt}
 use Rattle.amd_edges.specs.Walk.{IsScan}
 use Rattle.amd_edges.proofs.Forms.{IsSortedForm}
@@ -25,6 +26,14 @@ before_end e h = lt_of_lt_of_le h (le_of_eq e)
 
 pub past_end : {p end stop : ℕ} → end ≡ stop → end ≤ p → p < stop → ⊥
 past_end e past h = omega arith
+
+-- the place behind one before an end
+pub next_upto : {p end : ℕ} → p < end → p + 1 ≤ end
+next_upto h = omega arith
+
+-- a row that is k at least, and not k
+pub row_past : {first row k : ℕ} → first ≡ row → first ≢ k → k ≤ row → k < row
+row_past e ne h = omega arith
 
 pub reading_start : (ai : List ℕ) (start end k p : ℕ) → p ≡ start → start ≤ end → IsReading ai start end k 0 p
 reading_start ai start end k p is le = record {

@@ -1,13 +1,14 @@
 use Rattle.std.proofs.Common.{◌≡◌, ◌+◌, ◌^◌, ◌<◌, ◌≤◌, ◌≢◌, ◌++◌, ◌∷◌, [], ℕ, ℤ, List, pos, map}
 use Rattle.std.proofs.Common.{get_or, arith, ap, sym, true, false, refl, ◌∙◌, subst, subst₂}
-use Rattle.std.proofs.Common.{le_refl, le_of_lt, le_trans, le_of_eq}
+use Rattle.std.proofs.Common.{le_refl, le_of_lt, le_trans, le_of_eq, lt_of_lt_of_le, lt_of_le_of_lt}
 use Rattle.std.proofs.lemmas.Bool.{eqb-true, eqb-false, true≢false, le-ltb}
 use Rattle.std.proofs.lemmas.List.{length-map}
+use borrow.Author.Count.{falls}
 use Rattle.amd_model.specs.Input.Columns.{IsColumnForm, IsSorted}
 use Rattle.amd_types.specs.Naturals.{naturals, count_graph, is_entry}
 use Rattle.amd_edges.specs.Visits.{arcs_of, with_arc, IsNew}
 use Rattle.amd_edges.specs.Walk.{IsScan, met}
-use Rattle.amd_edges.proofs.Forms.{pointer_fits, row_fits, place_in, place_up, sorted_form}
+use Rattle.amd_edges.proofs.Forms.{pointer_fits, pointer_read, row_fits, place_in, place_up, sorted_form}
 use Rattle.amd_edges.proofs.Orders.{edges_until, until_start, until_next, until_end}
 use Rattle.amd_edges.proofs.Reading.{IsReading, row_below, row_from, before_end, past_end, reading_start, reading_next}
 use Rattle.amd_edges.proofs.Uppers.{IsUpper, IsOver, upper_next, upper_new, upper_after, upper_scan, exit_gap, over_entry, over_none}
@@ -234,3 +235,28 @@ returns g c =
       kept = v.kept;
       diagonal = over.entry;
     }
+
+pub count_at-end-requires-clause-within : goal.count_at-end-requires-clause-within
+count_at-end-requires-clause-within g c = (pointer_read g.I.Index.value c.args.a_p.now c.args.a_i.now c.args.size
+    c.requires.form (c.args.k + 1) (let l = c.requires.k_in in omega (arith, l)) (omega (arith, c.well_formed))).0
+
+pub count_at-place-requires-clause-within : goal.count_at-place-requires-clause-within
+count_at-place-requires-clause-within g c = (pointer_read g.I.Index.value c.args.a_p.now c.args.a_i.now c.args.size
+    c.requires.form c.args.k (le_of_lt c.requires.k_in) (omega (arith, c.well_formed))).0
+
+pub overflow_add-k : goal.overflow_add-k
+overflow_add-k g c = let l = c.requires.k_in in let top = c.ranges.size.fits in omega (arith, l, top)
+
+pub push_reserved-requires : goal.push_reserved-requires
+push_reserved-requires g c =
+    let i = c.upper.invariant.1 in lt_of_lt_of_le (lt_of_le_of_lt (le_of_eq (c.upper.next.ok.0 ∙ i.scan.size)) c.requires.k_in)
+    (le_trans c.requires.room (le_of_eq (sym i.room)))
+
+pub overflow_add-place : goal.overflow_add-place
+overflow_add-place g c =
+    let inside = place_in g.I.Index.value c.args.a_i.now c.args.size (map g.I.Index.value c.args.a_p.now) c.requires.form c.args.k
+    c.upper.place c.count_at-end.result c.requires.k_in c.count_at-end.ensures.count c.upper-test.true in
+    omega (arith, inside, c.well_formed)
+
+pub upper-smaller : goal.upper-smaller
+upper-smaller g c = falls c.count_at-end.result c.upper.place c.upper-test.true

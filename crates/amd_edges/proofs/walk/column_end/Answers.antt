@@ -6,7 +6,7 @@ use Rattle.amd_types.specs.Naturals.{naturals, count_graph, is_entry}
 use Rattle.amd_edges.specs.Visits.{arcs_of}
 use Rattle.amd_edges.specs.Walk.{met}
 use Rattle.amd_edges.proofs.Orders.{met_above, above_start, above_push, above_end}
-use Rattle.amd_edges.proofs.Forms.{pointer_fits, row_fits, place_in, sorted_form}
+use Rattle.amd_edges.proofs.Forms.{pointer_fits, pointer_read, row_fits, place_in, sorted_form}
 use Rattle.amd_edges.proofs.Reading.{row_from, before_end, past_end, reading_start, reading_next, reading_of, reading_end, row_in}
 use Rattle.amd_edges.proofs.Scans.{met_still, lower_behind}
 use Rattle.amd_edges.proofs.NextRows.{next_row}
@@ -97,3 +97,10 @@ returns-clause-held g c =
 
 pub returns-clause-kept : goal.returns-clause-kept
 returns-clause-kept g c = c.end.ensures.kept ∙ c.rows.invariant.1.kept
+
+pub count_at-end-requires-clause-within : goal.count_at-end-requires-clause-within
+count_at-end-requires-clause-within g c = (pointer_read g.I.Index.value c.args.a_p.now c.args.a_i.now c.args.size
+    c.requires.form (c.args.j + 1) (let l = c.requires.row in omega (arith, l)) (omega (arith, c.well_formed))).0
+
+pub overflow_add-j : goal.overflow_add-j
+overflow_add-j g c = let l = c.requires.row in let top = c.ranges.size.fits in omega (arith, l, top)

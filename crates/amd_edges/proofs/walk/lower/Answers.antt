@@ -1,14 +1,15 @@
 use Rattle.std.proofs.Common.{◌≡◌, ◌+◌, ◌<◌, ◌≤◌, ◌++◌, ◌^◌, ℕ, suc, arith, map}
 use Rattle.std.proofs.Common.{get_or, set, ap, sym, refl, ◌∙◌, subst, subst₂, le_trans}
-use Rattle.std.proofs.Common.{le_of_eq, lt_of_lt_of_le}
+use Rattle.std.proofs.Common.{le_of_eq, lt_of_lt_of_le, le-add_right}
 use Rattle.std.proofs.lemmas.List.{length-map}
 use Rattle.std.proofs.lemmas.Grind.{get_or_default_zero}
+use borrow.Author.Count.{falls}
 use Rattle.amd_types.specs.Naturals.{naturals, count_graph, is_entry}
 use Rattle.amd_edges.specs.Visits.{arcs_of}
 use Rattle.amd_edges.specs.Walk.{IsScan, met}
 use Rattle.amd_edges.proofs.Orders.{met_above, above_start, above_push, above_end}
-use Rattle.amd_edges.proofs.Forms.{pointer_fits, row_fits, place_in, place_up, sorted_form}
-use Rattle.amd_edges.proofs.Reading.{row_from, before_end, past_end}
+use Rattle.amd_edges.proofs.Forms.{pointer_fits, pointer_read, row_fits, place_in, place_up, sorted_form}
+use Rattle.amd_edges.proofs.Reading.{row_from, row_past, before_end, past_end, next_upto}
 use Rattle.amd_edges.proofs.Reading.{reading_start, reading_next, reading_behind, reading_behind_next}
 use Rattle.amd_edges.proofs.Scans.{met_still, lower_mirror, lower_end, lower_behind, lower_next}
 use Rattle.amd_edges.proofs.NextRows.{next_row}
@@ -141,10 +142,10 @@ returns g c =
           let same = w.count_at-then-place-end.ensures.count in
           let inside = before_end ends w.if-place-end.true in
           let here = w.if-count_at-k-2.true in
-          let from : get_or t j 0 ≤ q + 1 = (let x = i.from in omega (arith, x)) in
+          let from : get_or t j 0 ≤ q + 1 = le_trans i.from (le-add_right q 1) in
           record {
             scan = subst (λ x. IsScan n ap' ai (set t j x) k (j + 1)) (sym (c.cell_of.ensures ∙ w.place-is))
-                (lower_end n ap' ai form t k j (q + 1) r.scan r.before r.k_in from (omega (arith, inside)) r.mirror
+                (lower_end n ap' ai form t k j (q + 1) r.scan r.before r.k_in from (next_upto inside) r.mirror
                 (reading_behind_next i (sym same ∙ here))
                 (lower_next n ap' ai form t k j q r.scan r.before r.k_in i.from w.count_at-then-place-end.result same inside here));
             held = λ arcs h. subst₂ (λ s l. g.V.Visitor.holds (count_graph n ap' ai) s l c.end.new.self)
@@ -158,8 +159,8 @@ returns g c =
           })
       | else-place-end w ↦ (
           let other : q < get_or ap' (j + 1) 0 → k < get_or ai q 0 = λ inside. elim w.else-place-end.branch [
-            | else-place-end-via-then-place-end+else-count_at-k-2 u ↦ (let ne = u.if-count_at-k-2.false in
-                let two = u.count_at-then-place-end.ensures.count in let x = stop inside in omega (arith, ne, two, x))
+            | else-place-end-via-then-place-end+else-count_at-k-2 u ↦
+                row_past u.count_at-then-place-end.ensures.count u.if-count_at-k-2.false (stop inside)
             | else-place-end-via-else-place-end u ↦ absurd (past_end ends u.if-place-end.false inside)
           ] in
           record {
@@ -174,3 +175,25 @@ returns g c =
             kept = c.end.ensures.kept ∙ v.kept;
           })
     ]
+
+pub count_at-end-requires-clause-within : goal.count_at-end-requires-clause-within
+count_at-end-requires-clause-within g c = (pointer_read g.I.Index.value c.args.a_p.now c.args.a_i.now c.args.size
+    c.requires.form (c.args.j + 1) (let a = c.requires.before in let b = c.requires.k_in in omega (arith, a, b)) (omega (arith, c.well_formed))).0
+
+pub overflow_add-j : goal.overflow_add-j
+overflow_add-j g c = let a = c.requires.before in let b = c.requires.k_in in let top = c.ranges.size.fits in omega (arith, a, b, top)
+
+pub index-requires : goal.index-requires
+index-requires g c = lt_of_lt_of_le c.requires.before (le_of_eq (sym (c.args.next.now.ok.0 ∙ c.requires.scan.size)))
+
+pub index_mut-requires : goal.index_mut-requires
+index_mut-requires g c = lt_of_lt_of_le c.requires.before (le_of_eq (sym (c.args.next.now.ok.0 ∙ c.requires.scan.size)))
+
+pub rows-smaller : goal.rows-smaller
+rows-smaller g c = falls c.count_at-end.result c.rows.place c.rows-test.true
+
+pub overflow_add-place : goal.overflow_add-place
+overflow_add-place g c =
+    let inside = place_in g.I.Index.value c.args.a_i.now c.args.size (map g.I.Index.value c.args.a_p.now) c.requires.form c.args.j
+    c.rows.place c.count_at-end.result (lt_of_lt_of_le c.requires.before c.requires.k_in) c.count_at-end.ensures.count
+    c.rows-test.true in omega (arith, inside, c.well_formed)

@@ -1,7 +1,7 @@
-use Rattle.std.proofs.Common.{◌+◌, ◌<◌, ◌^◌, arith, map, subst, sym, ◌∙◌}
+use Rattle.std.proofs.Common.{◌+◌, ◌<◌, ◌^◌, arith, le_of_lt, map, subst, sym, ◌∙◌}
 use Rattle.std.proofs.lemmas.List.{length-map}
 use Rattle.amd_types.specs.Naturals.{naturals}
-use Rattle.amd_edges.proofs.Forms.{pointer_fits, row_fits, place_in}
+use Rattle.amd_edges.proofs.Forms.{pointer_fits, pointer_read, row_fits, place_in}
 use Rattle.amd_edges.proofs.LowerWalks.{start_at, start_behind}
 use Rattle.amd_edges.proofs.walk.lower_first.Goals as goal
 use Rattle.amd_edges.proofs.walk.lower_first.Goals.{else-first-count_at-via-then-first-count_at+else-count_at-j}
@@ -43,3 +43,14 @@ returns-else-first-count_at g c =
           w.if-count_at-j.false (w.count_at-then-first-count_at.ensures.count ∙ is)
       | else-first-count_at-via-else-first-count_at w ↦ (let none = w.if-first-count_at.false in omega (arith, none, end, some))
     ])
+
+pub count_at-first-requires-clause-within : goal.count_at-first-requires-clause-within
+count_at-first-requires-clause-within g c = (pointer_read g.I.Index.value c.args.a_p.now c.args.a_i.now c.args.size
+    c.requires.form c.args.j (le_of_lt c.requires.row) (omega (arith, c.well_formed))).0
+
+pub count_at-requires-clause-within : goal.count_at-requires-clause-within
+count_at-requires-clause-within g c = (pointer_read g.I.Index.value c.args.a_p.now c.args.a_i.now c.args.size
+    c.requires.form (c.args.j + 1) (let l = c.requires.row in omega (arith, l)) (omega (arith, c.well_formed))).0
+
+pub overflow_add-j : goal.overflow_add-j
+overflow_add-j g c = let l = c.requires.row in let top = c.ranges.size.fits in omega (arith, l, top)

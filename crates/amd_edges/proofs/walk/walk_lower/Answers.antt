@@ -14,7 +14,8 @@ use Rattle.amd_edges.proofs.walk.walk_lower.Goals as goal
 
 pub columns-init : goal.columns-init
 columns-init g c =
-    let r = c.requires in let n = c.args.size in let az = map g.I.Index.value c.args.a_p.now in let bz = map g.I.Index.value c.args.a_i.now in
+    let r = c.requires in let n = c.args.size in
+    let az = map g.I.Index.value c.args.a_p.now in let bz = map g.I.Index.value c.args.a_i.now in
     let ap' = naturals az in let ai = naturals bz in let form = sorted_form n az bz r.form r.sorted in
     let lower : (i j : ℕ) → is_entry n ap' ai i j ≡ true → j ≤ i = λ i j e. r.lower i j (same_pair n az bz r.form i j ∙ e) in (
       starts n ap' ai form lower,
