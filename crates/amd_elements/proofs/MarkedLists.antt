@@ -1,5 +1,5 @@
 -- The lists of a workspace are marked: the first word of each names its owner, whose start keeps the word.
-use Rattle.std.proofs.Common.{ℕ, true, false, List, ℤ, pos, ◌≡◌, ◌<◌, ◌≤◌, ◌+◌, ◌⊎◌, inl, inr, sym, ap, subst, ◌∙◌, arith}
+use Rattle.std.proofs.Common.{ℕ, true, false, List, ℤ, pos, ◌≡◌, ◌<◌, ◌≤◌, ◌+◌, ◌⊎◌, inl, inr, refl, sym, ap, subst, ◌∙◌, arith}
 use Rattle.std.proofs.Common.{length, set, length-set, get_or-set_same, get_or-set_other}
 use Rattle.std.proofs.lemmas.Bool.{cases_eq, true≢false}
 use Rattle.amd_words.specs.Words.{num, is_place, place, flip_of, word, start}
@@ -30,6 +30,18 @@ pub record Marked (iw pe : List ℤ) (len : List ℕ) (iw' pe' : List ℤ) (m : 
   pub later : (j : ℕ) → m ≤ j → word pe' j ≡ word pe j
   pub words : (p : ℕ) → (word iw' p ≡ word iw p) ⊎ ((j : ℕ) × (j < m) × (has_list pe len j ≡ true) × (start pe j ≡ p)
       × (word iw' p ≡ flip_of j))
+
+-- before the first row none is marked
+pub marked_none : (iw pe : List ℤ) (len : List ℕ) → Marked iw pe len iw pe 0
+marked_none iw pe len = record {
+  long = refl;
+  rows = refl;
+  swapped = λ j l k. absurd (omega (arith, l));
+  first = λ j l k. absurd (omega (arith, l));
+  others = λ j k. refl;
+  later = λ j l. refl;
+  words = λ p. inl refl;
+}
 
 pub marked_no : {iw pe : List ℤ} {len : List ℕ} {iw' pe' : List ℤ} {m : ℕ} → has_list pe len m ≡ false → Marked iw pe len iw' pe' m →
     Marked iw pe len iw' pe' (m + 1)

@@ -1,6 +1,6 @@
 -- The marked lists of a workspace are moved down, each behind the one before it.
-use Rattle.std.proofs.Common.{ℕ, true, false, List, ℤ, pos, negsuc, ◌≡◌, ◌<◌, ◌≤◌, ◌+◌, ◌-◌, ◌&&◌, ◌⊎◌, inl, inr, refl, sym, ap}
-use Rattle.std.proofs.Common.{subst, ◌∙◌, arith, length, set, length-set, get_or-set_same, get_or-set_other, cond, ltb}
+use Rattle.std.proofs.Common.{ℕ, true, false, List, ℤ, pos, negsuc, ◌≡◌, ◌<◌, ◌≤◌, ◌+◌, ◌-◌, ◌^◌, ◌&&◌, ◌⊎◌, inl, inr, refl, sym}
+use Rattle.std.proofs.Common.{Fits, w64, ap, subst, ◌∙◌, arith, length, set, length-set, get_or-set_same, get_or-set_other, cond, ltb}
 use Rattle.std.proofs.lemmas.Bool.{cases_eq, cases_lt, cases_order, cases_Bool, and_from, and_left, and_right, lt-ltb, le-ltb, true≢false}
 use Rattle.std.proofs.lemmas.List.{get_or_past}
 use Rattle.amd_model.specs.Below.{sum_below}
@@ -286,6 +286,18 @@ row_of {iw} {pe} {len} {free} {iw'} {pe'} {src} {dst} y l f h r w =
       a.5,
       (has_parts pe len a.0 a.1).1,
     )
+
+-- the list of row r, whose mark stands at the place src, has some words, and they end before the free end
+pub list_words : {iw pe : List ℤ} {len : List ℕ} {free : ℕ} {iw' pe' : List ℤ} {src dst : ℕ} → Spaced iw pe len free → src < free →
+    is_place (word iw' src) ≡ false → Swept iw pe len free iw' pe' src dst → (r : ℕ) → word iw' src ≡ flip_of r →
+    (count : ℕ) → count ≡ num len r →
+    (0 < count) × (src + count ≤ free)
+list_words {free} {src} y l f h r w count is =
+    let a = row_of y l f h r w in (subst (λ k. 0 < k) (sym is) a.4, subst (λ k. src + k ≤ free) (sym is) a.3)
+
+-- a place up to the free end is a number of 64 bits
+pub place_fits : {p free long most : ℕ} → p ≤ free → free ≤ long → long ≤ most → most < 2 ^ 63 → Fits w64 p
+place_fits a b c d = omega arith
 
 pub has_not_place : (pe pe' : List ℤ) (len : List ℕ) (j : ℕ) → word pe' j ≡ word pe j → is_place (word pe' j) ≡ false →
     has_list pe len j ≡ false

@@ -97,3 +97,9 @@ returns-clause-held g c = rest_visited c.requires.lists c.loop-p.iw c.loop-p.inv
     (visited c.loop-p.iw c.loop-p.nv c.loop-p.visitor))
     (all_passed _ _ _ c.loop-p.auto.p (c.loop-p.auto.p-end (le-add_right _ _)) c.loop-p-test.false) c.loop-p.invariant.held)
     c.take-2.ensures.held
+
+pub returns-clause-lengths : goal.returns-clause-lengths
+returns-clause-lengths g c = (
+  c.take-2.ensures.lengths.0 ∙ c.loop-p.invariant.long,
+  c.take-2.ensures.lengths.1 ∙ c.loop-p.invariant.wide,
+)

@@ -14,7 +14,8 @@ use Rattle.amd_elements.specs.Making.{Makes}
 use Rattle.amd_elements.specs.Pivots.{built_front}
 use Rattle.amd_elements.proofs.Touching.{front_apart}
 use Rattle.amd_elements.proofs.Beginnings.{begins, built_inside}
-use Rattle.std.proofs.Common.{add-le-add, le_refl}
+use Rattle.std.proofs.Common.{add-le-add, le_refl, ◌==◌}
+use Rattle.std.proofs.lemmas.Bool.{or_left, eq-eqb}
 use Rattle.amd_elements.proofs.beginning.begin_built.Goals as goal
 
 pub named_lent-from-requires : goal.named_lent-from-requires
@@ -135,3 +136,13 @@ returns-clause-begins g c =
       block = c.take_pivot-block.ensures.rows ∙ b.sizes me;
       same = refl;
     }
+
+pub take_pivot-block-requires-clause-inside : goal.take_pivot-block-requires-clause-inside
+take_pivot-block-requires-clause-inside g c = lt_of_lt_of_le c.requires.pivot.row.0 (le_of_eq (sym c.build-end.ensures.builds.wide))
+
+pub take_pivot-block-requires-clause-marked : goal.take_pivot-block-requires-clause-marked
+take_pivot-block-requires-clause-marked g c =
+    c.build-end.ensures.builds.front_is c.args.me ∙ or_left (c.args.me == c.args.me) _ (eq-eqb c.args.me c.args.me refl)
+
+pub returns-clause-loans : goal.returns-clause-loans
+returns-clause-loans g c = (refl, refl, refl, refl, refl, refl, refl, refl, refl, refl)

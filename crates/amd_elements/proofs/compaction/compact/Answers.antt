@@ -1,29 +1,34 @@
-use Rattle.std.proofs.Common.{rules}
 -- The proof of compaction::compact.
-use Rattle.std.proofs.Common.{◌≡◌, ◌≤◌, length, arith, le_of_eq, sym, ◌∙◌, subst, set, unsigned_abs}
+use Rattle.std.proofs.Common.{◌≡◌, ◌≤◌, length, arith, le_of_eq, le_refl, le_trans, lt_of_lt_of_le, add-le-add}
+use Rattle.std.proofs.Common.{sym, ◌∙◌, subst, set, unsigned_abs}
+use borrow.Author.Count.{falls}
 use Rattle.amd_words.specs.Words.{start, word}
 use Rattle.amd_elements.specs.Compaction.{Moves}
-use Rattle.amd_elements.proofs.MarkedLists.{Marked, start_below, start_inside, marked_yes, marked_no}
+use Rattle.amd_elements.proofs.MarkedLists.{Marked, start_below, start_inside, marked_none, marked_yes, marked_no}
 use Rattle.amd_elements.proofs.Moves.{has_not_place, has_no_words, swept_none, swept_skip}
-use Rattle.amd_elements.proofs.Moves.{swept_move, swept_all, row_of, not_empty}
+use Rattle.amd_elements.proofs.Moves.{swept_move, swept_all, row_of, list_words, place_fits, not_empty}
 use Rattle.amd_elements.proofs.MoveSigns.{owner_form}
 use Rattle.amd_elements.proofs.compaction.compact.Goals as goal
 use Rattle.amd_elements.proofs.compaction.compact.Goals.{then-cell_at-gt0+then-names_one, else-cell_at-gt0}
 use Rattle.amd_elements.proofs.compaction.compact.Goals.{else-cell_at-gt0-via-then-cell_at-gt0+else-names_one}
 use Rattle.amd_elements.proofs.compaction.compact.Goals.{else-cell_at-gt0-via-else-cell_at-gt0}
 
+pub loop-j-init : goal.loop-j-init
+loop-j-init g c = marked_none c.args.iw.now c.args.pe.now c.args.len.now
+
 pub mark_row-requires : goal.mark_row-requires
-mark_row-requires g c = record {
-  row = search rules;
-  small = search rules;
-  is_one = search rules;
-  inside = ((start_inside c.requires.layout c.requires.end c.loop-j.invariant
-      (let b = c.if-cell_at-gt0.true in let e = c.cell_at.ensures.is in omega (arith, b, e)) (sym c.names_one.ensures
-      ∙ c.if-names_one.true)).2);
-}
+mark_row-requires g c =
+    let r = c.requires in let h = c.loop-j.invariant in let t = c.loop-j-test.true in let small = r.words.0 in
+    let is = sym c.names_one.ensures ∙ c.if-names_one.true in record {
+      row = (let a = h.rows in let b = r.lengths in omega (arith, t, a, b));
+      small = (omega (arith, t, small), r.words.1);
+      is_one = is;
+      inside = (start_inside r.layout r.end h
+          (let b = c.if-cell_at-gt0.true in let e = c.cell_at.ensures.is in omega (arith, b, e)) is).2;
+    }
 
 pub loop-j-preserved : goal.loop-j-preserved
-loop-j-preserved g c = let h = c.loop-j.invariant in let same = h.later c.loop-j.j (omega arith) in elim c.if-cell_at-gt0.branch [
+loop-j-preserved g c = let h = c.loop-j.invariant in let same = h.later c.loop-j.j (le_refl c.loop-j.j) in elim c.if-cell_at-gt0.branch [
   | then-cell_at-gt0+then-names_one w ↦ (let a = start_inside c.requires.layout c.requires.end h (let b = w.if-cell_at-gt0.true in
       let e = c.cell_at.ensures.is in omega (arith, b, e)) (sym w.names_one.ensures ∙ w.if-names_one.true) in
       let s : start c.loop-j.pe c.loop-j.j ≡ start c.args.pe.now c.loop-j.j = a.1 in
@@ -62,30 +67,24 @@ cell_at-count-requires g c = (row_of c.requires.layout c.loop-src-test.true (sym
     ∙ c.if-names_one-2.false) c.loop-src.invariant c.flipped-j.result c.flipped-j.ensures).2
 
 pub move_list-requires : goal.move_list-requires
-move_list-requires g c = record {
-  row = (let a = (row_of c.requires.layout c.loop-src-test.true (sym c.names_one-in-loop-src.ensures
-      ∙ c.if-names_one-2.false) c.loop-src.invariant c.flipped-j.result c.flipped-j.ensures).2 in let b = c.loop-src.invariant.rows in
-      omega (arith, a, b, c.requires.lengths));
-  first = (let a = row_of c.requires.layout c.loop-src-test.true (sym c.names_one-in-loop-src.ensures
-      ∙ c.if-names_one-2.false) c.loop-src.invariant c.flipped-j.result c.flipped-j.ensures in
-      subst (λ z. unsigned_abs z ≤ g.S.Signed.MOST) (sym (c.loop-src.invariant.todo c.flipped-j.result a.0 (le_of_eq (sym a.1))))
-      (c.requires.fits (start c.args.pe.now c.flipped-j.result) (start_below c.requires.layout c.flipped-j.result a.0)));
-  some = (let a = (row_of c.requires.layout c.loop-src-test.true (sym c.names_one-in-loop-src.ensures
-      ∙ c.if-names_one-2.false) c.loop-src.invariant c.flipped-j.result c.flipped-j.ensures).4 in let e = c.cell_at-count.ensures.is in
-      omega (arith, a, e));
-  inside = (let a = (row_of c.requires.layout c.loop-src-test.true (sym c.names_one-in-loop-src.ensures
-      ∙ c.if-names_one-2.false) c.loop-src.invariant c.flipped-j.result c.flipped-j.ensures).3 in let e = c.cell_at-count.ensures.is in
-      let h = c.loop-src.invariant.long in let w = c.loop-src.invariant.low in let b = c.requires.end in let d = c.requires.wide.1 in
-      let z = g.met.P.Signed.narrow in
-      omega (arith, a, e, h, w, b, d, z));
-  down = search rules;
-  small = search rules;
-}
+move_list-requires g c =
+    let r = c.requires in let i = c.loop-src.invariant in let j = c.flipped-j.result in let t = c.loop-src-test.true in
+    let mark = sym c.names_one-in-loop-src.ensures ∙ c.if-names_one-2.false in
+    let a = row_of r.layout t mark i j c.flipped-j.ensures in
+    let b = list_words r.layout t mark i j c.flipped-j.ensures c.cell_at-count.result c.cell_at-count.ensures.is in record {
+      row = lt_of_lt_of_le a.2 (le_of_eq (sym (i.rows ∙ r.lengths)));
+      first = subst (λ z. unsigned_abs z ≤ g.S.Signed.MOST) (sym (i.todo j a.0 (le_of_eq (sym a.1))))
+          (r.fits (start c.args.pe.now j) (start_below r.layout j a.0));
+      some = b.0;
+      inside = le_trans b.1 (le_trans r.end (le_of_eq (sym i.long)));
+      down = i.low;
+      small = le_trans i.low (le_trans i.high (le_trans r.end r.wide.1));
+    }
 
 pub loop-src-smaller : goal.loop-src-smaller
-loop-src-smaller g c = let a = (row_of c.requires.layout c.loop-src-test.true (sym c.names_one-in-loop-src.ensures
-    ∙ c.if-names_one-2.false) c.loop-src.invariant c.flipped-j.result c.flipped-j.ensures).4 in let b = c.loop-src-test.true in
-    let e = c.cell_at-count.ensures.is in omega (arith, a, b, e)
+loop-src-smaller g c = let a = (list_words c.requires.layout c.loop-src-test.true (sym c.names_one-in-loop-src.ensures
+    ∙ c.if-names_one-2.false) c.loop-src.invariant c.flipped-j.result c.flipped-j.ensures c.cell_at-count.result c.cell_at-count.ensures.is).0 in
+    let b = c.loop-src-test.true in omega (arith, a, b)
 
 pub loop-src-preserved : goal.loop-src-preserved
 loop-src-preserved g c = let a = row_of c.requires.layout c.loop-src-test.true (sym c.names_one-in-loop-src.ensures
@@ -98,16 +97,28 @@ loop-src-preserved g c = let a = row_of c.requires.layout c.loop-src-test.true (
 pub returns-clause-compacts : goal.returns-clause-compacts
 returns-clause-compacts g c = swept_all c.requires.layout c.loop-src-test.false c.loop-src.invariant
 
+pub overflow_add-src : goal.overflow_add-src
+overflow_add-src g c =
+    let l = c.loop-src-test.true in place_fits (omega (arith, l)) c.requires.end c.requires.wide.1 g.met.P.Signed.narrow
+
 pub overflow_add-src-else-names_one-2 : goal.overflow_add-src-else-names_one-2
-overflow_add-src-else-names_one-2 g c = let a = (row_of c.requires.layout c.loop-src-test.true (sym c.names_one-in-loop-src.ensures
-    ∙ c.if-names_one-2.false) c.loop-src.invariant c.flipped-j.result c.flipped-j.ensures).3 in let e = c.cell_at-count.ensures.is in
-    let h = c.loop-src.invariant.long in let w = c.loop-src.invariant.low in let b = c.requires.end in let d = c.requires.wide.1 in
-    let z = g.met.P.Signed.narrow in
-    omega (arith, a, e, h, w, b, d, z)
+overflow_add-src-else-names_one-2 g c = place_fits (list_words c.requires.layout c.loop-src-test.true (sym c.names_one-in-loop-src.ensures
+    ∙ c.if-names_one-2.false) c.loop-src.invariant c.flipped-j.result c.flipped-j.ensures c.cell_at-count.result c.cell_at-count.ensures.is).1
+    c.requires.end c.requires.wide.1 g.met.P.Signed.narrow
 
 pub overflow_add-dst : goal.overflow_add-dst
-overflow_add-dst g c = let a = (row_of c.requires.layout c.loop-src-test.true (sym c.names_one-in-loop-src.ensures
-    ∙ c.if-names_one-2.false) c.loop-src.invariant c.flipped-j.result c.flipped-j.ensures).3 in let e = c.cell_at-count.ensures.is in
-    let h = c.loop-src.invariant.long in let w = c.loop-src.invariant.low in let b = c.requires.end in let d = c.requires.wide.1 in
-    let z = g.met.P.Signed.narrow in
-    omega (arith, a, e, h, w, b, d, z)
+overflow_add-dst g c = place_fits (le_trans (add-le-add c.loop-src.invariant.low (le_refl c.cell_at-count.result))
+    (list_words c.requires.layout c.loop-src-test.true (sym c.names_one-in-loop-src.ensures
+    ∙ c.if-names_one-2.false) c.loop-src.invariant c.flipped-j.result c.flipped-j.ensures c.cell_at-count.result c.cell_at-count.ensures.is).1)
+    c.requires.end c.requires.wide.1 g.met.P.Signed.narrow
+
+pub flipped-j-requires-clause-inside : goal.flipped-j-requires-clause-inside
+flipped-j-requires-clause-inside g c =
+    let a = c.loop-src-test.true in let b = c.loop-src.invariant.long in let e = c.requires.end in omega (arith, a, b, e)
+
+pub names_one-requires-in-loop-src : goal.names_one-requires-in-loop-src
+names_one-requires-in-loop-src g c =
+    let a = c.loop-src-test.true in let b = c.loop-src.invariant.long in let e = c.requires.end in omega (arith, a, b, e)
+
+pub loop-src-smaller-then-names_one-2 : goal.loop-src-smaller-then-names_one-2
+loop-src-smaller-then-names_one-2 g c = falls c.args.free c.loop-src.src c.loop-src-test.true

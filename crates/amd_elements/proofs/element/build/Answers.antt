@@ -1,3 +1,4 @@
+use Rattle.std.proofs.Common.{refl, sym, le_of_eq, lt_of_lt_of_le}
 use Rattle.amd_elements.proofs.Building.{builds_none, builds_visited}
 use Rattle.amd_elements.proofs.ListsAround.{around_wide}
 use Rattle.amd_elements.proofs.element.build.Goals as goal
@@ -14,3 +15,21 @@ returns-clause-builds g c =
     builds_visited c.args.iw.now c.args.nv.now c.enter.new.nv c.args.pe.now c.args.len.now c.args.pivot c.args.n_elements
     c.args.free
     c.enter.ensures.sizes c.enter.ensures.front c.requires.around.clear c.enter.ensures.long c.visit_around.ensures.held
+
+pub enter-requires-clause-inside : goal.enter-requires-clause-inside
+enter-requires-clause-inside g c = c.requires.around.pivot.0
+
+pub enter-requires-clause-class : goal.enter-requires-clause-class
+enter-requires-clause-class g c = c.requires.around.pivot.1
+
+pub enter-requires-clause-fresh : goal.enter-requires-clause-fresh
+enter-requires-clause-fresh g c = c.requires.around.clear c.args.pivot
+
+pub visit_around-requires-clause-pivot : goal.visit_around-requires-clause-pivot
+visit_around-requires-clause-pivot g c = lt_of_lt_of_le c.requires.around.pivot.0 (le_of_eq (sym c.enter.ensures.long))
+
+pub visit_around-requires-clause-end : goal.visit_around-requires-clause-end
+visit_around-requires-clause-end g c = c.requires.end
+
+pub returns-clause-same : goal.returns-clause-same
+returns-clause-same g c = (refl, refl)

@@ -1,4 +1,4 @@
-use Rattle.std.proofs.Common.{ℕ, [], ◌≡◌, ◌-◌, ◌+◌, ◌<◌, ◌^◌, sym, ap, subst, ◌∙◌, arith, falls, rules, le-add_right}
+use Rattle.std.proofs.Common.{ℕ, [], ◌≡◌, ◌-◌, ◌+◌, sym, ap, subst, ◌∙◌, arith, falls, le-add_right}
 use Rattle.amd_words.specs.Words.{classes, rows}
 use Rattle.amd_words.proofs.RowLists.{rows_none}
 use Rattle.amd_words.proofs.WordCounts.{all_passed, none_passed}
@@ -45,14 +45,15 @@ enter-sum-requires-clause-fresh g c = row_fresh c.loop-p.p c.requires c.loop-p.i
     c.named-row.result c.named-row.ensures (sym c.is_open.ensures.is ∙ c.if-is_open.true)
 
 pub overflow_add-sum : goal.overflow_add-sum
-overflow_add-sum g c = let fits : c.loop-p.sum + c.enter-sum.result < 2 ^ 64 =
+overflow_add-sum g c = let fits =
     sum_fits c.loop-p.p c.requires c.loop-p.invariant c.loop-p.auto.p c.loop-p-test.true c.named-row.result c.named-row.ensures
-    (sym c.is_open.ensures.is ∙ c.if-is_open.true) c.enter-sum.result c.enter-sum.ensures.rows in search (rules, fits)
+    (sym c.is_open.ensures.is ∙ c.if-is_open.true) c.enter-sum.result c.enter-sum.ensures.rows in
+    omega (arith, fits)
 
 pub overflow_add-end : goal.overflow_add-end
 overflow_add-end g c = let inside = end_inside c.loop-p.p c.requires c.loop-p.invariant c.loop-p.auto.p c.loop-p-test.true
     c.named-row.result c.named-row.ensures (sym c.is_open.ensures.is ∙ c.if-is_open.true) in
-    let fits : c.loop-p.end + 1 < 2 ^ 64 = omega (arith, inside) in search (rules, fits)
+    omega (arith, inside)
 
 pub loop-p-preserved : goal.loop-p-preserved
 loop-p-preserved g c = elim c.if-is_open.branch [

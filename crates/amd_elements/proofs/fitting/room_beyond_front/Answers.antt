@@ -1,4 +1,5 @@
 use Rattle.std.proofs.Common.{ℕ, ◌||◌, refl, sym, ap, subst, ◌∙◌}
+use Rattle.std.proofs.Common.{le_of_eq, le_trans, lt_of_lt_of_le}
 use Rattle.std.proofs.lemmas.Bool.{eq-eqb}
 use Rattle.amd_model.specs.Quotient.{has}
 use Rattle.amd_elements.specs.Element.{front_of}
@@ -44,3 +45,29 @@ returns-clause-same g c = let h = c.visit_around.ensures.held.meets in (
       c.leave.ensures.front) (subst (λ iw. Unmarks c.leave.new.nv (named_around iw c.args.pe.now c.args.len.now c.args.pivot
       c.args.n_elements) c.visit_around-2.new.nv) c.visit_around.ensures.held.same c.visit_around-2.ensures.held.unmarks)),
 )
+
+pub enter-requires-clause-inside : goal.enter-requires-clause-inside
+enter-requires-clause-inside g c = c.requires.around.pivot.0
+
+pub enter-requires-clause-class : goal.enter-requires-clause-class
+enter-requires-clause-class g c = c.requires.around.pivot.1
+
+pub enter-requires-clause-fresh : goal.enter-requires-clause-fresh
+enter-requires-clause-fresh g c = c.requires.around.clear c.args.pivot
+
+pub visit_around-requires-clause-pivot : goal.visit_around-requires-clause-pivot
+visit_around-requires-clause-pivot g c = lt_of_lt_of_le c.requires.around.pivot.0 (le_of_eq (sym c.enter.ensures.long))
+
+pub visit_around-requires-clause-end : goal.visit_around-requires-clause-end
+visit_around-requires-clause-end g c = c.requires.end
+
+pub leave-requires-clause-inside : goal.leave-requires-clause-inside
+leave-requires-clause-inside g c =
+    lt_of_lt_of_le c.requires.around.pivot.0 (le_of_eq (sym (c.visit_around.ensures.lengths.1 ∙ c.enter.ensures.long)))
+
+pub visit_around-requires-2-clause-pivot : goal.visit_around-requires-2-clause-pivot
+visit_around-requires-2-clause-pivot g c = lt_of_lt_of_le c.requires.around.pivot.0
+    (le_of_eq (sym (c.leave.ensures.long ∙ c.visit_around.ensures.lengths.1 ∙ c.enter.ensures.long)))
+
+pub visit_around-requires-2-clause-end : goal.visit_around-requires-2-clause-end
+visit_around-requires-2-clause-end g c = le_trans c.requires.end (le_of_eq (sym c.visit_around.ensures.lengths.0))

@@ -1,6 +1,8 @@
-use Rattle.std.proofs.Common.{ℕ, ◌<◌, ◌^◌, ◌-◌, sym, ap, subst, ◌∙◌, arith, sum_by, set, length}
+use Rattle.std.proofs.Common.{ℕ, ℤ, List, refl, ◌<◌, ◌≤◌, ◌+◌, ◌^◌, ◌-◌, sym, ap, subst, ◌∙◌, arith, sum_by, set, length}
+use Rattle.std.proofs.Common.{le_of_eq, lt_of_lt_of_le}
 use Rattle.amd_words.specs.Words.{num, start, size_of, classes, rows}
 use Rattle.amd_elements.specs.Element.{grown}
+use Rattle.amd_lists.specs.Workspaces.{workspace_of}
 use Rattle.amd_lists.proofs.Frames.{has_parts}
 use Rattle.amd_words.proofs.RowLists.{names_at}
 use Rattle.amd_elements.proofs.Settling.{list_laid}
@@ -9,8 +11,8 @@ use Rattle.amd_elements.proofs.OwnPlace.{gathers_at, own_few, own_gather, own_bu
 use Rattle.amd_elements.proofs.own_place.make_own.Goals as goal
 
 pub list_lent-from-requires : goal.list_lent-from-requires
-list_lent-from-requires g c = let q = c.requires.pivot in let a = q.row.0 in let l = q.lengths.0 in let m = q.lengths.2 in record {
-  inside = ((omega (arith, a, l)), (omega (arith, a, m)));
+list_lent-from-requires g c = let q = c.requires.pivot in record {
+  inside = (lt_of_lt_of_le q.row.0 (le_of_eq (sym q.lengths.0)), lt_of_lt_of_le q.row.0 (le_of_eq (sym q.lengths.2)));
   place = (has_parts c.args.work.now.pe.now c.args.work.now.len.now c.args.me q.listed).0;
 }
 
@@ -41,14 +43,14 @@ gather-end-requires g c = own_gather record {
     c.requires.pivot.clear (let f = c.requires.few in let top = g.met.P.Signed.narrow in omega (arith, f, top)))))
 
 pub put_flip-requires-clause-inside : goal.put_flip-requires-clause-inside
-put_flip-requires-clause-inside g c = let a = c.requires.pivot.row.0 in let l = c.requires.pivot.lengths.1 in omega (arith, a, l)
+put_flip-requires-clause-inside g c = lt_of_lt_of_le c.requires.pivot.row.0 (le_of_eq (sym c.requires.pivot.lengths.1))
 
 pub put_flip-requires-clause-small : goal.put_flip-requires-clause-small
 put_flip-requires-clause-small g c =
     let b = own_builds c.args.work.now.iw.now c.args.work.now.nv.now c.enter.new.nv c.args.work.now.pe.now c.args.work.now.len.now
     c.args.me c.enter.ensures.sizes c.enter.ensures.front c.requires.pivot.clear c.enter.ensures.long
     (gathers_at c.list_lent-from.ensures.list.0 c.list_lent-from.ensures.list.1 c.gather-end.ensures) in
-    let t = b.total_is in let f = c.requires.few in omega (arith, t, f)
+    subst (λ t. t + 2 ≤ g.P.Signed.MOST) (sym b.total_is) c.requires.few
 
 pub returns-clause-builds : goal.returns-clause-builds
 returns-clause-builds g c = let p = c.args.work.now in let at = c.list_lent-from.ensures.list in
@@ -66,9 +68,24 @@ returns-clause-makes g c =
     ∙ ap (λ s. set p.len.now me (c.gather-end.result.0 - s)) at.0))
 
 pub put_cell-requires-clause-inside : goal.put_cell-requires-clause-inside
-put_cell-requires-clause-inside g c = let a = c.requires.pivot.row.0 in let l = c.requires.pivot.lengths.2 in
-    let e = ap length c.list_lent-from.ensures.same.1 in omega (arith, a, l, e)
+put_cell-requires-clause-inside g c = lt_of_lt_of_le c.requires.pivot.row.0
+    (le_of_eq (sym (ap length c.list_lent-from.ensures.same.1 ∙ c.requires.pivot.lengths.2)))
 
 pub put_cell-requires-clause-fits : goal.put_cell-requires-clause-fits
-put_cell-requires-clause-fits g c = let a = gathers_end c.list_lent-from.result.0 c.list_lent-from.result.1 c.gather-end.ensures in let b =
-    c.list_lent-from.ensures.small in omega (arith, a, b)
+put_cell-requires-clause-fits g c =
+    let a = gathers_end c.list_lent-from.result.0 c.list_lent-from.result.1 c.gather-end.ensures in
+    let b = c.list_lent-from.ensures.small in omega (arith, a, b)
+
+pub returns-clause-same : goal.returns-clause-same
+returns-clause-same g c =
+    let p = c.args.work.now in let lent = c.list_lent-from.ensures.same in
+    ap (λ (pe : List ℤ). record (workspace_of p) {
+      iw = c.gather-end.new.iw;
+      nv = c.gather-end.new.nv;
+      pe = pe;
+      e_len = c.put_flip.new.words;
+      len = c.put_cell.new.cells;
+    }) lent.0
+
+pub returns-clause-loans : goal.returns-clause-loans
+returns-clause-loans g c = (refl, refl, refl, refl, refl, refl, refl, refl, refl, refl)
