@@ -10,7 +10,7 @@ use Rattle.amd_lists.specs.Chains.{Chain}
 use Rattle.amd_merging.specs.Merging.{bucket, bucket_of, kept_of, words_of, is_near, HasSome, HasNone}
 use Rattle.amd_merging.proofs.Likeness.{alike_counts}
 use Rattle.amd_words.proofs.WordMarks.{marked_below, marked_zero}
-use Rattle.std.proofs.Common.{le_refl, le-add_right, lt_of_le_of_lt, lt_irrefl, lt_of_lt_of_le, le_trans, le_of_eq, ◌+◌}
+use Rattle.std.proofs.Common.{le_refl, le-add_right, lt_of_le_of_lt, lt_irrefl, lt_of_lt_of_le, le_trans, le_of_eq, ◌+◌, ◌≤◌}
 use Rattle.amd_words.specs.Sides.{nexts, lasts}
 use Rattle.amd_words.proofs.SideLists.{nexts_same, lasts_same}
 use Rattle.amd_words.specs.Words.{size_of, in_front}
@@ -18,24 +18,28 @@ use Rattle.amd_merging.proofs.merging.merge_one.Goals.{then-found-row_count, els
 use Rattle.amd_merging.proofs.merging.merge_one.Goals as goal
 
 pub bucket_at-key-requires : goal.bucket_at-key-requires
-bucket_at-key-requires g c = let a = c.requires.ready.here.row in let n = c.requires.lengths.7 in omega (arith, a, n)
+bucket_at-key-requires g c = c.requires.ready.here.row
 
 pub cell_at-head-requires : goal.cell_at-head-requires
-cell_at-head-requires g c =
-    let e = c.bucket_at-key.ensures in let k = c.requires.ready.key in let n = c.requires.lengths.5 in omega (arith, e, k, n)
+cell_at-head-requires g c = lt_of_le_of_lt (le_of_eq c.bucket_at-key.ensures)
+    (lt_of_lt_of_le c.requires.ready.key (le_of_eq (sym c.requires.lengths.5)))
 
 pub push-requires : goal.push-requires
 push-requires g c = record {
-  inside = (let e = c.bucket_at-key.ensures in let k = c.requires.ready.key in let n = c.requires.lengths.5 in
-      (c.requires.ready.here.row, (omega (arith, e, k, n))));
-  short = (c.requires.short.2);
+  inside = (
+    c.requires.ready.here.row,
+    lt_of_le_of_lt (le_of_eq c.bucket_at-key.ensures) (lt_of_lt_of_le c.requires.ready.key (le_of_eq (sym c.requires.lengths.5))),
+  );
+  short = c.requires.short.2;
 }
 
 pub push-requires-else-found-row_count : goal.push-requires-else-found-row_count
 push-requires-else-found-row_count g c = record {
-  inside = (let e = c.bucket_at-key.ensures in let k = c.requires.ready.key in let n = c.requires.lengths.5 in
-      (c.requires.ready.here.row, (omega (arith, e, k, n))));
-  short = (c.requires.short.2);
+  inside = (
+    c.requires.ready.here.row,
+    lt_of_le_of_lt (le_of_eq c.bucket_at-key.ensures) (lt_of_lt_of_le c.requires.ready.key (le_of_eq (sym c.requires.lengths.5))),
+  );
+  short = c.requires.short.2;
 }
 
 pub find-found-requires : goal.find-found-requires
@@ -59,38 +63,28 @@ find-found-requires g c = record {
 }
 
 pub merge-requires : goal.merge-requires
-merge-requires g c = record {
-  lengths = (let l = c.requires.lengths in let n = sym l.2 in (l.0 ∙ n, l.1 ∙ n));
-  short = (let s = c.requires.short.1 in let n = c.requires.lengths.2 in omega (arith, s, n));
-  add = record {
-    inside = (let a = c.requires.ready.here.row in let n = c.requires.lengths.2 in let f = c.if-found-row_count.true in
-        ((omega (arith, a, n)), (omega (arith, f, n))));
-    other = (elim c.find-found.ensures.found [
-      | inl h ↦
-          let head_is = c.cell_at-head.ensures.is ∙ ap (num c.args.hash.now) c.bucket_at-key.ensures in
-          (c.requires.ready.members c.find-found.result
-          (subst (λ k. has (bucket (nexts c.args.sides.now) k) c.find-found.result ≡ true) head_is h.1)).other
-      | inr h ↦ let l = c.if-found-row_count.true in let e = h.0 in absurd (omega (arith, l, e))
-    ]);
-    marked = (elim c.find-found.ensures.found [
-      | inl h ↦
-          let head_is = c.cell_at-head.ensures.is ∙ ap (num c.args.hash.now) c.bucket_at-key.ensures in (
-            c.requires.ready.marked,
-            (c.requires.ready.members c.find-found.result
-                (subst (λ k. has (bucket (nexts c.args.sides.now) k) c.find-found.result ≡ true) head_is h.1)).marked,
-          )
-      | inr h ↦ let l = c.if-found-row_count.true in let e = h.0 in absurd (omega (arith, l, e))
-    ]);
-    small = (elim c.find-found.ensures.found [
-      | inl h ↦
-          let head_is = c.cell_at-head.ensures.is ∙ ap (num c.args.hash.now) c.bucket_at-key.ensures in
-          let m = (c.requires.ready.members c.find-found.result
-          (subst (λ k. has (bucket (nexts c.args.sides.now) k) c.find-found.result ≡ true) head_is h.1)).small in
-          let n = c.requires.short.0 in omega (arith, m, n)
-      | inr h ↦ let l = c.if-found-row_count.true in let e = h.0 in absurd (omega (arith, l, e))
-    ]);
-  };
-}
+merge-requires g c =
+    let l = c.requires.lengths in let ready = c.requires.ready in let row = c.if-found-row_count.true in
+    let next = nexts c.args.sides.now in
+    let head = num c.args.hash.now (bucket_of c.args.sought.count (lasts c.args.sides.now) c.args.sought.class) in
+    let head_is : c.cell_at-head.result ≡ head = c.cell_at-head.ensures.is ∙ ap (num c.args.hash.now) c.bucket_at-key.ensures in
+    let in_bucket : has (bucket next head) c.find-found.result ≡ true = elim c.find-found.ensures.found [
+      | inl h ↦ subst (λ k. has (bucket next k) c.find-found.result ≡ true) head_is h.1
+      | inr h ↦ absurd (lt_irrefl _ (lt_of_lt_of_le row (le_of_eq (c.row_count.ensures ∙ sym h.0))))
+    ] in
+    let member = ready.members c.find-found.result in_bucket in record {
+      lengths = (l.0 ∙ sym l.2, l.1 ∙ sym l.2);
+      short = subst (λ k. k + 2 ≤ g.P.Signed.MOST) (sym l.2) c.requires.short.1;
+      add = record {
+        inside = (
+          lt_of_lt_of_le ready.here.row (le_of_eq (sym l.2)),
+          lt_of_lt_of_le row (le_of_eq (c.row_count.ensures ∙ sym l.2)),
+        );
+        other = member.other;
+        marked = (ready.marked, member.marked);
+        small = le_trans member.small (le_trans (le-add_right (length next) 2) c.requires.short.0);
+      };
+    }
 
 pub overflow_add-result : goal.overflow_add-result
 overflow_add-result g c = record { fits = lt_of_le_of_lt c.requires.room g.met.U.Unsigned.narrow }
@@ -229,3 +223,9 @@ returns-clause-merges g c =
           (num c.args.counts.now.w.now x)
           (c.requires.ready.standing x) (c.requires.under x));
     }
+
+pub returns-clause-loans : goal.returns-clause-loans
+returns-clause-loans g c = elim c.if-found-row_count.branch [
+  | then-found-row_count w ↦ (ap (λ t. t.nv.ghost_name) w.counts-is, ap (λ t. t.w.ghost_name) w.counts-is)
+  | else-found-row_count w ↦ (ap (λ t. t.nv.ghost_name) w.counts-is, ap (λ t. t.w.ghost_name) w.counts-is)
+]
