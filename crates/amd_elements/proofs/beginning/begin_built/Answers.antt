@@ -56,41 +56,46 @@ build-end-requires g c = let p = c.args.work.now in let q = c.requires.pivot in 
 -- ---- what was built, and the elements that end
 
 pub absorb_own-requires : goal.absorb_own-requires
-absorb_own-requires g c = let p = c.args.work.now in let q = c.requires.pivot in let me : ℕ = c.args.me in
-    let at = c.named_lent-from.ensures in let many = c.named_lent-n_elements.ensures in
-    let b = c.build-end.ensures.builds in rw (c.build-end.ensures.same.0, at.same) (record {
+absorb_own-requires g c =
+    let q = c.requires.pivot in let me : ℕ = c.args.me in let at = c.named_lent-from.ensures in
+    let many = c.named_lent-n_elements.ensures in let b = c.build-end.ensures.builds in
+    let size : length c.build-end.new.pe ≡ length c.args.work.now.nv.now =
+    ap length (c.build-end.ensures.same.0 ∙ at.same) ∙ q.lengths.0 in record {
       span = record {
         inside = (let f = at.is in let m = many.is in let w = q.laid.within me q.listed in let l = q.laid.parts me q.listed in
             let e = q.end in let i = b.long in omega (arith, f, m, w, l, e, i));
-        names = (names_at c.build-end.new.iw (sym q.lengths.0) (sym at.is) (sym many.is)
-            (own_names q.laid me q.listed c.requires.elements.listed b));
+        names = names_at c.build-end.new.iw (sym size) (sym at.is) (sym many.is)
+            (own_names q.laid me q.listed c.requires.elements.listed b);
       };
-      lengths = (c.requires.counters ∙ sym q.lengths.0);
-      small = (le_trans (add-le-add (le_of_lt q.row.0) (le_refl 2)) c.requires.wide.0);
-    })
+      lengths = c.requires.counters ∙ sym size;
+      small = le_trans (add-le-add (le_of_lt q.row.0) (le_refl 2)) c.requires.wide.0;
+    }
 
 -- ---- the list that is written down
 
 pub settle-requires : goal.settle-requires
 settle-requires g c = let p = c.args.work.now in let q = c.requires.pivot in let me : ℕ = c.args.me in
     let many = c.named_lent-n_elements.ensures in let lent = c.build-end.ensures.same in
-    let b : Builds me (front_of p.iw.now p.nv.now p.pe.now p.len.now me c.named_lent-n_elements.result) p.iw.now p.nv.now p.free
+    let front : List ℤ → ℕ → List ℕ = λ pe m. front_of p.iw.now p.nv.now pe p.len.now me m in
+    let b : Builds me (front p.pe.now c.named_lent-n_elements.result) p.iw.now p.nv.now p.free
     c.build-end.new.iw c.build-end.new.nv c.build-end.result.0 c.build-end.result.1
-    = rw c.named_lent-from.ensures.same at c.build-end.ensures.builds in
-    rw (many.same, lent.1) (record {
+    = subst (λ pe. Builds me (front pe c.named_lent-n_elements.result) p.iw.now p.nv.now p.free
+    c.build-end.new.iw c.build-end.new.nv c.build-end.result.0 c.build-end.result.1) c.named_lent-from.ensures.same
+    c.build-end.ensures.builds in
+    record {
       row = (
         lt_of_lt_of_le q.row.0 (le_of_eq (sym (c.absorb_own.ensures.absorbs.lengths.0 ∙ ap length lent.0
             ∙ ap length c.named_lent-from.ensures.same ∙ q.lengths.0))),
-        lt_of_lt_of_le q.row.0 (le_of_eq (sym q.lengths.1)),
-        lt_of_lt_of_le q.row.0 (le_of_eq (sym q.lengths.2)),
+        lt_of_lt_of_le q.row.0 (le_of_eq (sym (ap length many.same ∙ q.lengths.1))),
+        lt_of_lt_of_le q.row.0 (le_of_eq (sym (ap length lent.1 ∙ q.lengths.2))),
       );
       order = (b.grows, le_trans q.end c.requires.wide.1);
-      few = (subst (λ t. t + 2 ≤ g.P.Signed.MOST) (sym b.total_is) (subst (λ m. sum_by (size_of p.nv.now)
-          (front_of p.iw.now p.nv.now p.pe.now p.len.now me m) + 2 ≤ g.P.Signed.MOST) (sym many.is) c.requires.few));
+      few = subst (λ t. t + 2 ≤ g.P.Signed.MOST) (sym b.total_is) (subst (λ m. sum_by (size_of p.nv.now) (front p.pe.now m) + 2
+          ≤ g.P.Signed.MOST) (sym many.is) c.requires.few);
       fits = (let l = ap length b.list in let k = rows_length c.build-end.new.iw p.free (c.build-end.result.0 - p.free) in
-          let f = subst (λ m. p.free + length (front_of p.iw.now p.nv.now p.pe.now p.len.now me m) ≤ length p.iw.now) (sym many.is)
-          c.requires.fits in let w = c.requires.cells in omega (arith, l, k, f, w));
-    })
+          let f = subst (λ m. p.free + length (front p.pe.now m) ≤ length p.iw.now) (sym many.is) c.requires.fits in
+          let w = c.requires.cells in omega (arith, l, k, f, w));
+    }
 
 pub returns-clause-begins : goal.returns-clause-begins
 returns-clause-begins g c =
@@ -108,7 +113,9 @@ returns-clause-begins g c =
       free = end;
     } in
     let built : Builds me (built_front p me) p.iw p.nv p.free iw nv end total = subst (λ k. Builds me
-    (front_of p.iw p.nv p.pe p.len me k) p.iw p.nv p.free iw nv end total) many.is (rw from_is.same at c.build-end.ensures.builds) in
+    (front_of p.iw p.nv p.pe p.len me k) p.iw p.nv p.free iw nv end total) many.is (subst (λ pe. Builds me
+    (front_of p.iw p.nv pe p.len me c.named_lent-n_elements.result) p.iw p.nv p.free iw nv end total) from_is.same
+    c.build-end.ensures.builds) in
     let same : rows iw c.named_lent-from.result c.named_lent-n_elements.result ≡ elements_in p.iw p.pe p.e_len me
     = own_read q.laid me q.listed c.requires.elements.listed built from_is.is many.is in
     let b : Builds me (built_front p me) p.iw p.nv p.free v.iw nv end total
