@@ -2,6 +2,7 @@
 pub mod Counting
 pub mod WordReads
 pub mod Leaving
+pub mod LentParts
 pub mod RenewedFronts
 pub mod Retiring
 pub mod FrontCounts

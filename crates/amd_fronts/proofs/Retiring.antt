@@ -47,7 +47,8 @@ done_no (x ∷ xs) ys ne = refl
 
 -- the bucket of what is kept, from its sum
 pub bucket_is : (n : ℕ) (xs : List ℕ) (hash : ℕ) → hash ≡ hashed 0 xs → bit_and hash (key_mask n) ≡ key_of n xs
-bucket_is n xs hash e = ap (λ h. bit_and h (key_mask n)) (e ∙ ap (λ m. m % 2 ^ 64) (let a : 0 + sum_by (λ j. j) xs ≡ sum_by (λ j. j) xs = omega arith in a))
+bucket_is n xs hash e = ap (λ h. bit_and h (key_mask n))
+    (e ∙ ap (λ m. m % 2 ^ 64) (let a : 0 + sum_by (λ j. j) xs ≡ sum_by (λ j. j) xs = omega arith in a))
 
 -- ---- one class
 

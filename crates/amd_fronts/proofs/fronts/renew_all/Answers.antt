@@ -111,3 +111,6 @@ returns-clause-renews g c =
           c.loop-p.gone) (omega (arith, t, after, past, count)) c.loop-p.invariant.renews;
       same = c.loop-p.invariant.same;
     }
+
+pub returns-clause-loans : goal.returns-clause-loans
+returns-clause-loans g c = c.loop-p.invariant.loans

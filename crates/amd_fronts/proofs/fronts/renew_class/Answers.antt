@@ -1,22 +1,22 @@
 -- The goals of fronts::renew_class.
-use Rattle.std.proofs.Common.{refl, sym, ap, ◌∙◌, arith, set, pos, get_or-set_same}
-use Rattle.amd_words.specs.Words.{num, start}
+use Rattle.std.proofs.Common.{refl, sym, ap, ◌∙◌, arith, length, set, pos, get_or-set_same, le_of_eq, le_trans, lt_of_lt_of_le}
+use Rattle.amd_words.specs.Words.{num}
 use Rattle.amd_lists.specs.Layout.{list_of}
-use Rattle.amd_lists.specs.Renewal.{CanRenew, RenewsList}
-use Rattle.amd_lists.specs.Spans.{row_list}
+use Rattle.amd_lists.specs.Renewal.{CanRenew}
 use Rattle.amd_lists.specs.Workspaces.{workspace_of}
+use Rattle.amd_fronts.proofs.LentParts.{renewed_over, renewed_same}
 use Rattle.amd_fronts.proofs.RenewedFronts.{one_from}
 use Rattle.amd_fronts.proofs.fronts.renew_class.Goals as goal
 
 pub list_lent-from-requires : goal.list_lent-from-requires
 list_lent-from-requires g c = let a = c.requires.placed.row in let l = c.requires.lengths in record {
-  inside = ((let n = l.0 in omega (arith, a, n)), (let n = l.2 in omega (arith, a, n)));
+  inside = (lt_of_lt_of_le a (le_of_eq (sym l.0)), lt_of_lt_of_le a (le_of_eq (sym l.2)));
   place = c.requires.placed.starts;
 }
 
 pub named_lent-n_elements-requires : goal.named_lent-n_elements-requires
 named_lent-n_elements-requires g c = let a = c.requires.placed.row in record {
-  inside = (let n = c.requires.lengths.1 in omega (arith, a, n));
+  inside = lt_of_lt_of_le a (le_of_eq (sym c.requires.lengths.1));
   place = c.requires.placed.counts;
 }
 
@@ -38,7 +38,7 @@ renew_lent-few-requires g c =
 
 pub put_row-requires-clause-inside : goal.put_row-requires-clause-inside
 put_row-requires-clause-inside g c = let a = c.requires.placed.row in let n = c.requires.lengths.1 in
-    rw c.named_lent-n_elements.ensures.same (omega (arith, a, n))
+    lt_of_lt_of_le a (le_of_eq (sym (ap length c.named_lent-n_elements.ensures.same ∙ n)))
 
 pub put_row-requires-clause-small : goal.put_row-requires-clause-small
 put_row-requires-clause-small g c = let s = c.renew_lent-few.ensures.list.renews.shorter in let k = c.list_lent-from.ensures.list.1 in
@@ -46,31 +46,27 @@ put_row-requires-clause-small g c = let s = c.renew_lent-few.ensures.list.renews
 
 pub put_cell-requires-clause-inside : goal.put_cell-requires-clause-inside
 put_cell-requires-clause-inside g c = let a = c.requires.placed.row in let n = c.requires.lengths.2 in
-    rw c.list_lent-from.ensures.same.1 (omega (arith, a, n))
+    lt_of_lt_of_le a (le_of_eq (sym (ap length c.list_lent-from.ensures.same.1 ∙ n)))
 
 pub put_cell-requires-clause-fits : goal.put_cell-requires-clause-fits
-put_cell-requires-clause-fits g c = let s = c.renew_lent-few.ensures.list.renews.shorter.1 in let k = c.list_lent-from.ensures.small in
-    omega (arith, s, k)
+put_cell-requires-clause-fits g c = le_trans c.renew_lent-few.ensures.list.renews.shorter.1 c.list_lent-from.ensures.small
 
 pub returns : goal.returns
 returns g c =
     let p = workspace_of c.args.work.now in let i = c.args.i in let at = c.list_lent-from.ensures.list in
     let same = c.list_lent-from.ensures.same in let kept = c.renew_lent-few.ensures.same in let few = c.renew_lent-few.result.0 in
     let count = c.renew_lent-few.result.1 in let row = c.requires.placed.row in let l = c.requires.lengths in
-    let told : RenewsList p.flag c.args.me p.w p.nv (list_of p p i) (row_list c.renew_lent-few.new.iw (start p.pe i) few count)
-    c.renew_lent-few.result.2 c.renew_lent-few.result.3
-    = rw (at.0, at.1, c.named_lent-n_elements.ensures.is) at c.renew_lent-few.ensures.list
-    in
+    let told = renewed_over at.0 c.named_lent-n_elements.ensures.is at.1 c.renew_lent-few.ensures.list in
     let e_len = c.put_row.ensures ∙ ap (λ xs. set xs i (pos few)) c.named_lent-n_elements.ensures.same in
     let len = c.put_cell.ensures ∙ ap (λ xs. set xs i count) same.1 in
-    let small_e = l.1 in let small_l = l.2 in
+    let small_l = lt_of_lt_of_le row (le_of_eq (sym l.2)) in
     record {
       renews = record {
-        renews = one_from _ few count (omega (arith, row, small_e)) (omega (arith, row, small_l)) e_len len told.renews;
-        count_is = sym (ap (λ xs. num xs i) len ∙ get_or-set_same p.len i count 0 (omega (arith, row, small_l)));
+        renews = one_from _ few count (lt_of_lt_of_le row (le_of_eq (sym l.1))) small_l e_len len told.renews;
+        count_is = sym (ap (λ xs. num xs i) len ∙ get_or-set_same p.len i count 0 small_l);
         outside = told.outside;
         hash_is = told.hash_is;
-        same = rw (same.0, kept.0, kept.1) refl;
+        same = renewed_same p same.0 kept.1 kept.0 c.renew_lent-few.new.iw c.put_row.new.words c.put_cell.new.cells;
       };
       loans = (refl, refl, refl, refl, refl, refl, refl, refl, refl, refl);
     }

@@ -54,8 +54,8 @@ returns-then-count-eq1 g c =
       e_len = set m.e_len i (negsuc 0);
       nv = set x.nv i (pos 0);
       len = m.len;
-    }) gone) (sym same) (one_ends told.renews gone (sym told.count_is ∙ c.if-count-eq1.true) (omega (arith, row, l))
-    (omega (arith, row, l, e)) (omega (arith, row, l)) (out.gone_is ∙ ap (λ x. size_of x.nv i) same)) in
+    }) gone) (sym same) (one_ends told.renews gone (sym told.count_is ∙ c.if-count-eq1.true) (lt_of_lt_of_le row (le_of_eq (sym l.0)))
+    (lt_of_lt_of_le row (le_of_eq (sym (e ∙ l.1)))) (lt_of_lt_of_le row (le_of_eq (sym l.3))) (out.gone_is ∙ ap (λ x. size_of x.nv i) same)) in
     record {
       renews = rw (out.starts, out.lists, out.sizes) record {
         renews = ends;
@@ -97,7 +97,8 @@ returns g c =
       degree = degree;
       last = set x.last i (bit_and hash (key_mask (length p.w)));
     }) 0) (sym same)
-    (one_stays told.renews degree reach hash (λ e. c.if-count-eq1.false (told.count_is ∙ e)) (omega (arith, row, wide)) told.outside
+    (one_stays told.renews degree reach hash (λ e. c.if-count-eq1.false (told.count_is ∙ e))
+    (lt_of_lt_of_le row (le_of_eq (sym wide.1))) told.outside
     (low.bound ∙ ap (λ x. min (num x.degree i) reach) same) (λ x ne. low.others x ne ∙ ap (λ y. num y.degree x) same) told.hash_is) in
     record {
       renews = rw (out.lasts, out.nexts, c.requires.mask) record {

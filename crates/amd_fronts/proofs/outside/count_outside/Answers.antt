@@ -1,5 +1,5 @@
 -- The goals of outside::count_outside.
-use Rattle.std.proofs.Common.{ℕ, refl, ap, subst, ◌∙◌, ◌≡◌, ◌≤◌, ◌+◌, ◌-◌, le-add_right}
+use Rattle.std.proofs.Common.{ℕ, refl, ap, subst, ◌∙◌, ◌≡◌, ◌≤◌, ◌+◌, ◌-◌, le-add_right, lt_of_lt_of_le}
 use Rattle.amd_words.specs.Words.{num, word, place, start, rows}
 use Rattle.amd_words.proofs.WordCounts.{all_passed}
 use Rattle.amd_lists.specs.Workspaces.{workspace_of}
@@ -54,3 +54,11 @@ returns-clause-counts g c =
     let all : c.loop-p.p - c.list_lent-from.result.0 ≡ c.list_lent-from.result.1 = all_passed _ _ _ after past t in
     rw (at.0, at.1) at (subst (λ k. CountsOutside c.args.aggressive c.args.me (rows p.iw c.list_lent-from.result.0 k) p
     (workspace_of c.loop-p.work)) all c.loop-p.invariant.counts)
+
+pub named_lent-i-requires-clause-inside : goal.named_lent-i-requires-clause-inside
+named_lent-i-requires-clause-inside g c =
+    let at = c.list_lent-from.ensures.list in let iw = ap (λ x. x.iw) c.loop-p.invariant.counts.same in
+    rw iw (lt_of_lt_of_le (rw (at.0, at.1) at c.loop-p-test.true) c.requires.inside)
+
+pub returns-clause-loans : goal.returns-clause-loans
+returns-clause-loans g c = c.loop-p.invariant.loans
