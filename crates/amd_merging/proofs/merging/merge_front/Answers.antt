@@ -12,7 +12,7 @@ use Rattle.amd_merging.proofs.FewMerged.{few_merged}
 use Rattle.amd_merging.proofs.MergeEnds.{made_is, made_from, still_linked}
 use Rattle.amd_merging.proofs.MergeState.{Merging, merging_none, all_merged, all_heads}
 use Rattle.amd_merging.proofs.MergeWalk.{premises, classes_few, classes_end, step_ready, step_room, step_skips, step_settles}
-use Rattle.std.proofs.Common.{le_refl, le-add_right}
+use Rattle.std.proofs.Common.{le_refl, le_of_eq, le-add_right, lt_of_le_of_lt, lt_of_lt_of_le}
 use Rattle.amd_words.specs.Sides.{nexts}
 use Rattle.amd_merging.proofs.merging.merge_front.Goals as goal
 
@@ -39,7 +39,7 @@ named-i-requires-clause-is_one g c = let w = c.classes.invariant.within in let t
 pub is_class-requires : goal.is_class-requires
 is_class-requires g c = let w = c.classes.invariant.within in let t = c.classes-test.true in
     let s = (c.requires.front.1 (c.classes.left - 1) (omega (arith, w, t))).1 in let e = c.named-i.ensures in
-    let l = c.classes.invariant.merging.long.2 in omega (arith, s, e, l)
+    let l = c.classes.invariant.merging.long.2 in lt_of_le_of_lt (le_of_eq e) (lt_of_lt_of_le s (le_of_eq (sym l)))
 
 pub merge_one-now-requires : goal.merge_one-now-requires
 merge_one-now-requires g c = record {
@@ -165,3 +165,9 @@ classes-smaller-then-is_class g c = falls_down c.classes.left c.classes-test.tru
 
 pub classes-smaller : goal.classes-smaller
 classes-smaller g c = falls_down c.classes.left c.classes-test.true
+
+pub returns-clause-loans : goal.returns-clause-loans
+returns-clause-loans g c = c.classes.invariant.loans
+
+pub returns-clause-same : goal.returns-clause-same
+returns-clause-same g c = (refl, refl)

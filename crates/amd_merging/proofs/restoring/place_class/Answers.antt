@@ -1,11 +1,11 @@
 use Rattle.std.proofs.Common.{rules}
-use Rattle.std.proofs.Common.{ap, ◌∙◌, ◌+◌, ◌-◌, arith}
+use Rattle.std.proofs.Common.{ap, sym, ◌∙◌, ◌+◌, ◌-◌, le_of_eq, lt_of_lt_of_le}
 use Rattle.std.specs.Prelude.{min}
 use Rattle.amd_words.specs.Words.{num}
 use Rattle.amd_merging.proofs.restoring.place_class.Goals as goal
 
 pub leave-size-requires-clause-inside : goal.leave-size-requires-clause-inside
-leave-size-requires-clause-inside g c = let r = c.requires.row in let n = c.requires.lengths.0 in omega (arith, r, n)
+leave-size-requires-clause-inside g c = lt_of_lt_of_le c.requires.row (le_of_eq (sym c.requires.lengths.0))
 
 pub leave-size-requires-clause-marked : goal.leave-size-requires-clause-marked
 leave-size-requires-clause-marked g c = c.requires.marked
@@ -20,7 +20,7 @@ pub empty_bucket-requires-clause-short : goal.empty_bucket-requires-clause-short
 empty_bucket-requires-clause-short g c = c.requires.short.1
 
 pub cell_at-requires : goal.cell_at-requires
-cell_at-requires g c = let r = c.requires.row in let n = c.requires.lengths.1 in omega (arith, r, n)
+cell_at-requires g c = lt_of_lt_of_le c.requires.row (le_of_eq (sym c.requires.lengths.1))
 
 pub put_head-requires : goal.put_head-requires
 put_head-requires g c = record {

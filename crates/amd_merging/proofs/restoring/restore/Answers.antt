@@ -109,11 +109,9 @@ named-i-requires-clause-is_one g c =
 
 pub is_marked-requires : goal.is_marked-requires
 is_marked-requires g c =
-    let after : c.args.front.now.from ≤ c.loop-p.p = c.loop-p.auto.p in let t = c.loop-p-test.true in
-    let e = c.named-i.ensures in
-    let s = word_row c.requires.front_is.1 after (omega (arith, after, t)) c.loop-p.invariant.filters in
-    let small = (c.requires.front_is.1 (c.loop-p.p - c.args.front.now.from) (omega (arith, after, t))).1 in
-    let long = c.loop-p.invariant.lengths.0 in omega (arith, e, s, small, long)
+    let after = c.loop-p.auto.p in let l = within_count after c.loop-p-test.true in
+    lt_of_le_of_lt (le_of_eq (c.named-i.ensures ∙ word_row c.requires.front_is.1 after l c.loop-p.invariant.filters))
+    (lt_of_lt_of_le (c.requires.front_is.1 (c.loop-p.p - c.args.front.now.from) l).1 (le_of_eq (sym c.loop-p.invariant.lengths.0)))
 
 pub place_class-bound-requires : goal.place_class-bound-requires
 place_class-bound-requires g c =
@@ -214,8 +212,7 @@ loop-p-preserved g c =
               ap length w.hash-is ∙ v.5 ∙ ap bucket_count long.3,
             );
             filters = filters_as next (w.iw-is ∙ w.copy_word.ensures) w.end-is
-                (filters_yes n (in_front nv) (λ j. 0) 0 iw from from h p 0 at (omega arith) (let a = c.requires.front_is.0 in
-                omega (arith, a, at, l))
+                (filters_yes n (in_front nv) (λ j. 0) 0 iw from from h p 0 at (omega arith) (lt_of_lt_of_le t c.requires.front_is.0)
                 is_one small (ap (in_front nv) (sym is) ∙ here) (let z = cut_small 0 (omega arith) in omega (arith, z)));
             restores = restores_as iw from next w.nv-is w.degree-is w.low-is record {
               sizes = λ j. e.sizes j ∙ was.restores.sizes j;
