@@ -1,4 +1,4 @@
-use Rattle.std.proofs.Common.{List, ℕ, ap, ◌≡◌, ◌∙◌, arith, set, length, get_or-set_same, get_or-set_other}
+use Rattle.std.proofs.Common.{List, ℕ, sym, ap, le_of_eq, lt_of_lt_of_le, ◌≡◌, ◌∙◌, arith, set, length, get_or-set_same, get_or-set_other}
 use Rattle.amd_words.specs.Sides.{nexts, lasts}
 use Rattle.amd_words.proofs.SideLists.{both_long, lasts_same, nexts_same}
 use Rattle.amd_words.specs.Words.{num}
@@ -49,3 +49,11 @@ returns g c = record {
     lasts_same _ _ same ∙ both_long c.args.sides.now,
   ));
 }
+
+pub put_next-requires-clause-inside : goal.put_next-requires-clause-inside
+put_next-requires-clause-inside g c =
+    lt_of_lt_of_le c.requires.row.0 (le_of_eq (sym (nexts_same _ _ c.if-after-n.auto.sides)))
+
+pub put_last-requires-2-clause-inside : goal.put_last-requires-2-clause-inside
+put_last-requires-2-clause-inside g c = lt_of_lt_of_le c.requires.row.0
+    (le_of_eq (sym (nexts_same _ _ c.put_next.auto.sides ∙ nexts_same _ _ c.if-after-n.auto.sides)))

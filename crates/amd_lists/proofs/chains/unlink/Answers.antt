@@ -1,4 +1,4 @@
-use Rattle.std.proofs.Common.{List, ℕ, refl, ap, ◌≡◌, ◌∙◌, arith, set, get_or-set_same, get_or-set_other}
+use Rattle.std.proofs.Common.{List, ℕ, refl, sym, ap, le_of_eq, lt_of_lt_of_le, ◌≡◌, ◌∙◌, arith, set, get_or-set_same, get_or-set_other}
 use Rattle.amd_words.specs.Sides.{nexts, lasts}
 use Rattle.amd_words.proofs.SideLists.{both_long, lasts_same, nexts_same}
 use Rattle.amd_words.specs.Words.{num}
@@ -78,3 +78,7 @@ returns-else-before-n g c = record {
     lasts_same _ _ same ∙ both_long c.args.sides.now,
   ));
 }
+
+pub put_next-requires-clause-inside : goal.put_next-requires-clause-inside
+put_next-requires-clause-inside g c =
+    lt_of_lt_of_le c.if-before-n.true (le_of_eq (c.row_count-n.ensures ∙ sym (nexts_same _ _ c.if-after-n.auto.sides)))

@@ -36,3 +36,6 @@ returns-then-narrow-2 g c = record {
   hash_is = search rules;
   small = search rules;
 }
+
+pub keep_words-end-requires-clause-narrow : goal.keep_words-end-requires-clause-narrow
+keep_words-end-requires-clause-narrow g c = c.requires.narrow

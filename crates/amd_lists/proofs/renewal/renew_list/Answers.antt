@@ -95,3 +95,6 @@ put_first-requires-clause-order g c = (c.keep_elements-middle.ensures.filters.lo
 
 pub put_first-requires-clause-small : goal.put_first-requires-clause-small
 put_first-requires-clause-small g c = c.requires.row.1
+
+pub keep_elements-middle-requires-clause-met : goal.keep_elements-middle-requires-clause-met
+keep_elements-middle-requires-clause-met g c = c.requires.met
