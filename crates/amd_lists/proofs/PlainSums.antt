@@ -21,6 +21,17 @@ exact a small = cut_small a (omega (arith, small))
 pub less_fits : (a less most : ℕ) → a ≤ most → most < 2 ^ 32 → a - less < 2 ^ 32
 less_fits a less most within small = omega (arith, within, small)
 
+-- what is at most a bound of 32 bits has 32 bits, and so has a part of it
+pub under_narrow : {a most bound : ℕ} → a ≤ most → bound ≡ most → bound ≤ 4294967295 → a < 2 ^ 32
+under_narrow within is narrow = omega arith
+
+pub part_narrow : {a most bound : ℕ} (off : ℕ) → a ≤ most → bound ≡ most → bound ≤ 4294967295 → a - off < 2 ^ 32
+part_narrow off within is narrow = omega arith
+
+-- so many numbers of 32 bits have a sum of 64 bits, whichever of them are summed already
+pub rest_fits : {sum some all : ℕ} → sum ≤ 4294967295 * some → some ≤ all → all < 2 ^ 32 → sum + 4294967295 * (all - some) < 2 ^ 64
+rest_fits so_far within few = omega arith
+
 -- one number more than the first k
 module _ (sum more k : ℕ) (so_far : sum ≤ 4294967295 * k) (small : more < 2 ^ 32) where
   pub sum_fits : (n : ℕ) → k < n → n < 2 ^ 32 → sum + more < 2 ^ 64

@@ -5,9 +5,12 @@ use Rattle.amd_lists.specs.Spans.{span, sifted}
 use Rattle.amd_lists.proofs.Renewing.{names_after, put_any, renew_fit, renews, renew_outside}
 use Rattle.amd_words.proofs.RowLists.{rows_same}
 use Rattle.amd_lists.proofs.Filtering.{hashed_both}
-use Rattle.std.proofs.Common.{lt_of_lt_of_le, le_trans, le_refl, le_of_eq, add-le-add}
+use Rattle.std.proofs.Common.{lt_irrefl, lt_of_lt_of_le, le_trans, le_refl, le_of_eq, add-le-add}
 use Rattle.amd_words.proofs.WordCounts.{rest_within}
+use Rattle.std.proofs.lemmas.Bool.{leb-true}
+use Rattle.amd_lists.proofs.PlainSums.{part_narrow, rest_fits, under_narrow}
 use Rattle.amd_lists.proofs.renewal.renew_list.Goals as goal
+use Rattle.amd_lists.proofs.renewal.renew_list.Goals.{then-MOST, else-MOST}
 
 pub keep_variables-end-requires-clause-span : goal.keep_variables-end-requires-clause-span
 keep_variables-end-requires-clause-span g c = record {
@@ -98,3 +101,21 @@ put_first-requires-clause-small g c = c.requires.row.1
 
 pub keep_elements-middle-requires-clause-met : goal.keep_elements-middle-requires-clause-met
 keep_elements-middle-requires-clause-met g c = c.requires.met
+
+pub keep_elements-middle-requires-clause-narrow : goal.keep_elements-middle-requires-clause-narrow
+keep_elements-middle-requires-clause-narrow g c = λ n. elim c.if-MOST.branch [
+  | then-MOST w ↦ (let top = leb-true w.MOST-then-MOST.result 4294967295 (sym w.narrow-is ∙ n) in let is = w.MOST-then-MOST.ensures in (
+    under_narrow (le_refl g.U.Unsigned.MOST) is top,
+    under_narrow (le_trans c.requires.parts c.requires.few) is top,
+  ))
+  | else-MOST w ↦ absurd (lt_irrefl _ (lt_of_lt_of_le w.if-MOST.false (leb-true c.MOST.result 4294967295 (sym w.narrow-is ∙ n))))
+]
+
+pub keep_variables-end-requires-clause-narrow : goal.keep_variables-end-requires-clause-narrow
+keep_variables-end-requires-clause-narrow g c = λ n. elim c.if-MOST.branch [
+  | then-MOST w ↦ (let top = leb-true w.MOST-then-MOST.result 4294967295 (sym w.narrow-is ∙ n) in let is = w.MOST-then-MOST.ensures in (
+    (under_narrow (le_refl g.S.Signed.MOST) c.MOST.ensures w.if-MOST.true, part_narrow c.args.n_elements c.requires.few is top),
+    rest_fits (c.keep_elements-middle.ensures.small n) c.requires.parts (under_narrow c.requires.few is top),
+  ))
+  | else-MOST w ↦ absurd (lt_irrefl _ (lt_of_lt_of_le w.if-MOST.false (leb-true c.MOST.result 4294967295 (sym w.narrow-is ∙ n))))
+]
