@@ -1,5 +1,5 @@
 -- Sums over lists of numbers of at most 32 bits: no word cuts them, and what is taken off each may be taken off at once.
-use Rattle.std.proofs.Common.{ℕ, ℤ, Bool, true, List, [], ◌∷◌, ◌≡◌, ◌<◌, ◌≤◌, ◌+◌, ◌-◌, ◌*◌, ◌^◌, ◌∙◌, refl, sym, ap, arith, zero-le}
+use Rattle.std.proofs.Common.{ℕ, ℤ, Bool, true, List, [], ◌∷◌, ◌≡◌, ◌<◌, ◌≤◌, ◌+◌, ◌-◌, ◌*◌, ◌%◌, ◌^◌, ◌∙◌, refl, sym, ap, arith, zero-le}
 use Rattle.std.proofs.Common.{length, filter, sum_by}
 use Rattle.std.proofs.lemmas.Bool.{and_parts}
 use Rattle.std.proofs.lemmas.List.Sums.{sum_by-cons}
@@ -31,6 +31,14 @@ part_narrow off within is narrow = omega arith
 -- so many numbers of 32 bits have a sum of 64 bits, whichever of them are summed already
 pub rest_fits : {sum some all : ℕ} → sum ≤ 4294967295 * some → some ≤ all → all < 2 ^ 32 → sum + 4294967295 * (all - some) < 2 ^ 64
 rest_fits so_far within few = omega arith
+
+-- nothing more leaves a sum that wrapped
+pub wraps_same : {sum more : ℕ} (all : ℕ) → more ≡ 0 → sum ≡ all % 2 ^ 64 → (sum + more) % 2 ^ 64 ≡ sum
+wraps_same all none is = omega arith
+
+-- nothing is left of nothing
+pub none_less : {a : ℕ} (less : ℕ) → a ≡ 0 → a - less ≡ 0
+none_less less none = omega arith
 
 -- one number more than the first k
 module _ (sum more k : ℕ) (so_far : sum ≤ 4294967295 * k) (small : more < 2 ^ 32) where

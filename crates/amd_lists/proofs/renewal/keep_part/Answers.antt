@@ -10,7 +10,7 @@ use Rattle.amd_round_laws.proofs.Lists.Cuts.{cut_more}
 use Rattle.amd_lists.specs.Renewal.{is_outside, hashed, Filters}
 use Rattle.amd_lists.specs.Spans.{span, sifted}
 use Rattle.amd_lists.proofs.Filtering.{filters_none, filters_no, open_no, open_yes, open_behind, hashed_none, hashed_no, hashed_yes}
-use Rattle.amd_lists.proofs.PlainSums.{first_fits, first_grows}
+use Rattle.amd_lists.proofs.PlainSums.{first_fits, first_grows, wraps_same}
 use Rattle.amd_lists.proofs.Spans.{span_one, span_row}
 use Rattle.amd_words.proofs.WordCounts.{all_passed, next_place, none_passed, within_count}
 use Rattle.amd_lists.proofs.renewal.keep_part.Goals as goal
@@ -90,13 +90,13 @@ loop-p-preserved g c =
             | inl none ↦ (let no : nat_lt 0 x ≡ false = le-ltb 0 x (le_of_eq none) in
                 let stays : w.add_up-outside.result ≡ c.loop-p.outside = total
                 ∙ ap (λ m. cut (c.loop-p.outside + m)) none ∙ cut_more c.loop-p.outside _ 0 h.sum_is
-                ∙ ap cut (omega arith) ∙ sym h.sum_is in
+                ∙ ap cut (add-zero _) ∙ sym h.sum_is in
                 let ends : w.where_kept-end.result ≡ 0 = w.where_kept-end.ensures ∙ ap (λ b. cond b 1 0) no in
                 let adds : w.where_kept-hash.result ≡ 0 = w.where_kept-hash.ensures ∙ ap (λ b. cond b c.named-j.result 0) no in
                 let stands : c.loop-p.end + w.where_kept-end.result ≡ c.loop-p.end = ap (λ m. c.loop-p.end + m) ends
                 ∙ add-zero c.loop-p.end in
                 let is = c.loop-p.invariant.hash in
-                let sums : (c.loop-p.hash + w.where_kept-hash.result) % 2 ^ 64 ≡ c.loop-p.hash = omega (arith, adds, is) in
+                let sums : (c.loop-p.hash + w.where_kept-hash.result) % 2 ^ 64 ≡ c.loop-p.hash = wraps_same _ adds is in
                 rw (w.iw-is, w.end-is, w.outside-is, w.hash-is, w.copy_word.ensures, stands, sums, stays, next) record {
                   filters = open_no (length nv) kept size first iw from c.args.part.to c.loop-p.iw h p at down behind (pass_is ∙ no);
                   behind = open_behind (length nv) kept size first iw from c.args.part.to c.loop-p.iw h p at down behind;
@@ -111,7 +111,7 @@ loop-p-preserved g c =
                 ∙ ap size there in
                 rw (w.iw-is, w.end-is, w.outside-is, w.hash-is, w.copy_word.ensures, ends, adds, next) record {
                   filters = open_yes (length nv) kept size first iw from c.args.part.to c.loop-p.iw h p at down behind
-                      w.add_up-outside.result (let a = c.requires.span.inside in omega (arith, a, at, l)) is_one small
+                      w.add_up-outside.result (lt_of_lt_of_le t c.requires.span.inside) is_one small
                       (pass_is ∙ goes) (total ∙ ap (λ m. cut (c.loop-p.outside + m)) is);
                   behind = open_behind (length nv) kept size first iw from c.args.part.to c.loop-p.iw h p at down behind;
                   hash = hashed_yes kept c.args.sum iw from k c.loop-p.hash c.loop-p.invariant.hash c.named-j.result there (pass_is ∙ goes);

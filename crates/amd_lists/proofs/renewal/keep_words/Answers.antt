@@ -10,7 +10,7 @@ use Rattle.amd_lists.specs.Renewal.{is_kept, hashed, Filters}
 use Rattle.amd_lists.specs.Spans.{span, sifted}
 use Rattle.amd_lists.proofs.Filtering.{filters_none, open_no, open_yes, open_behind, hashed_none, hashed_no, hashed_yes}
 use Rattle.std.proofs.Common.{lt_of_lt_of_le, le_trans, le_of_eq, falls}
-use Rattle.amd_lists.proofs.PlainSums.{less_fits, sum_fits, sum_grows}
+use Rattle.amd_lists.proofs.PlainSums.{less_fits, none_less, sum_fits, sum_grows, wraps_same}
 use Rattle.amd_lists.proofs.Spans.{span_one, span_row}
 use Rattle.amd_words.proofs.WordCounts.{all_passed, next_place, none_passed, within_count}
 use Rattle.amd_lists.proofs.renewal.keep_words.Goals as goal
@@ -69,13 +69,13 @@ loop-p-preserved g c =
     elim (cases_eq x 0) [
       | inl none ↦ (let no : nat_lt 0 x ≡ false = le-ltb 0 x (le_of_eq none) in
           let stays : c.add_up-outside.result ≡ c.loop-p.outside = total
-          ∙ ap (λ m. cut (c.loop-p.outside + m)) (omega (arith, none)) ∙ cut_more c.loop-p.outside _ 0 h.sum_is
-          ∙ ap cut (omega arith) ∙ sym h.sum_is in
+          ∙ ap (λ m. cut (c.loop-p.outside + m)) (none_less c.args.less none) ∙ cut_more c.loop-p.outside _ 0 h.sum_is
+          ∙ ap cut (add-zero _) ∙ sym h.sum_is in
           let ends : c.where_kept-end.result ≡ 0 = c.where_kept-end.ensures ∙ ap (λ b. cond b 1 0) no in
           let adds : c.where_kept-hash.result ≡ 0 = c.where_kept-hash.ensures ∙ ap (λ b. cond b c.named-e.result 0) no in
           let stands : c.loop-p.end + c.where_kept-end.result ≡ c.loop-p.end = ap (λ m. c.loop-p.end + m) ends ∙ add-zero c.loop-p.end in
           let is = c.loop-p.invariant.hash in
-          let sums : (c.loop-p.hash + c.where_kept-hash.result) % 2 ^ 64 ≡ c.loop-p.hash = omega (arith, adds, is) in
+          let sums : (c.loop-p.hash + c.where_kept-hash.result) % 2 ^ 64 ≡ c.loop-p.hash = wraps_same _ adds is in
           rw (c.copy_word.ensures, stands, sums, stays, next) record {
             filters = open_no (length w0) kept share 0 iw from from c.loop-p.iw h p at (le_refl from) behind (pass_is ∙ no);
             behind = open_behind (length w0) kept share 0 iw from from c.loop-p.iw h p at (le_refl from) behind;
@@ -88,7 +88,7 @@ loop-p-preserved g c =
           ∙ ap (λ b. cond b c.named-e.result 0) goes in
           rw (c.copy_word.ensures, ends, adds, next) record {
             filters = open_yes (length w0) kept share 0 iw from from c.loop-p.iw h p at (le_refl from) behind
-                c.add_up-outside.result (let a = c.requires.span.inside in omega (arith, a, at, l)) is_one small
+                c.add_up-outside.result (lt_of_lt_of_le t c.requires.span.inside) is_one small
                 (pass_is ∙ goes) (total ∙ ap (λ m. cut (c.loop-p.outside + (m - c.args.less))) counter_is);
             behind = open_behind (length w0) kept share 0 iw from from c.loop-p.iw h p at (le_refl from) behind;
             hash = hashed_yes kept 0 iw from k c.loop-p.hash c.loop-p.invariant.hash c.named-e.result there (pass_is ∙ goes);
