@@ -178,7 +178,8 @@ returns g c =
 
 pub count_at-end-requires-clause-within : goal.count_at-end-requires-clause-within
 count_at-end-requires-clause-within g c = (pointer_read g.I.Index.value c.args.a_p.now c.args.a_i.now c.args.size
-    c.requires.form (c.args.j + 1) (let a = c.requires.before in let b = c.requires.k_in in omega (arith, a, b)) (omega (arith, c.well_formed))).0
+    c.requires.form (c.args.j + 1) (let a = c.requires.before in let b = c.requires.k_in in omega (arith, a, b))
+    (omega (arith, c.well_formed))).0
 
 pub overflow_add-j : goal.overflow_add-j
 overflow_add-j g c = let a = c.requires.before in let b = c.requires.k_in in let top = c.ranges.size.fits in omega (arith, a, b, top)

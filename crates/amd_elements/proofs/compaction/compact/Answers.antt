@@ -83,7 +83,8 @@ move_list-requires g c =
 
 pub loop-src-smaller : goal.loop-src-smaller
 loop-src-smaller g c = let a = (list_words c.requires.layout c.loop-src-test.true (sym c.names_one-in-loop-src.ensures
-    ∙ c.if-names_one-2.false) c.loop-src.invariant c.flipped-j.result c.flipped-j.ensures c.cell_at-count.result c.cell_at-count.ensures.is).0 in
+    ∙ c.if-names_one-2.false) c.loop-src.invariant c.flipped-j.result c.flipped-j.ensures
+    c.cell_at-count.result c.cell_at-count.ensures.is).0 in
     let b = c.loop-src-test.true in omega (arith, a, b)
 
 pub loop-src-preserved : goal.loop-src-preserved
@@ -103,14 +104,14 @@ overflow_add-src g c =
 
 pub overflow_add-src-else-names_one-2 : goal.overflow_add-src-else-names_one-2
 overflow_add-src-else-names_one-2 g c = place_fits (list_words c.requires.layout c.loop-src-test.true (sym c.names_one-in-loop-src.ensures
-    ∙ c.if-names_one-2.false) c.loop-src.invariant c.flipped-j.result c.flipped-j.ensures c.cell_at-count.result c.cell_at-count.ensures.is).1
-    c.requires.end c.requires.wide.1 g.met.P.Signed.narrow
+    ∙ c.if-names_one-2.false) c.loop-src.invariant c.flipped-j.result c.flipped-j.ensures
+    c.cell_at-count.result c.cell_at-count.ensures.is).1 c.requires.end c.requires.wide.1 g.met.P.Signed.narrow
 
 pub overflow_add-dst : goal.overflow_add-dst
 overflow_add-dst g c = place_fits (le_trans (add-le-add c.loop-src.invariant.low (le_refl c.cell_at-count.result))
     (list_words c.requires.layout c.loop-src-test.true (sym c.names_one-in-loop-src.ensures
-    ∙ c.if-names_one-2.false) c.loop-src.invariant c.flipped-j.result c.flipped-j.ensures c.cell_at-count.result c.cell_at-count.ensures.is).1)
-    c.requires.end c.requires.wide.1 g.met.P.Signed.narrow
+    ∙ c.if-names_one-2.false) c.loop-src.invariant c.flipped-j.result c.flipped-j.ensures
+    c.cell_at-count.result c.cell_at-count.ensures.is).1) c.requires.end c.requires.wide.1 g.met.P.Signed.narrow
 
 pub flipped-j-requires-clause-inside : goal.flipped-j-requires-clause-inside
 flipped-j-requires-clause-inside g c =

@@ -55,7 +55,8 @@ returns-then-count-eq1 g c =
       nv = set x.nv i (pos 0);
       len = m.len;
     }) gone) (sym same) (one_ends told.renews gone (sym told.count_is ∙ c.if-count-eq1.true) (lt_of_lt_of_le row (le_of_eq (sym l.0)))
-    (lt_of_lt_of_le row (le_of_eq (sym (e ∙ l.1)))) (lt_of_lt_of_le row (le_of_eq (sym l.3))) (out.gone_is ∙ ap (λ x. size_of x.nv i) same)) in
+    (lt_of_lt_of_le row (le_of_eq (sym (e ∙ l.1)))) (lt_of_lt_of_le row (le_of_eq (sym l.3)))
+    (out.gone_is ∙ ap (λ x. size_of x.nv i) same)) in
     record {
       renews = rw (out.starts, out.lists, out.sizes) record {
         renews = ends;

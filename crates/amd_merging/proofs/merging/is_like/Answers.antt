@@ -27,6 +27,7 @@ all_marked-requires g c =
     let tests = and_parts (num lists.len.now j == c.args.count) (place (word lists.e_len.now j) == c.args.few)
     (sym c.is_as_long.ensures ∙ c.if-not-is_as_long.false) in
     let count_is = eqb-true (num lists.len.now j) c.args.count tests.0 in record {
-      inside = (let f = c.named-from.ensures in let a = h.some in let b = h.parts in let w = h.within in omega (arith, f, count_is, a, b, w));
+      inside = (let f = c.named-from.ensures in let a = h.some in let b = h.parts in let w = h.within in
+          omega (arith, f, count_is, a, b, w));
       names = names_at lists.iw.now refl (ap (λ s. s + 1) (sym c.named-from.ensures)) (ap (λ m. m - 1) count_is) h.names;
     }
