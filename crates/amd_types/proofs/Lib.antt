@@ -1,4 +1,6 @@
 pub mod NumberReads
+pub mod Conversions
+pub mod Comparing
 pub mod Inverses
 pub mod Fitting
 pub mod FrontShares
