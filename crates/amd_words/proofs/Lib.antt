@@ -6,4 +6,5 @@ pub mod Classes
 pub mod WordMarks
 pub mod WordCounts
 pub mod EachRow
+pub mod Offsets
 pub mod SideLists

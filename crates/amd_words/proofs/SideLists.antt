@@ -1,9 +1,11 @@
 -- What a read and a write of the sides of a row say of the two lists.
-use Rattle.std.proofs.Common.{ℕ, List, ◌≡◌, length, slice_index_or, slice_set, sym, ap, ◌∙◌}
+use Rattle.std.proofs.Common.{ℕ, List, ◌≡◌, ◌<◌, ◌*◌, ◌^◌, ◌∙◌, Fits, ap, length, subst, sym, w64}
+use Rattle.std.proofs.Common.{slice_index_or, slice_set}
 use Rattle.std.proofs.lemmas.List.{map-set, length-map}
 use Rattle.std.proofs.Math.ListN.{get_or-map}
 use Rattle.std.proofs.Math.Seq.{map-set_same}
 use Rattle.amd_words.specs.Sides.{nexts, lasts}
+use Rattle.amd_words.proofs.Offsets.{offset_of}
 
 -- both lists have a number for each row
 pub nexts_long : (s : List (ℕ × ℕ)) → length (nexts s) ≡ length s
@@ -13,6 +15,14 @@ nexts_long s = length-map s _
 pub lasts_long : (s : List (ℕ × ℕ)) → length (lasts s) ≡ length s
 unfolding lasts
 lasts_long s = length-map s _
+
+-- so a row of a list is a place of the slice
+pub inside : (s : List (ℕ × ℕ)) (i : ℕ) → i < length (nexts s) → i < length s
+inside s i l = subst (λ n. i < n) (nexts_long s) l
+
+-- and its offset fits
+pub offset_fits : (s : List (ℕ × ℕ)) (i size : ℕ) → i < length (nexts s) → length s * size < 2 ^ 63 → Fits w64 (i * size)
+offset_fits s i size l small = offset_of i (length s) size (inside s i l) small
 
 pub both_long : (s : List (ℕ × ℕ)) → length (lasts s) ≡ length (nexts s)
 both_long s = lasts_long s ∙ sym (nexts_long s)
