@@ -1,5 +1,5 @@
 -- Links that are figures: what is read of them, and what they say when one of them is written.
-use Rattle.std.proofs.Common.{◌≡◌, ◌<◌, ◌∙◌, ℕ, ℤ, pos, negsuc, cond, List, length, ap, sym, arith}
+use Rattle.std.proofs.Common.{◌≡◌, ◌<◌, ◌≤◌, ◌∙◌, ℕ, ℤ, pos, negsuc, cond, List, length, ap, sym, arith}
 use Rattle.std.specs.Prelude.{slice_index_or, slice_set}
 use Rattle.std.proofs.lemmas.Bool.{lt-ltb, le-ltb}
 use Rattle.std.proofs.lemmas.List.{map-set, get_or-map}
@@ -24,3 +24,14 @@ written most figures new place k says q r = ap (figure_links most) q ∙ map-set
 pub says_at : (most : ℕ) (figures : List ℕ) (place : ℕ) → place < length figures →
     figure_link most (slice_index_or figures place 0) ≡ at (figure_links most figures) place
 says_at most figures place l = sym (get_or-map (figure_link most) figures place 0 (pos 0) l)
+
+-- a figure below the greatest one is read as a link to the place of its number
+pub names_place : (most : ℕ) (figures : List ℕ) (place k : ℕ) → place < length figures → k ≡ slice_index_or figures place 0 → k < most →
+    at (figure_links most figures) place ≡ pos k
+names_place most figures place k l is small = sym (says_at most figures place l) ∙ ap (figure_link most) (sym is) ∙ link_to most k small
+
+-- the greatest one is read as none
+pub names_none : (most : ℕ) (figures : List ℕ) (place k : ℕ) → place < length figures → k ≡ slice_index_or figures place 0 → most ≤ k →
+    at (figure_links most figures) place ≡ negsuc 0
+names_none most figures place k l is high = sym (says_at most figures place l) ∙ ap (figure_link most) (sym is)
+    ∙ ap (λ b. cond b (pos k) (negsuc 0)) (le-ltb k most high)

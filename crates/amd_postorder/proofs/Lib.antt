@@ -1,4 +1,5 @@
 pub mod CellWrites
+pub mod NumberTests
 pub mod Links
 pub mod ChildLinks
 pub mod ChildChains
