@@ -1,10 +1,13 @@
-use Rattle.std.proofs.Common.{true, ◌≡◌, ◌<◌, ◌∙◌, ap, sym, arith, length}
+use Rattle.std.proofs.Common.{true, ◌≡◌, ◌<◌, ◌∙◌, ap, refl, sym, arith, length}
 use Rattle.amd_model.specs.State.{gone_at}
 use Rattle.amd_words.specs.Words.{size_of}
 use Rattle.amd_listing.specs.Ended.{row_link}
 use Rattle.amd_listing.proofs.LinkSteps.{fewer_steps}
 use Rattle.amd_listing.proofs.RowLinks.{unmarked, gone_small, gone_place, gone_next}
 use Rattle.amd_listing.proofs.rows.root_of.Goals as goal
+
+pub links-init : goal.links-init
+links-init g c = λ home are. refl
 
 pub size_outside-requires-clause-inside : goal.size_outside-requires-clause-inside
 size_outside-requires-clause-inside g c =
@@ -47,6 +50,15 @@ links-preserved g c =
     let on = gone_next (length nv) link nv home are c.links.row c.named-row.result gone
     (sym c.size_outside.ensures ∙ c.links-test.true) c.named-row.ensures in
     λ home are. c.links.invariant home are ∙ are.leads.linked c.links.row c.named-row.result on
+
+pub returns-clause-within : goal.returns-clause-within
+returns-clause-within g c =
+    let home = c.requires.led.0 in let are = c.requires.led.1 in
+    let gone : gone_at (home c.links.row) ≡ true = sym (ap gone_at (c.links.invariant home are)) ∙ c.requires.led.2 in
+    gone_small (length c.args.nv.now) c.args.link.now c.args.nv.now home are c.links.row gone
+
+pub returns-clause-rows : goal.returns-clause-rows
+returns-clause-rows g c = let e = c.size_outside.ensures in let t = c.links-test.false in omega (arith, e, t)
 
 pub returns-clause-home : goal.returns-clause-home
 returns-clause-home g c = λ home are.
