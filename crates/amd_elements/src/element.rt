@@ -67,6 +67,10 @@ impl ListVisitor for Gathering {
 /// Builds the list of the pivot's new element behind the lists: the classes of the pivot's elements, element after
 /// element, and then those of its variables, each at its first occurrence and without the pivot. They and the pivot are
 /// in the front then. Returns the new end, and the number of rows of the front. `pe` and `len` are only read.
+///
+/// It is compiled apart from the round: built into it, it takes registers of the loops there, and an ordering takes a
+/// hundredth more time.
+#[inline(never)]
 pub fn build<S: Signed, P: Signed, U: Unsigned>(
     iw: &mut [Word<S>],
     nv: &mut [Word<S>],
