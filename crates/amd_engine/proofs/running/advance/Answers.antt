@@ -2,7 +2,7 @@ use Rattle.std.proofs.Common.{sym}
 use Rattle.amd_engine.proofs.running.advance.Goals as goal
 
 pub returns-clause-rounds : goal.returns-clause-rounds
-returns-clause-rounds g c = let l = c.eliminate_up_to.ensures.loans in
+returns-clause-rounds g c = let l = c.eliminate_within.ensures.loans in
     rw (
       c.iw-1.given.1.1 (sym l.4),
       c.rows-1.given.1 (sym l.9),
@@ -14,4 +14,4 @@ returns-clause-rounds g c = let l = c.eliminate_up_to.ensures.loans in
       c.rows-7-1.given.1 (sym l.2),
       c.rows-8-1.given.1 (sym l.1),
       c.rows-9-1.given.1 (sym l.0),
-    ) c.eliminate_up_to.ensures.rounds
+    ) c.eliminate_within.ensures.rounds
