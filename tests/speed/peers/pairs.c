@@ -1,5 +1,6 @@
-/* Times libraries on matrices call by call, in turn and in one process, and tells for each library the median of the ratios of
-   its time to that of the first library in the same turn, for each matrix, and their geometric mean:
+/* Times libraries on matrices call by call, in turn and in one process. For each matrix it tells the least time of the first
+   library, and for each other one the median of the ratios of its time to that of the first one in the same turn, and in
+   brackets the ratio of the least times; at the end the geometric means of both:
 
      pairs SECONDS i32|i64 LIBRARY.. -- MATRIX..
      pairs first TURNS i32|i64 LIBRARY.. -- MATRIX..
@@ -8,7 +9,7 @@
    machine slows a call by half for a second or two, but both calls of a turn alike: two copies of one library differ by two
    thousandths in the mean of 24 matrices, where least times of separate processes differ by two hundredths and more.
 
-   With `first` each call is the first one of a process, and the page faults of a call stand behind its ratio. */
+   With `first` each call is the first one of a process, and the page faults of a call stand behind its ratios. */
 #include <dlfcn.h>
 #include <math.h>
 #include <rimopaku.h>
@@ -127,22 +128,26 @@ static double median(double *numbers, int count) {
     return numbers[count / 2];
 }
 
-/* The libraries, what is counted (turns for first calls, seconds for others), and the sums of the logarithms of the ratios. */
+/* The libraries, what is counted (turns for first calls, seconds for others), the least times for a matrix in milliseconds,
+   and the sums of the logarithms of the ratios: of medians, and of least times. */
 struct duel {
     struct library libraries[MOST_LIBRARIES];
     int count;
     bool are_first, is_wide;
-    double much, sums[MOST_LIBRARIES];
+    double much, least[MOST_LIBRARIES], medians[MOST_LIBRARIES], leasts[MOST_LIBRARIES];
 };
 
-/* One turn: a call of each library, another one first in each turn. Notes the time of the first library in milliseconds,
-   and the ratios of the others. */
+/* One turn: a call of each library, another one first in each turn. Notes the least times and the ratios. */
 static void take_turn(struct duel *duel, const struct matrix *m, int turn, void *p, void *p_inv, struct call *calls) {
     for (int k = 0; k < duel->count; k++) {
         int it = (k + turn) % duel->count;
         calls[it] = (duel->are_first ? timed_apart : timed)(&duel->libraries[it], m, duel->is_wide, p, p_inv);
     }
-    for (int k = 0; k < duel->count; k++) ratios[k][turn] = k ? (double)calls[k].time / calls[0].time : calls[0].time / 1e6;
+    for (int k = 0; k < duel->count; k++) {
+        double time = calls[k].time / 1e6;
+        ratios[k][turn] = (double)calls[k].time / calls[0].time;
+        if (turn == 0 || time < duel->least[k]) duel->least[k] = time;
+    }
 }
 
 static void time_matrix(struct duel *duel, const char *path) {
@@ -154,13 +159,14 @@ static void time_matrix(struct duel *duel, const char *path) {
     int turns = 0;
     while (turns < MOST_TURNS && (turns < 3 || (duel->are_first ? turns < duel->much : now() - start < duel->much * 1e9)))
         take_turn(duel, &m, turns++, p, p_inv, calls);
-    printf("%-20s %6d", file ? file + 1 : path, turns);
+    printf("%-20s %6d %9.3f ms", file ? file + 1 : path, turns, duel->least[0]);
     for (int k = 0; k < duel->count; k++) {
-        double ratio = median(ratios[k], turns);
-        printf(k ? " %6.3f" : " %9.3f ms", ratio);
-        if (duel->are_first) printf(" (%ld)", calls[k].faults);
+        double middle = median(ratios[k], turns), least = duel->least[k] / duel->least[0];
+        if (k) printf("  %.3f (%.3f)", middle, least);
+        if (duel->are_first) printf(" %ld", calls[k].faults);
         if (calls[k].hash != calls[0].hash) printf(" ANOTHER ORDER");
-        duel->sums[k] += log(ratio);
+        duel->medians[k] += log(middle);
+        duel->leasts[k] += log(least);
     }
     puts("");
     fflush(stdout);
@@ -181,7 +187,7 @@ int main(int count, char **words) {
     for (int k = 0; k < duel.count; k++) duel.libraries[k] = open_library(words[at + 2 + k]);
     for (int k = end + 1; k < count; k++) time_matrix(&duel, words[k]);
     for (int k = 1; k < duel.count; k++)
-        printf("%s to %s: %.3f in the mean of %d\n", duel.libraries[k].name, duel.libraries[0].name,
-               exp(duel.sums[k] / matrices), matrices);
+        printf("%s to %s: %.3f (%.3f) in the mean of %d\n", duel.libraries[k].name, duel.libraries[0].name,
+               exp(duel.medians[k] / matrices), exp(duel.leasts[k] / matrices), matrices);
     return 0;
 }
