@@ -5,7 +5,8 @@
      pairs SECONDS i32|i64 LIBRARY.. -- MATRIX..
      pairs first TURNS i32|i64 LIBRARY.. -- MATRIX..
 
-   A LIBRARY is a shared library with the calls of rimopaku.h, as librimopaku.so.1, or `suitesparse`. What else runs on the
+   A LIBRARY is a shared library with the calls of rimopaku.h, as librimopaku.so.1, or with those of SuiteSparse's amd.h, as
+   suitesparse_o3.so of peers/build; `suitesparse` is the one that is installed. What else runs on the
    machine slows a call by half for a second or two, but both calls of a turn alike: two copies of one library differ by two
    thousandths in the mean of 24 matrices, where least times of separate processes differ by two hundredths and more.
 
@@ -30,11 +31,17 @@ typedef int32_t order_i32(int32_t, const int32_t *, size_t, const int32_t *, siz
 typedef int32_t order_i64(int64_t, const int64_t *, size_t, const int64_t *, size_t, const struct rimopaku_parameters *, int64_t *,
                           size_t, int64_t *, size_t, struct rimopaku_statistics *);
 
-/* Its calls are null for SuiteSparse. */
+typedef int amd_i32(int, const int *, const int *, int *, double *, double *);
+typedef SuiteSparse_long amd_i64(SuiteSparse_long, const SuiteSparse_long *, const SuiteSparse_long *, SuiteSparse_long *,
+                                 double *, double *);
+
+/* Its own calls, or those of SuiteSparse. */
 struct library {
     const char *name;
     order_i32 *narrow;
     order_i64 *wide;
+    amd_i32 *amd_narrow;
+    amd_i64 *amd_wide;
     struct rimopaku_parameters parameters;
 };
 
@@ -68,9 +75,14 @@ static void *symbol(void *handle, const char *library, const char *name) {
 }
 
 static struct library open_library(const char *name) {
-    struct library it = {.name = name};
+    struct library it = {.name = name, .amd_narrow = amd_order, .amd_wide = amd_l_order};
     if (!strcmp(name, "suitesparse")) return it;
     void *handle = dlopen(name, RTLD_NOW | RTLD_LOCAL);
+    if (handle && dlsym(handle, "amd_order")) {
+        it.amd_narrow = (amd_i32 *)dlsym(handle, "amd_order");
+        it.amd_wide = (amd_i64 *)symbol(handle, name, "amd_l_order");
+        return it;
+    }
     ((defaults *)symbol(handle, name, "rimopaku_defaults"))(&it.parameters);
     it.narrow = (order_i32 *)symbol(handle, name, "rimopaku_order_i32");
     it.wide = (order_i64 *)symbol(handle, name, "rimopaku_order_i64");
@@ -82,9 +94,9 @@ static void order(const struct library *it, const struct matrix *m, bool is_wide
     struct rimopaku_statistics told;
     double info[AMD_INFO];
     if (!it->wide && is_wide) {
-        amd_l_order(n, (SuiteSparse_long *)m->pointers, (SuiteSparse_long *)m->wide_rows, (SuiteSparse_long *)p, NULL, info);
+        it->amd_wide(n, (SuiteSparse_long *)m->pointers, (SuiteSparse_long *)m->wide_rows, (SuiteSparse_long *)p, NULL, info);
     } else if (!it->wide) {
-        amd_order((int)n, m->narrow_pointers, m->rows, (int *)p, NULL, info);
+        it->amd_narrow((int)n, m->narrow_pointers, m->rows, (int *)p, NULL, info);
     } else if (is_wide) {
         it->wide(n, m->pointers, n + 1, m->wide_rows, entries, &it->parameters, p, n, p_inv, n, &told);
     } else {
