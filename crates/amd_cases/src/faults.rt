@@ -1,4 +1,4 @@
-// What is wrong with a line of a case. Given by `items` and `cases`, and handed on with the line's number by `reader`.
+// What is wrong with a line of a case, and how a message says it.
 
 ghost use Rattle.std.specs.Prelude.{◌≡◌};
 ghost use Rattle.amd_cases.specs.declared.faults.CaseFault.TheVariants.{OutOfMemory};

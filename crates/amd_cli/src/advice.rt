@@ -1,5 +1,5 @@
 // What leads on after some messages: the line to type for an archive, and the name that an option has in another
-// subcommand. Told by `program` of the crate `amd_command`. Tested alone.
+// subcommand. Tested alone.
 
 use crate::causes::Cause;
 use crate::inputs::Complaint;

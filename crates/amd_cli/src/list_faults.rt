@@ -1,4 +1,4 @@
-// What is wrong with a list whose lines are numbers, but tell no order. Given by `listing`.
+// What is wrong with a list whose lines are numbers, but tell no order.
 
 use thiserror::Error;
 

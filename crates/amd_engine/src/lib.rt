@@ -1,7 +1,8 @@
 //! The engine of an ordering: it eliminates the rows of a matrix by rounds in one workspace, lists the blocks of the
 //! tree that comes of them in postorder, and tells the figures of the run (`amd_1`, and for lists that are laid
-//! `amd_2`, over `fresh`, `running` and `ended`). The crate `amd` calls it. Re-exported are the types that callers see,
-//! the numbers below, the postorder of trees, and the law that engines with one contract return the same.
+//! `amd_2`, over `fresh`, `running` and `ended`). Re-exported are the types that callers see, the numbers below, the
+//! postorder of trees, and the law that engines with one contract return the same. Source: Amestoy, Davis and Duff 1996
+//! and 2004.
 #![tactic(auto)]
 
 pub mod amd_1;

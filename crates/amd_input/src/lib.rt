@@ -1,5 +1,5 @@
 //! The input of an ordering: whether it is a column form, its transpose with sorted columns, and the degrees and
-//! figures of its pattern. The crate `amd` calls it and hands it on.
+//! figures of its pattern. Source: AMD user guide; Amestoy, Davis and Duff 2004.
 #![tactic(auto)]
 
 pub mod aat;

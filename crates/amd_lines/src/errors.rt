@@ -1,4 +1,4 @@
-// Why the next line of a text was not read. Given by `lines`; readers of a format make it an error of their own.
+// Why the next line of a text was not read.
 
 use std::io;
 

@@ -1,5 +1,4 @@
-// What is wrong with a line of a file. Given by the readers of one line (`headers`, `entries`, `arrays`, `cards`,
-// `fields`), and handed on with the line's number by those of a file (`reader`, `dense`, `boeing`).
+// What is wrong with a line of a file, and how a message says it; and the error of a reader, which has the line's number.
 
 ghost use Rattle.std.specs.Prelude.{◌≡◌};
 ghost use Rattle.amd_market.specs.Faults.{read_error};

@@ -1,4 +1,4 @@
-// How the numbers of a Harwell-Boeing file stand on its lines. Made by `fields` and `cards`.
+// How the numbers of a Harwell-Boeing file stand on its lines.
 
 ghost use Rattle.std.specs.Prelude.{◌<◌};
 

@@ -1,5 +1,4 @@
-// What stands in a line that is at fault: its beginning, or that of the word that is wrong, for the message. Made by
-// `lines`, and written by `faults`.
+// What stands in a line that is at fault: its beginning, or that of the word that is wrong, for the message.
 
 use crate::faults::ReadFault;
 use amd_lines::words::first_word;

@@ -1,6 +1,6 @@
 // The plain engine: an elimination that keeps the lists of the quotient graph (for each class its elements and its
-// variables, for each element its members), and one list of classes for each bound. It is the second engine: `order`
-// does not call it. Source: Amestoy, Davis and Duff 1996 and 2004.
+// variables, for each element its members), and one list of classes for each bound. It is the second engine. Source:
+// Amestoy, Davis and Duff 1996 and 2004.
 
 ghost use Rattle.std.specs.Prelude.{◌≡◌, ◌<◌, pos, map, length, IfOk, IfErr, OnOk};
 ghost use Rattle.std.specs.Option.{option_copied};

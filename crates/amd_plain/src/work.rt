@@ -1,5 +1,4 @@
-// What an elimination keeps between two rounds. Source: Amestoy, Davis and Duff 1996 (quotient graph). Filled by
-// `start`, changed by `rounds`.
+// What an elimination keeps between two rounds. Source: Amestoy, Davis and Duff 1996 (quotient graph).
 
 use amd_types::figures::Figures;
 use std::alloc::Allocator;

@@ -1,5 +1,5 @@
 // What the factor needs under several orders of the rows: as they stand in the file, as they were ordered, and as a
-// file lists them. The numbers come from `needs` of the crate `amd_command`.
+// file lists them.
 
 ghost use Rattle.std.specs.Prelude.{◌≡◌, IsTrue, OnOk};
 ghost use Rattle.std.specs.Char.{is_ascii};

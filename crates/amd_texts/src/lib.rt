@@ -1,4 +1,4 @@
-//! The texts of what a caller chooses and of what an ordering tells. The crate `amd` hands them on.
+//! The texts of what a caller chooses and of what an ordering tells. Source: AMD user guide.
 #![tactic(auto)]
 
 mod control_text;
