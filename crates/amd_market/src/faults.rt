@@ -1,4 +1,4 @@
-// What is wrong with a line of a file, and how a message says it; and the error of a reader, which has the line's number.
+// What is wrong with a line of a file, and how a message says it; and the error of a reader, with the line's number.
 
 ghost use Rattle.std.specs.Prelude.{◌≡◌};
 ghost use Rattle.amd_market.specs.Faults.{read_error};
