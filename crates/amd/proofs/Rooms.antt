@@ -5,10 +5,9 @@ use Rattle.amd_workspace.specs.Lists.{HasRoom, HasRows}
 use Rattle.amd_workspace.specs.declared.lists.Memory.{Memory}
 use Rattle.amd_workspace.specs.declared.lists.Lists.{Lists}
 
-fewer_rows : {P U A : Type 0} (n m : ℕ) (l : Lists P U A) → HasRows n l → m ≤ n → HasRows m l
+fewer_rows : {U A : Type 0} (n m : ℕ) (l : Lists U A) → HasRows n l → m ≤ n → HasRows m l
 fewer_rows n m l has few =
-    let b = has.e_len in let c = has.w in let d = has.head in let e = has.sides in let f = has.hash in record {
-      e_len = omega (arith, b, few);
+    let c = has.w in let d = has.head in let e = has.sides in let f = has.hash in record {
       w = omega (arith, c, few);
       head = omega (arith, d, few);
       sides = omega (arith, e, few);
@@ -20,7 +19,7 @@ pub less_room : {S P U A : Type 0} (n count m few : ℕ) (memory : Memory S P U 
     HasRoom m few memory
 less_room n count m few memory has rows words =
     let other = has.beside in let a = other.words in let b = other.next in let c = other.pe in let d = other.len in let e = has.nv in
-    record {
+    let f = has.e_len in record {
       beside = record {
         words = omega (arith, a, words);
         next = omega (arith, b, rows);
@@ -29,4 +28,5 @@ less_room n count m few memory has rows words =
         lists = fewer_rows n m memory.lists other.lists rows;
       };
       nv = omega (arith, e, rows);
+      e_len = omega (arith, f, rows);
     }

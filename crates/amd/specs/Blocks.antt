@@ -19,7 +19,7 @@ workspace_words rows entries = 3 * entries + 11 * rows + bucket_count rows + 1
 -- counts two
 abbrev pub words_in : {S P U A : Type 0} → Memory S P U A → ℕ → ℕ → ℕ
 words_in m pointers columns = vec_capacity m.words.iw + vec_capacity m.words.next + vec_capacity m.pe + vec_capacity m.len +
-    vec_capacity m.nv + vec_capacity m.lists.e_len + vec_capacity m.lists.w + vec_capacity m.lists.head +
+    vec_capacity m.nv + vec_capacity m.e_len + vec_capacity m.lists.w + vec_capacity m.lists.head +
     2 * vec_capacity m.lists.sides + vec_capacity m.lists.hash + pointers + columns
 
 -- the least multiple of 4 that is not less

@@ -47,29 +47,27 @@ pub fn workspace_bytes(rows: usize, entries: usize) -> Option<usize>
     usize::try_from(width * words).ok()
 }
 
-/// The lists with a place for each row but the numbers of rows, and that of the buckets, in the first six parts of a
-/// block.
-fn lists_in<P: Signed, U: Unsigned>(
+/// The lists with a place for each row but the numbers of rows and of elements, and that of the buckets, in the first
+/// five parts of a block.
+fn lists_in<U: Unsigned>(
     block: Piece,
     rows: usize,
     width: usize,
     part: usize,
-) -> (Lists<P, U, Lodged>, Piece)
-    requires part { IsWhole part × (6 * part ≤ block.size) }
+) -> (Lists<U, Lodged>, Piece)
+    requires part { IsWhole part × (5 * part ≤ block.size) }
     requires rows { (rows < 2 ^ 63) × (rows * width ≤ part) }
-    requires types { HaveWidth (word_row P.row P.Signed) (word_row P.row P.Signed) (cell_row U.row U.Unsigned)
-        (sides_row U.row U.Unsigned) width }
+    requires cells { type_size (cell_row U.row U.Unsigned) ≤ width }
+    requires sides { type_size (sides_row U.row U.Unsigned) ≤ 2 * width }
     ensures room { HasRows rows result.0 }
-    ensures rest { 6 * part + result.1.size ≡ block.size }
+    ensures rest { 5 * part + result.1.size ≡ block.size }
 {
-    let (e_len, block) = block.split_list(rows, part);
     let (w, block) = block.split_list(rows, part);
     let (head, block) = block.split_list(rows, part);
     let (sides, block) = block.split_list(rows, 2 * part);
     let (hash, block) = block.split_list(rows, part);
     (
         Lists {
-            e_len,
             w,
             head,
             sides,
@@ -101,6 +99,7 @@ fn memory_in<S: Signed, P: Signed, U: Unsigned>(
     let (pe, block) = block.split_list(rows, part);
     let (len, block) = block.split_list(rows, part);
     let (nv, block) = block.split_list(rows, part);
+    let (e_len, block) = block.split_list(rows, part);
     let (lists, block) = lists_in(block, rows, width, part);
     (
         Memory {
@@ -108,6 +107,7 @@ fn memory_in<S: Signed, P: Signed, U: Unsigned>(
             pe,
             len,
             nv,
+            e_len,
             lists,
         },
         block,

@@ -1,5 +1,5 @@
-// An ordering of a matrix of 32 bits into the caller's own lists, in words of 32 bits: the place of the permutation
-// serves as one of the lists of the elimination until the permutation is written into it. Source: AMD user guide;
+// An ordering of a matrix of 32 bits into the caller's own lists, in words of 32 bits: the places of the permutation and
+// of its inverse serve as two of the lists of the elimination until these are written into them. Source: AMD user guide;
 // Amestoy, Davis and Duff 1996 and 2004.
 
 ghost use Rattle.std.specs.Prelude.{◌≡◌, ◌<◌, ◌≤◌, ◌+◌, ◌*◌, ◌/◌, ◌^◌, ℕ, false, pos, map, length, slice_index};
@@ -103,7 +103,7 @@ fn order_in<A: Allocator + Copy>(
     order_counted(alloc, &mut memory, &c_p, &c_i, request, p, p_inv)
 }
 
-/// As `order_once`, but where words of 32 bits hold all numbers, `p` serves as one of the lists.
+/// As `order_once`, but where words of 32 bits hold all numbers, `p` and `p_inv` serve as two of the lists.
 ///
 /// # Errors
 ///
@@ -129,12 +129,13 @@ fn order_lending<A: Allocator + Copy>(
     if !holds::<i32, i32, u32>(size, most, 2) {
         return order_once(alloc, matrix, request, p, p_inv);
     }
-    ask_for_most(alloc, size, 8, entries + entries / 5 + size)?;
+    ask_for_most(alloc, size, 7, entries + entries / 5 + size)?;
     order_in(alloc, matrix, request, p, p_inv)
 }
 
-/// Orders the rows of a square matrix as [`crate::order_into`] does. It asks for one list less where words of 32 bits
-/// hold all numbers of the elimination: `p` serves in its place until the permutation is written into it.
+/// Orders the rows of a square matrix as [`crate::order_into`] does. It asks for two lists less where words of 32 bits
+/// hold all numbers of the elimination: `p` and `p_inv` serve in their place until the permutation and its inverse are
+/// written into them.
 ///
 /// # Errors
 ///

@@ -78,8 +78,8 @@ fn memory_for<S: Signed, P: Signed, U: Unsigned, A: Allocator + Copy>(
             iw: Vec::with_capacity(alloc, words)?,
         },
         nv: Vec::with_capacity(alloc, rows)?,
+        e_len: Vec::with_capacity(alloc, rows)?,
         lists: Lists {
-            e_len: Vec::with_capacity(alloc, rows)?,
             w: Vec::with_capacity(alloc, rows)?,
             head: Vec::with_capacity(alloc, rows)?,
             sides: Vec::with_capacity(alloc, rows)?,

@@ -153,12 +153,13 @@ fn time_rounds<R: time::Clock + Alloc<A = Global>, I: Index, S: Signed, P: Signe
     let mut p = room_for(rt.alloc(), size)?;
     let mut p_inv = room_for(rt.alloc(), size)?;
     fill_words(&mut memory.nv, size, size as isize);
+    fill_words(&mut memory.e_len, size, size as isize);
     fill_lists(size, &mut memory.words.next, &mut memory.lists);
     clock.end(rt, "lists");
     let mut rows = RowLists {
         pe: &mut memory.pe,
         len: &mut memory.len,
-        e_len: &mut memory.lists.e_len,
+        e_len: &mut memory.e_len,
         nv: &mut memory.nv,
         degree: &mut memory.words.next,
         w: &mut memory.lists.w,
@@ -207,6 +208,8 @@ fn time_elimination<
     let mut memory: Memory<S, P, U, Global> = memory_for(rt.alloc(), degrees, room)?;
     let free = lay(size, a_p, a_i, room, &mut memory);
     clock.end(rt, "lay");
+    // Of this list the laying says nothing.
+    memory.e_len = Vec::with_capacity(rt.alloc(), size)?;
     time_rounds(rt, clock, n, size, &mut memory, free, room)
 }
 

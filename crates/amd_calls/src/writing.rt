@@ -61,8 +61,8 @@ pub fn order_into<I: PrimInt, A: Allocator + Copy>(
     }
 }
 
-/// As `order_into`, for numbers of 32 bits. It asks for one list less where words of 32 bits hold all numbers: `p` then
-/// serves in its place, and the permutation is written into it at the end.
+/// As `order_into`, for numbers of 32 bits. It asks for two lists less where words of 32 bits hold all numbers: `p` and
+/// `p_inv` then serve in their place, and the permutation and its inverse are written into them at the end.
 ///
 /// # Errors
 ///

@@ -16,11 +16,11 @@ use Rattle.amd_engine.specs.InPlace.{AnswersInPlace, AreEmpty, AreFresh, AreList
 use Rattle.amd_engine.proofs.EndingLaw.{answers}
 
 -- lists as they are when they are made name no row, also lent
-pub lent_empty : {S P U A : Type 0} {n m : ℕ} {degree : List ℕ} {l : Lists P U A} (rows : RowLists S P U) → AreFresh n degree l → m ≡ n →
-    rows.e_len.now ≡ l.e_len.items → length rows.nv.now ≡ n → rows.degree.now ≡ degree → rows.w.now ≡ l.w.items →
+pub lent_empty : {S P U A : Type 0} {n m : ℕ} {degree : List ℕ} {l : Lists U A} (rows : RowLists S P U) → AreFresh n degree l → m ≡ n →
+    length rows.e_len.now ≡ n → length rows.nv.now ≡ n → rows.degree.now ≡ degree → rows.w.now ≡ l.w.items →
     rows.head.now ≡ l.head.items → rows.sides.now ≡ l.sides.items → rows.hash.now ≡ l.hash.items → AreEmpty m rows
 lent_empty {n = n} rows fresh size a b d f h i j = rw size (record {
-  words = (ap length a ∙ fresh.words, b);
+  words = (a, b);
   figures = (ap length d ∙ fresh.figures.0, ap length f ∙ fresh.figures.1);
   links = (
     ap length h ∙ ap length fresh.heads.0 ∙ length-replicate n n,

@@ -130,9 +130,8 @@ pub record CanRun {S P U : Type 0} (iw : List ℤ) (free : ℕ) (rows : RowLists
   pub room : free + length rows.len.now ≤ length iw
   pub graph : (g : Graph) × (lists : ℕ → List ℕ) × LaysGraph g lists iw rows.pe.now rows.len.now
 
--- lists for an elimination of n rows as they are when they are made, but for the numbers of rows
-pub record AreFresh {P U A : Type 0} (n : ℕ) (degree : List ℕ) (l : Lists P U A) : Type 0 where
-  pub words : length l.e_len.items ≡ n
+-- lists for an elimination of n rows as they are when they are made, but for the numbers of rows and of elements
+pub record AreFresh {U A : Type 0} (n : ℕ) (degree : List ℕ) (l : Lists U A) : Type 0 where
   pub figures : (length degree ≡ n) × (length l.w.items ≡ n)
   pub heads : (l.head.items ≡ replicate n n) × (l.hash.items ≡ replicate (bucket_count n) n)
   pub links : (length (nexts l.sides.items) ≡ n) × (length (lasts l.sides.items) ≡ n)

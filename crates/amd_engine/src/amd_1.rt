@@ -148,12 +148,13 @@ fn order_lent<S: Signed, P: Signed, U: Unsigned, A: Allocator>(
 }
 
 /// Lays the lists of a matrix with sorted columns in memory that was asked for before, eliminates its rows in them, and
-/// lists the rows: `head` then has the permutation, and `w` its inverse. `nv` has a place for each row; what it holds
-/// is not read, and the numbers of rows stand in it afterwards. Of the memory `nv` is not used, and stays as it is. The
-/// rest is as `order_within` says.
+/// lists the rows: `head` then has the permutation, and `w` its inverse. `nv` and `e_len` have a place for each row;
+/// what they hold is not read, and the numbers of rows and the fronts stand in them afterwards. The lists of these names
+/// in the memory are not used. The rest is as `order_within` says.
 fn eliminate_within<J: Index, S: Signed, P: Signed, U: Unsigned, A: Allocator + Copy>(
     memory: &mut Memory<S, P, U, A>,
     nv: &mut [Word<S>],
+    e_len: &mut [Word<P>],
     a_p: &[J],
     a_i: &[J],
     room: usize,
@@ -171,6 +172,7 @@ fn eliminate_within<J: Index, S: Signed, P: Signed, U: Unsigned, A: Allocator + 
     requires pointers { slice_index (naturals (map J.value a_p.now)) (length nv.old) ≤ U.MOST }
     requires marks { HasMarks (option_copied choice.now.hold) (length nv.old) }
     requires flag { 2 ≤ choice.now.flag }
+    requires counts { length e_len.old ≡ length nv.old }
     ensures orders { (info : Info) → IsEngineAnswer (option_copied choice.now.hold) (length nv.old)
         choice.now.control.now (map J.value a_p.now) (map J.value a_i.now) (map pos memory.new.lists.head.items)
         (map pos memory.new.lists.w.items) info (told_info result info) }
@@ -197,7 +199,7 @@ fn eliminate_within<J: Index, S: Signed, P: Signed, U: Unsigned, A: Allocator + 
     let told = order_lent(
         &mut memory.words.iw,
         &mut laid,
-        &mut memory.lists.e_len,
+        e_len,
         nv,
         &mut memory.lists.w,
         &mut memory.lists.head,
@@ -254,21 +256,26 @@ pub fn order_within<I: Index, J: Index, S: Signed, P: Signed, U: Unsigned, A: Al
     ensures room { (n count : ℕ) → HasRoom n count memory.old → HasRoom n count memory.new }
 {
     let size = p.len();
-    // It is taken out of its place: it is lent beside the rest of the memory.
+    // They are taken out of their places: they are lent beside the rest of the memory.
     let alloc = *memory.nv.allocator();
     let mut nv = replace(&mut memory.nv, Vec::new(alloc));
-    fill_words(&mut nv, size, size as isize);
-    let told = eliminate_within(memory, &mut nv, a_p, a_i, room, choice);
+    let mut e_len = replace(&mut memory.e_len, Vec::new(alloc));
+    let first = size as isize;
+    fill_words(&mut nv, size, first);
+    fill_words(&mut e_len, size, first);
+    let told = eliminate_within(memory, &mut nv, &mut e_len, a_p, a_i, room, choice);
     memory.nv = nv;
+    memory.e_len = e_len;
     finish(&told, &memory.lists.head, &memory.lists.w, p, p_inv, info);
 }
 
-/// As `order_within`, for a permutation of 32 bits in words of 32 bits: `p` serves as the list of the numbers of rows
-/// until the permutation is written into it. So the memory needs room for all other lists alone.
+/// As `order_within`, for a permutation of 32 bits in words of 32 bits: until the permutation and its inverse are
+/// written into them, `p` serves as the list of the numbers of rows, and `p_inv` as that of the numbers of elements. So
+/// the memory needs room for all other lists alone.
 ///
 /// Source: Amestoy, Davis and Duff 1996 and 2004.
-pub fn order_within_lent<J: Index, P: Signed, U: Unsigned, A: Allocator + Copy>(
-    memory: &mut Memory<i32, P, U, A>,
+pub fn order_within_lent<J: Index, U: Unsigned, A: Allocator + Copy>(
+    memory: &mut Memory<i32, i32, U, A>,
     a_p: &[J],
     a_i: &[J],
     room: usize,
@@ -286,7 +293,7 @@ pub fn order_within_lent<J: Index, P: Signed, U: Unsigned, A: Allocator + Copy>(
     requires words { own_start (length p.old) (map J.value a_p.now) (map J.value a_i.now) (length p.old) + length p.old
         ≤ room }
     requires room { HasRoomBeside (length p.old) room memory.old }
-    requires narrow { AreWideEnough 2147483647 P.MOST U.MOST (length p.old) room }
+    requires narrow { AreWideEnough 2147483647 2147483647 U.MOST (length p.old) room }
     requires pointers { slice_index (naturals (map J.value a_p.now)) (length p.old) ≤ U.MOST }
     requires marks { HasMarks (option_copied choice.now.hold) (length p.old) }
     requires flag { 2 ≤ choice.now.flag }
@@ -296,7 +303,16 @@ pub fn order_within_lent<J: Index, P: Signed, U: Unsigned, A: Allocator + Copy>(
     ensures room { (n count : ℕ) → HasRoomBeside n count memory.old → HasRoomBeside n count memory.new }
 {
     clear(p);
-    let run = eliminate_within(memory, lend_narrow(p), a_p, a_i, room, choice);
+    clear(p_inv);
+    let run = eliminate_within(
+        memory,
+        lend_narrow(p),
+        lend_narrow(p_inv),
+        a_p,
+        a_i,
+        room,
+        choice,
+    );
     finish(&run, &memory.lists.head, &memory.lists.w, p, p_inv, info);
 }
 

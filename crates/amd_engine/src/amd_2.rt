@@ -117,6 +117,7 @@ pub fn amd_2_from<I: Index, S: Signed, P: Signed, U: Unsigned, A: Allocator + Co
     let size = len.len();
     let mut degree = Vec::with_capacity(alloc, size)?;
     let mut nv = words(alloc, size, size as isize)?;
+    let mut fronts = words(alloc, size, size as isize)?;
     let mut lists = Lists::with_room(alloc, size)?;
     let mut p = room_for(alloc, size)?;
     let mut p_inv = room_for(alloc, size)?;
@@ -135,12 +136,12 @@ pub fn amd_2_from<I: Index, S: Signed, P: Signed, U: Unsigned, A: Allocator + Co
         &mut lists.head,
         &mut lists.w,
         &mut nv,
-        &mut lists.e_len,
+        &mut fronts,
         &mut lists.sides,
         &mut lists.hash,
     );
     finish(&told, &lists.head, &lists.w, &mut p, &mut p_inv, info);
-    Ok((nv, p_inv, p, lists.e_len))
+    Ok((nv, p_inv, p, fronts))
 }
 
 /// Room for `count` numbers of 64 bits.

@@ -9,7 +9,7 @@ ghost use Rattle.amd_engine.specs.InPlace.{AreFresh};
 use amd_lists::work::bucket_count;
 use amd_types::index::Index;
 use amd_words::{Cell, Signed, Unsigned, cell_of};
-use amd_workspace::filling::{fill_cells, fill_sides, fill_words};
+use amd_workspace::filling::{fill_cells, fill_sides};
 use amd_workspace::lists::{Lists, Memory};
 use std::alloc::{AllocError, Allocator};
 
@@ -60,21 +60,19 @@ pub fn memory_for<S: Signed, P: Signed, U: Unsigned, A: Allocator + Copy>(
 /// Fills the lists of an elimination of `n` rows, which have room for so many, and that of the buckets for theirs. What
 /// they held before is given up.
 ///
-/// Both widths hold `n`. Each number of `head` and `hash` is `n`, which names no row. Each number of `degree`, `e_len`
-/// and `w` is `n` too, which nothing relies on: a loop of stores is faster here than the `memset` that zeros would
-/// become.
-pub fn fill_lists<P: Signed, U: Unsigned, A: Allocator + Copy>(
+/// The width holds `n`. Each number of `head` and `hash` is `n`, which names no row. Each number of `degree` and `w` is
+/// `n` too, which nothing relies on: a loop of stores is faster here than the `memset` that zeros would become.
+pub fn fill_lists<U: Unsigned, A: Allocator + Copy>(
     n: usize,
     degree: &mut Vec<Cell<U>, A>,
-    lists: &mut Lists<P, U, A>,
+    lists: &mut Lists<U, A>,
 )
-    requires narrow { (n ≤ P.MOST) × (n ≤ U.MOST) }
+    requires narrow { n ≤ U.MOST }
     requires room { (n ≤ vec_capacity degree.old) × HasRows n lists.old }
     ensures fresh { AreFresh n degree.new.items lists.new }
     ensures degree { vec_capacity degree.new ≡ vec_capacity degree.old }
     ensures room { (k : ℕ) → HasRows k lists.old → HasRows k lists.new }
 {
-    fill_words(&mut lists.e_len, n, n as isize);
     fill_cells(degree, n, n);
     fill_cells(&mut lists.w, n, n);
     fill_cells(&mut lists.head, n, n);

@@ -21,9 +21,7 @@ pub struct Words<S: Signed, U: Unsigned, A: Allocator> {
 
 /// Lists of an elimination with a place for each row, but for the numbers of rows; and that of the buckets.
 #[derive(Drop)]
-pub struct Lists<P: Signed, U: Unsigned, A: Allocator> {
-    /// The number of elements of each class, and at the end the number of rows of each front.
-    pub e_len: Vec<Word<P>, A>,
+pub struct Lists<U: Unsigned, A: Allocator> {
     /// The counter of each row.
     pub w: Vec<Cell<U>, A>,
     /// The first class of each bound. At first there is none.
@@ -45,21 +43,23 @@ pub struct Memory<S: Signed, P: Signed, U: Unsigned, A: Allocator> {
     pub len: Vec<Cell<U>, A>,
     /// The number of rows of each class, and at the end that of each block. Another list may serve in its place.
     pub nv: Vec<Word<S>, A>,
+    /// The number of elements of each class, and at the end the number of rows of each front. Another list may serve in
+    /// its place.
+    pub e_len: Vec<Word<P>, A>,
     /// The other lists.
-    pub lists: Lists<P, U, A>,
+    pub lists: Lists<U, A>,
 }
 
-impl<P: Signed, U: Unsigned, A: Allocator + Copy> Lists<P, U, A> {
+impl<U: Unsigned, A: Allocator + Copy> Lists<U, A> {
     /// Lists with room for `rows` rows.
     ///
     /// # Errors
     ///
     /// A refused request for memory.
-    pub fn with_room(alloc: A, rows: usize) -> Result<Lists<P, U, A>, AllocError>
+    pub fn with_room(alloc: A, rows: usize) -> Result<Lists<U, A>, AllocError>
         ensures { IfOk result (HasRows rows) }
     {
         Ok(Lists {
-            e_len: Vec::with_capacity(alloc, rows)?,
             w: Vec::with_capacity(alloc, rows)?,
             head: Vec::with_capacity(alloc, rows)?,
             sides: Vec::with_capacity(alloc, rows)?,
@@ -86,6 +86,7 @@ impl<S: Signed, P: Signed, U: Unsigned, A: Allocator + Copy> Memory<S, P, U, A> 
                 iw: Vec::with_capacity(alloc, words)?,
             },
             nv: Vec::new(alloc),
+            e_len: Vec::new(alloc),
             lists: Lists::with_room(alloc, rows)?,
         })
     }
@@ -100,6 +101,7 @@ impl<S: Signed, P: Signed, U: Unsigned, A: Allocator + Copy> Memory<S, P, U, A> 
     {
         let mut memory = Memory::beside(alloc, rows, words)?;
         memory.nv = Vec::with_capacity(alloc, rows)?;
+        memory.e_len = Vec::with_capacity(alloc, rows)?;
         Ok(memory)
     }
 }

@@ -55,18 +55,32 @@ split_list-nv-requires-clause-room g c = (
   c.requires.rows.0,
 )
 
-pub lists_in-lists-requires-clause-part : goal.lists_in-lists-requires-clause-part
-lists_in-lists-requires-clause-part g c =
+pub split_list-e_len-requires-clause-cut : goal.split_list-e_len-requires-clause-cut
+split_list-e_len-requires-clause-cut g c =
     let r = c.requires.part.2 in let a = c.split_list-iw.ensures.rest in let b = c.split_list-next.ensures.rest in
     let d = c.split_list-pe.ensures.rest in let e = c.split_list-len.ensures.rest in let f = c.split_list-nv.ensures.rest in
     (c.requires.part.0, omega (arith, r, a, b, d, e, f))
 
+pub split_list-e_len-requires-clause-room : goal.split_list-e_len-requires-clause-room
+split_list-e_len-requires-clause-room g c = (
+  values_fit c.args.rows _ c.args.width c.args.part c.requires.types.place c.requires.rows.1,
+  c.requires.rows.0,
+)
+
+pub lists_in-lists-requires-clause-part : goal.lists_in-lists-requires-clause-part
+lists_in-lists-requires-clause-part g c =
+    let r = c.requires.part.2 in let a = c.split_list-iw.ensures.rest in let b = c.split_list-next.ensures.rest in
+    let d = c.split_list-pe.ensures.rest in let e = c.split_list-len.ensures.rest in let f = c.split_list-nv.ensures.rest in
+    let h = c.split_list-e_len.ensures.rest in (c.requires.part.0, omega (arith, r, a, b, d, e, f, h))
+
 pub lists_in-lists-requires-clause-rows : goal.lists_in-lists-requires-clause-rows
 lists_in-lists-requires-clause-rows g c = c.requires.rows
 
-pub lists_in-lists-requires-clause-types : goal.lists_in-lists-requires-clause-types
-lists_in-lists-requires-clause-types g c =
-    let t = c.requires.types in record { word = t.place; place = t.place; cell = t.cell; sides = t.sides }
+pub lists_in-lists-requires-clause-cells : goal.lists_in-lists-requires-clause-cells
+lists_in-lists-requires-clause-cells g c = c.requires.types.cell
+
+pub lists_in-lists-requires-clause-sides : goal.lists_in-lists-requires-clause-sides
+lists_in-lists-requires-clause-sides g c = c.requires.types.sides
 
 pub returns-clause-room : goal.returns-clause-room
 returns-clause-room g c = record {
@@ -78,10 +92,11 @@ returns-clause-room g c = record {
     lists = c.lists_in-lists.ensures.room;
   };
   nv = le_of_eq (sym c.split_list-nv.ensures.list.1);
+  e_len = le_of_eq (sym c.split_list-e_len.ensures.list.1);
 }
 
 pub returns-clause-rest : goal.returns-clause-rest
 returns-clause-rest g c =
     let a = c.split_list-iw.ensures.rest in let b = c.split_list-next.ensures.rest in let d = c.split_list-pe.ensures.rest in
     let e = c.split_list-len.ensures.rest in let f = c.split_list-nv.ensures.rest in let h = c.lists_in-lists.ensures.rest in
-    omega (arith, a, b, d, e, f, h)
+    let k = c.split_list-e_len.ensures.rest in omega (arith, a, b, d, e, f, h, k)

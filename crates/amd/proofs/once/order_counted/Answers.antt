@@ -13,6 +13,7 @@ order_sorted-requires-clause-room g c =
         lists = has.beside.lists;
       };
       nv = has.nv;
+      e_len = has.e_len;
     }
 
 pub order_sorted-requires-clause-counted : goal.order_sorted-requires-clause-counted

@@ -34,7 +34,15 @@ time_rounds-requires-clause-graph g c =
     )
 
 pub time_rounds-requires-clause-room : goal.time_rounds-requires-clause-room
-time_rounds-requires-clause-room g c = let room = c.in_ok-memory.ensures.room in record {
-  beside = c.lay-free.ensures.room _ _ room.beside;
-  nv = rw c.lay-free.ensures.nv room.nv;
-}
+time_rounds-requires-clause-room g c =
+    let room = c.in_ok-memory.ensures.room in let laid = c.lay-free.ensures.room _ _ room.beside in record {
+      beside = record {
+        words = laid.words;
+        next = laid.next;
+        pe = laid.pe;
+        len = laid.len;
+        lists = laid.lists;
+      };
+      nv = rw c.lay-free.ensures.nv room.nv;
+      e_len = c.in_ok-memory-2.ensures.capacity;
+    }

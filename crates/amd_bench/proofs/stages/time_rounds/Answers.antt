@@ -14,7 +14,8 @@ pub run_growing-told-requires-clause-can : goal.run_growing-told-requires-clause
 run_growing-told-requires-clause-can g c =
     let r = c.requires in let starts = c.deref_mut.ensures.value in let counts = c.deref_mut-2.ensures.value in
     let size = ap length counts ∙ r.size.1 in let words = r.words.0 in record {
-      empty = lent_empty _ c.fill_lists.ensures.fresh size c.deref_mut-3.ensures.value
+      empty = lent_empty _ c.fill_lists.ensures.fresh size
+          (ap length (c.deref_mut-3.ensures.value ∙ c.fill_words-2.ensures.items) ∙ length-replicate c.args.size _)
           (ap length (c.deref_mut-4.ensures.value ∙ c.fill_words.ensures.items) ∙ length-replicate c.args.size _)
           c.deref_mut-5.ensures.value c.deref_mut-6.ensures.value c.deref_mut-7.ensures.value c.deref_mut-8.ensures.value
           c.deref_mut-9.ensures.value;

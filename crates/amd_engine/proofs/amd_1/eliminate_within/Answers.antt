@@ -9,11 +9,11 @@ use Rattle.amd_engine.specs.InPlace.{AnswersInPlace, told_info}
 use Rattle.amd_engine.proofs.LentPattern.{LaysPattern, lent_pattern}
 use Rattle.amd_engine.proofs.LentLists.{lent_empty}
 use Rattle.amd_engine.proofs.amd_1.eliminate_within.Given.{Over}
-use Rattle.amd_engine.proofs.amd_1.eliminate_within.Goals.{After-deref_mut-8, After-order_lent-told}
+use Rattle.amd_engine.proofs.amd_1.eliminate_within.Goals.{After-deref_mut-7, After-order_lent-told}
 use Rattle.amd_engine.proofs.amd_1.eliminate_within.Goals as goal
 
 -- the lent workspace has the lists of the matrix
-lent : (g : Over) (c : After-deref_mut-8 g) → LaysPattern (length c.args.nv.now) (map g.J.Index.value c.args.a_p.now)
+lent : (g : Over) (c : After-deref_mut-7 g) → LaysPattern (length c.args.nv.now) (map g.J.Index.value c.args.a_p.now)
     (map g.J.Index.value c.args.a_i.now) c.lay-free.new.memory.words.iw.items c.deref_mut.result.now c.deref_mut-2.result.now
     c.lay-free.result
 lent g c =
@@ -45,8 +45,7 @@ pub lay-free-requires-clause-room : goal.lay-free-requires-clause-room
 lay-free-requires-clause-room g c = c.requires.room
 
 pub fill_lists-requires-clause-narrow : goal.fill_lists-requires-clause-narrow
-fill_lists-requires-clause-narrow g c = let n = c.requires.narrow in
-    let word = n.2 in let cell = n.3 in let place = n.4 in (omega (arith, word, place), omega (arith, cell))
+fill_lists-requires-clause-narrow g c = let cell = c.requires.narrow.3 in omega (arith, cell)
 
 pub order_lent-told-requires-clause-some : goal.order_lent-told-requires-clause-some
 order_lent-told-requires-clause-some g c =
@@ -71,12 +70,12 @@ fill_lists-requires-clause-room g c = let room = c.lay-free.ensures.room _ _ c.r
 
 pub order_lent-told-requires-clause-can : goal.order_lent-told-requires-clause-can
 order_lent-told-requires-clause-can g c =
-    let l = lent g (goal.at.order_lent-told-requires-clause-can g c).After-deref_mut-8 in
+    let l = lent g (goal.at.order_lent-told-requires-clause-can g c).After-deref_mut-7 in
     let a_p : List ℤ = map g.J.Index.value c.args.a_p.now in let a_i : List ℤ = map g.J.Index.value c.args.a_i.now in
     let n : ℕ = length c.args.nv.now in let long = c.lay-free.ensures.long.0 in let size = l.size in record {
-      empty = lent_empty _ c.fill_lists.ensures.fresh size c.deref_mut-4.ensures.value refl
-          (c.deref_mut-3.ensures.value ∙ ap (λ v. v.items) c.replace-degree.ensures.value) c.deref_mut-5.ensures.value
-          c.deref_mut-6.ensures.value c.deref_mut-7.ensures.value c.deref_mut-8.ensures.value;
+      empty = lent_empty _ c.fill_lists.ensures.fresh size c.requires.counts refl
+          (c.deref_mut-3.ensures.value ∙ ap (λ v. v.items) c.replace-degree.ensures.value) c.deref_mut-4.ensures.value
+          c.deref_mut-5.ensures.value c.deref_mut-6.ensures.value c.deref_mut-7.ensures.value;
       laid = l.laid;
       room = omega (arith, long, size);
       graph = (graph_of n a_p a_i, starting_list n (is_pair n a_p a_i), l.lays);
@@ -111,7 +110,7 @@ record AreListed (g : Over) (c : After-order_lent-told g) : Type 0 where
 are_listed : (g : Over) (c : After-order_lent-told g) → AreListed g c
 are_listed g c =
     let n : ℕ = length c.args.nv.now in let told = c.order_lent-told in let new = told.new in let l = c.fill_lists.new.lists in
-    let head = told.auto.head ∙ ap length c.deref_mut-6.ensures.value in let w = told.auto.w ∙ ap length c.deref_mut-5.ensures.value in
+    let head = told.auto.head ∙ ap length c.deref_mut-5.ensures.value in let w = told.auto.w ∙ ap length c.deref_mut-4.ensures.value in
     record {
       head = take_at new.head (drop (length new.head) l.head.items) l.head.len (head ∙ sym l.head.ok.0);
       w = take_at new.w (drop (length new.w) l.w.items) l.w.len (w ∙ sym l.w.ok.0);
@@ -128,7 +127,7 @@ returns-clause-long g c = let b = are_listed g (goal.at.returns-clause-long g c)
 
 pub returns-clause-packs : goal.returns-clause-packs
 returns-clause-packs g c =
-    let size = (lent g (goal.at.returns-clause-packs g c).After-deref_mut-8).size in let packs = c.order_lent-told.ensures.packs in
+    let size = (lent g (goal.at.returns-clause-packs g c).After-deref_mut-7).size in let packs = c.order_lent-told.ensures.packs in
     omega (arith, packs, size)
 
 pub returns-clause-room : goal.returns-clause-room
@@ -140,7 +139,6 @@ returns-clause-room g c = λ n count h.
       pe = (let x = a.pe in let out = ap vec_capacity c.replace-pe.ensures.value in omega (arith, x, out));
       len = (let x = a.len in let out = ap vec_capacity c.replace-len.ensures.value in omega (arith, x, out));
       lists = record {
-        e_len = lists.e_len;
         w = lists.w;
         head = lists.head;
         sides = lists.sides;

@@ -21,8 +21,7 @@ words-requires g c = record {
 
 pub fill_lists-requires-clause-narrow : goal.fill_lists-requires-clause-narrow
 fill_lists-requires-clause-narrow g c =
-    let n = c.requires.narrow in let word = n.2 in let cell = n.3 in let place = n.4 in
-    (omega (arith, word, place), omega (arith, cell))
+    let cell = c.requires.narrow.3 in omega (arith, cell)
 
 pub fill_lists-requires-clause-room : goal.fill_lists-requires-clause-room
 fill_lists-requires-clause-room g c = let room = c.in_ok-degree.ensures.capacity in (omega (arith, room), c.in_ok-lists.ensures)
@@ -41,7 +40,8 @@ eliminate_lent-told-requires-clause-flag g c = c.requires.flag
 
 pub eliminate_lent-told-requires-clause-can : goal.eliminate_lent-told-requires-clause-can
 eliminate_lent-told-requires-clause-can g c = let r = c.requires in record {
-  empty = lent_empty _ c.fill_lists.ensures.fresh refl c.deref_mut-5.ensures.value
+  empty = lent_empty _ c.fill_lists.ensures.fresh refl
+      (ap length (c.deref_mut-5.ensures.value ∙ c.in_ok-fronts.ensures) ∙ length-replicate (length c.args.len.now) _)
       (ap length (c.deref_mut-4.ensures.value ∙ c.in_ok-nv.ensures) ∙ length-replicate (length c.args.len.now) _)
       c.deref_mut.ensures.value c.deref_mut-3.ensures.value c.deref_mut-2.ensures.value c.deref_mut-6.ensures.value
       c.deref_mut-7.ensures.value;
@@ -87,15 +87,15 @@ finish-requires-clause-fits g c = λ k l. fits_below g.I.Index.fits g.met.I.Inde
 pub returns-clause-orders : goal.returns-clause-orders
 returns-clause-orders g c = λ graph lists lays.
     let b = are_listed g (goal.at.returns-clause-orders g c).After-deref-2 in let order = c.finish.ensures.order in
-    let told = c.eliminate_lent-told in let new = c.finish.new in let l = c.fill_lists.new.lists in
+    let told = c.eliminate_lent-told in let new = c.finish.new in
     let p_is = take_at new.p (drop (length new.p) c.in_ok-p.p.items) c.in_ok-p.p.len
     (c.finish.auto.p ∙ ap length c.deref_mut-8.ensures.value ∙ sym c.in_ok-p.p.ok.0) in
     let q_is = take_at new.p_inv (drop (length new.p_inv) c.in_ok-p_inv.p_inv.items) c.in_ok-p_inv.p_inv.len
     (c.finish.auto.p_inv ∙ ap length c.deref_mut-9.ensures.value ∙ sym c.in_ok-p_inv.p_inv.ok.0) in
     let nv_is = take_at told.new.nv (drop (length told.new.nv) c.in_ok-nv.nv.items) c.in_ok-nv.nv.len
     (told.auto.nv ∙ ap length c.deref_mut-4.ensures.value ∙ sym c.in_ok-nv.nv.ok.0) in
-    let e_len_is = take_at told.new.e_len (drop (length told.new.e_len) l.e_len.items) l.e_len.len
-    (told.auto.e_len ∙ ap length c.deref_mut-5.ensures.value ∙ sym l.e_len.ok.0) in
+    let e_len_is = take_at told.new.e_len (drop (length told.new.e_len) c.in_ok-fronts.fronts.items) c.in_ok-fronts.fronts.len
+    (told.auto.e_len ∙ ap length c.deref_mut-5.ensures.value ∙ sym c.in_ok-fronts.fronts.ok.0) in
     rw (p_is, q_is, nv_is, e_len_is, order.0, order.1, c.finish.ensures.tells, b.head, b.w, c.pe-1.given.1.1 (sym told.ensures.loans.0))
     (told.ensures.orders graph lists c.args.info.now lays)
 

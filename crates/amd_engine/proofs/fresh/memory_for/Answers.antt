@@ -14,4 +14,5 @@ returns-clause-room g c = let h = c.in_ok-memory.ensures.beside in record {
     lists = h.lists;
   };
   nv = c.in_ok-memory.ensures.nv;
+  e_len = c.in_ok-memory.ensures.e_len;
 }

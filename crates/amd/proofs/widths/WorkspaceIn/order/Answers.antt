@@ -23,8 +23,8 @@ taken : (g : Over) (c : After-deref-2 g) → let old = c.args.self.now.memory in
       pe = old.pe;
       len = old.len;
       nv = old.nv;
+      e_len = old.e_len;
       lists = record {
-        e_len = old.lists.e_len;
         w = new.marks;
         head = old.lists.head;
         sides = old.lists.sides;
@@ -40,7 +40,6 @@ taken g c =
         pe = r.pe;
         len = r.len;
         lists = record {
-          e_len = r.lists.e_len;
           w = omega (arith, w, marks);
           head = r.lists.head;
           sides = r.lists.sides;
@@ -48,6 +47,7 @@ taken g c =
         };
       };
       nv = room.nv;
+      e_len = room.e_len;
     }
 
 pub invariant_of-self : goal.invariant_of-self
