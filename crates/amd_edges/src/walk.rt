@@ -241,7 +241,7 @@ fn rest<I: Index, V: Visitor, U: Unsigned, A: Allocator>(
 }
 
 /// Meets each edge of a sorted column form once, and returns the number of diagonal entries. The matrix has `size` rows
-/// and columns, and `next` is empty and has room for a pointer of each column; a cell has room for the last pointer.
+/// and columns, and `next` is empty and has room for a pointer of each column; a cell can hold the last pointer.
 /// `next` keeps its memory; what it holds afterwards is not said.
 ///
 /// For each column `k` in turn: each upper entry `j < k` of it, rising, gives the edge of `j` and `k`, and after it the

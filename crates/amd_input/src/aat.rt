@@ -24,7 +24,7 @@ use num_traits::PrimInt;
 use std::alloc::{AllocError, Allocator};
 use std::mem::replace;
 
-/// A counter of the arcs of each row, in cells. A count is below the number of rows, which a cell must have room for.
+/// A counter of the arcs of each row, in cells. A count is below the number of rows, which a cell must hold.
 #[derive(Drop)]
 pub struct DegreeCounter<U: Unsigned, A: Allocator> {
     /// The number of arcs of each row.
@@ -142,7 +142,7 @@ fn write_figures(size: usize, entries: usize, diagonals: usize, sum: usize, info
 ///
 /// The input is a column form with `size` rows and columns, each of which is strictly ascending. `next` and the list of
 /// `counter` have room for `size` numbers; what stands in them before does not matter, and they keep their memory. A
-/// cell has room for `size` and for the number of entries, and twice the entries are below 2^64. The list of `counter`
+/// cell can hold `size` and the number of entries, and twice the entries are below 2^64. The list of `counter`
 /// then has the degrees; what `next` holds is not said. The sum is at most twice the entries.
 ///
 /// The figures are those that [`aat`] writes.

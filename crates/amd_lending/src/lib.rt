@@ -13,8 +13,8 @@ use std::slice::from_raw_parts_mut;
 
 /// Stores each of `$len` numbers from `$start` on once more in its own place, which compilers leave out.
 ///
-/// A word or a cell lies in memory as its number does. The machine that proofs speak of has room for one only where it
-/// was not read as a number before.
+/// A word or a cell lies in memory as its number does. The machine that proofs speak of can have one there only where
+/// it was not read as a number before.
 macro_rules! store_again {
     ($start:ident, $len:ident) => {
         let mut i = 0;
