@@ -1,11 +1,11 @@
 -- What is asked where a column is planned and closed: the columns before it stand, and their children are in lists.
-use Rattle.std.specs.Prelude.{ℕ, ℤ, ◌≡◌, ◌<◌, ◌≤◌, ◌+◌, ◌-◌, List, [], Option, MatchOption, map, pos, take, length}
+use Rattle.std.specs.Prelude.{ℕ, ℤ, ◌≡◌, ◌<◌, ◌≤◌, ◌+◌, ◌-◌, List, [], Contains, Option, MatchOption, map, pos, take, length}
 use Rattle.std.specs.Prelude.{slice_index, slice_range}
 use Rattle.std.specs.List.Sorted.{IsStrictlyIncreasing}
 use Rattle.amd_model.specs.Factor.{IsColumn}
 use Rattle.amd_model.specs.Graph.{IsGraph}
 use Rattle.amd_types.specs.Naturals.{naturals}
-use Rattle.amd_factor.specs.Gathering.{Column, HoldBefore, Inherits, IsChild, LinkChildren, Marks, MarksTell, StandAt}
+use Rattle.amd_factor.specs.Gathering.{Column, EntryOf, HoldBefore, Inherits, IsChild, LinkChildren, Marks, MarksTell, StandAt}
 use Rattle.amd_factor.specs.Gathering.{TellFirst}
 use Rattle.amd_factor.specs.Neighbours.{AreLater}
 use Rattle.amd_factor.specs.Numbers.{AreNonNegative, Plans}
@@ -28,6 +28,25 @@ pub record AreColumnsBehind {N : Type 0} (value : N → ℤ) (o : Order) (k : �
   pub numbers : AreNonNegative (map value rows)
   pub links : LinkChildren o k link
   pub columns : HoldBefore o k ptr (naturals (map value rows))
+
+-- the children of a column are in lists, and where the entries of each begin and end is told
+pub record CanCompare (c : Column) (k : ℕ) (link : List (Option ℕ)) (starts ends : List ℕ) : Type 0 where
+  pub place : c.place ≡ k
+  pub inside : c.place < length c.order.rows
+  pub links : LinkChildren c.order c.place link
+  pub rows : List ℕ
+  pub stand : StandAt c.order c.place starts ends rows
+
+-- so many rows are listed and have the mark, and there is room for all
+pub record AreListed (c : Column) (stamp count : ℕ) (mark fresh : List ℕ) : Type 0 where
+  pub room : length fresh ≡ length c.order.rows
+  pub within : count ≤ length fresh
+  pub marks : Marks c stamp (take count fresh) mark
+
+-- rows that are entries of the column can be listed behind those that are
+pub record CanList (c : Column) (rows : List ℕ) (stamp count : ℕ) (mark fresh : List ℕ) : Type 0 where
+  pub entries : (j : ℕ) → Contains rows j → EntryOf c j
+  pub listed : AreListed c stamp count mark fresh
 
 -- a column takes over the rows from place from on, before to: those of the child `base` behind its first one
 pub record TakesOver (c : Column) (rows : List ℕ) (base : Option ℕ) (from to : ℕ) : Type 0 where

@@ -1,9 +1,10 @@
 // The children of the columns in lists, by one link a column: a column to come is linked to the last one of its
 // children, and a child to the one before it.
 
-ghost use Rattle.std.specs.Prelude.{ℕ, ◌≡◌, ◌<◌, ◌≤◌, ◌+◌, ◌-◌, true, length, slice_index, List, MatchOption};
+ghost use Rattle.std.specs.Prelude.{ℕ, ◌≡◌, ◌<◌, ◌≤◌, ◌+◌, ◌-◌, true, length, slice_index, MatchOption};
 ghost use Rattle.amd_factor.specs.Orders.{Order};
-ghost use Rattle.amd_factor.specs.Gathering.{Column, IsChild, LinkChildren, StandAt};
+ghost use Rattle.amd_factor.specs.Gathering.{Column, IsChild, LinkChildren};
+ghost use Rattle.amd_factor.specs.Planning.{CanCompare};
 ghost use Rattle.amd_factor.specs.Trees.{IsParent};
 
 /// A child of column `k` that has the most entries; none where there is no child. Those of a column before `k` begin
@@ -15,10 +16,7 @@ pub fn greatest_child(
     ends: &[usize],
 ) -> Option<usize>
     ghost c: { Column }
-    requires place { c.place ≡ k }
-    requires inside { c.place < length c.order.rows }
-    requires links { LinkChildren c.order c.place link.now }
-    requires columns { (rows : List ℕ) × StandAt c.order c.place starts.now ends.now rows }
+    requires { CanCompare c k link.now starts.now ends.now }
     ensures child { MatchOption result ((m : ℕ) → ¬ (IsChild c m)) (λ child. IsChild c child) }
     ensures greatest { MatchOption result (Unit {0}) (λ child. (m : ℕ) → IsChild c m →
         slice_index ends.now m - slice_index starts.now m ≤ slice_index ends.now child

@@ -4,6 +4,7 @@ ghost use Rattle.std.specs.Prelude.{ℕ, ◌≡◌, ◌<◌, ◌≤◌, ◌+◌,
 ghost use Rattle.amd_types.specs.Naturals.{naturals};
 ghost use Rattle.amd_factor.specs.Gathering.{Column, EntryOf, Marks};
 ghost use Rattle.amd_factor.specs.Numbers.{AreNonNegative};
+ghost use Rattle.amd_factor.specs.Planning.{AreListed, CanList};
 
 use crate::numbers::place_at;
 use amd_types::index::Index;
@@ -33,9 +34,7 @@ fn list_row(
 ) -> usize
     ghost c: { Column }
     requires entry { EntryOf c row }
-    requires room { length fresh.old ≡ length c.order.rows }
-    requires count { listed ≤ length fresh.old }
-    requires marks { Marks c stamp (take listed fresh.old) mark.old }
+    requires listed { AreListed c stamp listed mark.old fresh.old }
     ensures count { result ≤ length fresh.new }
     ensures marks { Marks c stamp (take result fresh.new) mark.new }
     ensures here { slice_index mark.new row ≡ stamp }
@@ -60,10 +59,7 @@ pub fn gather<N: Index>(
 ) -> usize
     ghost c: { Column }
     requires numbers { AreNonNegative (map N.value rows.now) }
-    requires entries { (j : ℕ) → Contains (naturals (map N.value rows.now)) j → EntryOf c j }
-    requires room { length fresh.old ≡ length c.order.rows }
-    requires count { count ≤ length fresh.old }
-    requires marks { Marks c stamp (take count fresh.old) mark.old }
+    requires lists { CanList c (naturals (map N.value rows.now)) stamp count mark.old fresh.old }
     ensures count { result ≤ length fresh.new }
     ensures marks { Marks c stamp (take result fresh.new) mark.new }
     ensures all { (j : ℕ) → Contains (naturals (map N.value rows.now)) j → slice_index mark.new j ≡ stamp }
@@ -85,10 +81,7 @@ pub fn gather_places(
     fresh: &mut [usize],
 ) -> usize
     ghost c: { Column }
-    requires entries { (j : ℕ) → Contains rows.now j → EntryOf c j }
-    requires room { length fresh.old ≡ length c.order.rows }
-    requires count { count ≤ length fresh.old }
-    requires marks { Marks c stamp (take count fresh.old) mark.old }
+    requires { CanList c rows.now stamp count mark.old fresh.old }
     ensures count { result ≤ length fresh.new }
     ensures marks { Marks c stamp (take result fresh.new) mark.new }
     ensures all { (j : ℕ) → Contains rows.now j → slice_index mark.new j ≡ stamp }

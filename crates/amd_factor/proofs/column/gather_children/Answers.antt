@@ -20,11 +20,15 @@ gather-count-requires g c κs within =
       within,
       (
         are_range value c.args.columns.rows.now from to c.requires.1.columns.numbers,
-        (
-          (λ j h. let e = (has j).0 (subst (λ xs. Contains xs j) (counts_range value c.args.columns.rows.now from to) h) in
-              entry_by_child g.c.order.graph g.c.order.rows c.requires.1.laws g.c.place j e.0 e.1.1 c.in-Some.child is e.1),
-          (c.children.auto.fresh ∙ c.requires.1.long, (c.children.invariant.count, c.children.invariant.marks)),
-        ),
+        record {
+          entries = λ j h. let e = (has j).0 (subst (λ xs. Contains xs j) (counts_range value c.args.columns.rows.now from to) h) in
+              entry_by_child g.c.order.graph g.c.order.rows c.requires.1.laws g.c.place j e.0 e.1.1 c.in-Some.child is e.1;
+          listed = record {
+            room = c.children.auto.fresh ∙ c.requires.1.long;
+            within = c.children.invariant.count;
+            marks = c.children.invariant.marks;
+          };
+        },
       ),
     )
 

@@ -58,13 +58,14 @@ gather_children-count-requires g c κs within =
     )
 
 pub gather_places-count-requires : goal.gather_places-count-requires
-gather_places-count-requires g c = (
-  neighbour_gives g.c c.requires.1.laws c.args.neighbours.now c.requires.1.later,
-  (
-    c.gather_children-count.auto.fresh ∙ c.requires.1.long,
-    (c.gather_children-count.ensures.count, c.gather_children-count.ensures.marks),
-  ),
-)
+gather_places-count-requires g c = record {
+  entries = neighbour_gives g.c c.requires.1.laws c.args.neighbours.now c.requires.1.later;
+  listed = record {
+    room = c.gather_children-count.auto.fresh ∙ c.requires.1.long;
+    within = c.gather_children-count.ensures.count;
+    marks = c.gather_children-count.ensures.marks;
+  };
+}
 
 pub returns-clause-completes : goal.returns-clause-completes
 returns-clause-completes g c =

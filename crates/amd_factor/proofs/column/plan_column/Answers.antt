@@ -15,6 +15,15 @@ is_child c (Some child) h = h
 ends_within : {N : Type 0} (value : N → ℤ) (numbers : List N) (to : ℕ) → to ≤ length (naturals (map value numbers)) → to ≤ length numbers
 ends_within value numbers to l = let n = counts_long value numbers in omega (arith, l, n)
 
+pub greatest_child-base-requires : goal.greatest_child-base-requires
+greatest_child-base-requires g c = record {
+  place = refl;
+  inside = c.requires.1.0.place;
+  links = c.requires.1.1.links;
+  rows = naturals (map g.N.Index.value c.args.columns.rows.now);
+  stand = c.requires.1.1.stand;
+}
+
 pub inherited-from-requires : goal.inherited-from-requires
 inherited-from-requires g c =
     let column : Column = record { order = g.o; place = c.args.k; inherited = [] } in record {

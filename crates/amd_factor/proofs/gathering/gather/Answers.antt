@@ -8,14 +8,18 @@ use Rattle.amd_factor.proofs.gathering.gather.Goals as goal
 
 pub place_at-requires-clause-small : goal.place_at-requires-clause-small
 place_at-requires-clause-small g c =
-    let e = c.requires.1.1.0 _ (place_of g.N.Index.value c.args.rows.now c.rows.k c.rows-test.true) in
+    let e = c.requires.1.1.entries _ (place_of g.N.Index.value c.args.rows.now c.rows.k c.rows-test.true) in
     let l = e.1 in let r = c.rows.invariant.marks.room in let s = c.rows.auto.mark in omega (arith, l, r, s)
 
 pub list_row-listed-requires : goal.list_row-listed-requires
-list_row-listed-requires g c = let asked = c.requires.1.1 in (
+list_row-listed-requires g c = let lists = c.requires.1.1 in (
   subst (EntryOf g.c) (sym c.place_at.ensures)
-      (asked.0 _ (place_of g.N.Index.value c.args.rows.now c.rows.k c.rows-test.true)),
-  (c.rows.auto.fresh ∙ asked.1.0, (c.rows.invariant.listed, c.rows.invariant.marks)),
+      (lists.entries _ (place_of g.N.Index.value c.args.rows.now c.rows.k c.rows-test.true)),
+  record {
+    room = c.rows.auto.fresh ∙ lists.listed.room;
+    within = c.rows.invariant.listed;
+    marks = c.rows.invariant.marks;
+  },
 )
 
 pub returns-clause-all : goal.returns-clause-all

@@ -6,8 +6,12 @@ use Rattle.amd_factor.proofs.gathering.gather_places.Goals as goal
 
 pub list_row-listed-requires : goal.list_row-listed-requires
 list_row-listed-requires g c = (
-  c.requires.0 _ (Contains-get_or c.args.rows.now c.rows.row-index 0 c.rows-test.true),
-  (c.rows.auto.fresh ∙ c.requires.1.0, (c.rows.invariant.listed, c.rows.invariant.marks)),
+  c.requires.entries _ (Contains-get_or c.args.rows.now c.rows.row-index 0 c.rows-test.true),
+  record {
+    room = c.rows.auto.fresh ∙ c.requires.listed.room;
+    within = c.rows.invariant.listed;
+    marks = c.rows.invariant.marks;
+  },
 )
 
 pub returns-clause-all : goal.returns-clause-all
