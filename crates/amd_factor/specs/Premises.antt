@@ -6,7 +6,8 @@ use Rattle.amd_factor.specs.Meetings.{IsByRank, IsScene, Links, Met, Scene, Take
 use Rattle.amd_factor.specs.Neighbours.{AreLater, HasLater}
 use Rattle.amd_factor.specs.Orders.{Order}
 use Rattle.amd_factor.specs.Numbers.{AreNonNegative}
-use Rattle.amd_factor.specs.Partitions.{Climbs, IsCut, IsMarkedBy, MarkedBefore, Partition, WrittenTo}
+use Rattle.amd_factor.specs.Partitions.{AreNumbered, Climbs, IsCut, IsJoined, IsMarkedBy, MarkedBefore, Partition, WrittenTo}
+use Rattle.amd_factor.specs.Sizes.{HoldSizes}
 use Rattle.amd_factor.specs.Thinning.{Thins}
 use Rattle.amd_factor.specs.Walks.{TellParents}
 use Rattle.amd_factor.specs.declared.partition.LentCut.{LentCut}
@@ -91,6 +92,14 @@ pub record CanAddRow (b : Partition) (j : ℕ) (owner next mark : List ℕ) (row
   pub written : WrittenTo b j next (naturals rows)
   pub marks : MarkedBefore b j mark
   pub told : AreNonNegative rows
+
+-- the places are numbered by their supernodes, of which `over` has a place for each, and two lists one more
+pub record CanCut (o : Order) (sizes : List ℕ) (parent : List (Option ℕ)) (owner first ptr : List ℕ)
+    (over : List (Option ℕ)) : Type 0 where
+  pub counts : HoldSizes o.graph o.rows sizes parent
+  pub numbered : AreNumbered (IsJoined sizes parent) (length sizes) owner (length over)
+  pub firsts : length first ≡ length over + 1
+  pub pointers : length ptr ≡ length over + 1
 
 -- the lists that are lent are those of the supernodes of the order of a graph
 pub record IsCutOf (b : Partition) (lent : LentCut) : Type 0 where

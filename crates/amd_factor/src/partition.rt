@@ -6,6 +6,7 @@ ghost use Rattle.std.specs.Prelude.{slice_index, slice_index_or};
 ghost use Rattle.amd_factor.specs.Orders.{Order};
 ghost use Rattle.amd_factor.specs.Partitions.{AreNumbered, AreSame, GoOver, HaveParents, HaveRoom, IsCut};
 ghost use Rattle.amd_factor.specs.Partitions.{IsJoined, Own, SumEnds, owner_at};
+ghost use Rattle.amd_factor.specs.Premises.{CanCut};
 ghost use Rattle.amd_factor.specs.Sizes.{HoldSizes};
 ghost use Rattle.amd_factor.specs.Supernodes.{AreRuns};
 
@@ -138,10 +139,7 @@ fn write_cut(
     over: &mut [Option<usize>],
 ) -> bool
     ghost o: { Order }
-    requires counts { HoldSizes o.graph o.rows sizes.now parent.now }
-    requires numbered { AreNumbered (IsJoined sizes.now parent.now) (length sizes.now) owner.now (length over.old) }
-    requires firsts { length first.old ≡ length over.old + 1 }
-    requires pointers { length ptr.old ≡ length over.old + 1 }
+    requires { CanCut o sizes.now parent.now owner.now first.old ptr.old over.old }
     ensures { result ≡ true → IsCut (record {
       order = o;
       first = first.new;

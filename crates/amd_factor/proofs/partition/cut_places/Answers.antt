@@ -17,16 +17,12 @@ write_cut-requires g c =
     let owner : c.deref.result.now ≡ c.number_places-count.new.owner =
     c.deref.ensures.value ∙ take_at c.number_places-count.new.owner _ _ room in
     let many : length c.deref_mut-4.result.now ≡ c.number_places-count.result =
-    omega (arith, c.deref_mut-4.ensures, c.in_ok-over.ensures) in (
-      c.requires.1,
-      (
-        rw (owner, many) c.number_places-count.ensures,
-        (
-          omega (arith, c.deref_mut-2.ensures, c.in_ok-first.ensures, many),
-          omega (arith, c.deref_mut-3.ensures, c.in_ok-ptr.ensures, many),
-        ),
-      ),
-    )
+    omega (arith, c.deref_mut-4.ensures, c.in_ok-over.ensures) in record {
+      counts = c.requires.1;
+      numbered = rw (owner, many) c.number_places-count.ensures;
+      firsts = omega (arith, c.deref_mut-2.ensures, c.in_ok-first.ensures, many);
+      pointers = omega (arith, c.deref_mut-3.ensures, c.in_ok-ptr.ensures, many);
+    }
 
 pub returns : goal.returns
 returns g c =
