@@ -8,9 +8,10 @@ use Rattle.amd_types.specs.Naturals.{naturals}
 use Rattle.amd_factor.specs.Gathering.{Column, EntryOf, HoldBefore, Inherits, IsChild, LinkChildren, Marks, MarksTell, StandAt}
 use Rattle.amd_factor.specs.Gathering.{TellFirst}
 use Rattle.amd_factor.specs.Neighbours.{AreLater}
-use Rattle.amd_factor.specs.Numbers.{AreNonNegative, Plans}
+use Rattle.amd_factor.specs.Numbers.{AreNonNegative, FillsFront, Plans}
 use Rattle.amd_factor.specs.Orders.{Order}
 use Rattle.amd_factor.specs.Trees.{Entry}
+use Rattle.amd_factor.specs.declared.column.ColumnLists.{ColumnLists}
 use Rattle.amd_factor.specs.declared.column.Columns.{Columns}
 use Rattle.amd_factor.specs.declared.column.Marked.{Marked}
 use Rattle.amd_factor.specs.declared.column.Plan.{Plan}
@@ -133,8 +134,22 @@ pub record CanAdd (fits : ℤ → Type 0) (o : Order) (k : ℕ) (neighbours room
   pub later : AreLater o k neighbours
   pub long : length room ≡ length o.rows
 
+-- the later neighbours of a column, what the marks tell, and the lists for the work
+pub record ColumnWork : Type 0 where
+  pub neighbours : List ℕ
+  pub marked : Marked
+  pub mark : List ℕ
+  pub fresh : List ℕ
+
 -- the numbers end with the columns so far, within the room, for which there is the capacity
 pub record IsFull (end long room capacity : ℕ) : Type 0 where
   pub full : end ≡ long
   pub within : long ≤ room
   pub capacity_is : room ≤ capacity
+
+-- column k can be added behind those before it, which fill the numbers up to their end
+pub record CanAddBehind {N : Type 0} (value : N → ℤ) (fits : ℤ → Type 0) (o : Order) (k : ℕ) (work : ColumnWork)
+    (l : ColumnLists) (rows : List N) (room capacity : ℕ) : Type 0 where
+  pub column : CanAdd fits o k work.neighbours work.fresh
+  pub front : FillsFront value o k l rows work.marked work.mark
+  pub full : IsFull (slice_index l.ptr.now k) (length rows) room capacity

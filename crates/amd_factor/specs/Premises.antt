@@ -1,7 +1,8 @@
 -- What the functions that make a factor and count its entries ask of the lists that they are lent.
-use Rattle.std.specs.Prelude.{ℕ, ℤ, pos, ◌≡◌, ◌<◌, ◌+◌, ◌-◌, ◌*◌, ◌^◌, List, Option, length, slice_index}
+use Rattle.std.specs.Prelude.{ℕ, ℤ, pos, ◌≡◌, ◌<◌, ◌≤◌, ◌+◌, ◌-◌, ◌*◌, ◌^◌, List, [], Option, length, slice_index}
 use Rattle.amd_model.specs.Graph.{IsGraph}
 use Rattle.amd_types.specs.Naturals.{naturals}
+use Rattle.amd_factor.specs.Columns.{FactorSizes}
 use Rattle.amd_factor.specs.Meetings.{IsByRank, IsScene, Links, Met, Scene, Taken, sum_to}
 use Rattle.amd_factor.specs.Neighbours.{AreLater, HasLater}
 use Rattle.amd_factor.specs.Orders.{Order}
@@ -10,6 +11,7 @@ use Rattle.amd_factor.specs.Partitions.{AreNumbered, Climbs, IsCut, IsJoined, Is
 use Rattle.amd_factor.specs.Sizes.{HoldSizes}
 use Rattle.amd_factor.specs.Thinning.{Thins}
 use Rattle.amd_factor.specs.Walks.{TellParents}
+use Rattle.amd_factor.specs.declared.neighbours.Neighbours.{Neighbours}
 use Rattle.amd_factor.specs.declared.partition.LentCut.{LentCut}
 use Rattle.amd_factor.specs.declared.ranks.RankedTree.{RankedTree}
 
@@ -122,3 +124,19 @@ pub record CanWriteFactor (o : Order) (fits : ℤ → Type 0) (starts later : Li
   pub laws : IsGraph o.graph
   pub most : (j : ℕ) → j < length o.rows → fits (pos j)
   pub later_are : HasLater o starts later
+
+-- the lists in which a factor is made: its pointers and parents, and those for the work
+pub record WorkLists : Type 0 where
+  pub ptr : List ℕ
+  pub parent : List (Option ℕ)
+  pub mark : List ℕ
+  pub link : List (Option ℕ)
+  pub fresh : List ℕ
+
+-- so it is made, in numbers of which none is written yet, and which have the capacity for the room
+pub record CanFill {N : Type 0} (fits : ℤ → Type 0) (o : Order) (later : Neighbours) (l : WorkLists) (rows : List N)
+    (room capacity : ℕ) : Type 0 where
+  pub lists : CanWriteFactor o fits later.starts.now later.places.now
+  pub sizes : FactorSizes o l.ptr l.parent l.mark l.link l.fresh
+  pub empty : rows ≡ []
+  pub capacity_is : room ≤ capacity

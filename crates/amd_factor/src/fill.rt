@@ -8,8 +8,8 @@ ghost use Rattle.amd_factor.specs.Columns.{FactorSizes, HoldFactor, PassesRoom};
 ghost use Rattle.amd_factor.specs.Gathering.{LinkChildren, MarksTell};
 ghost use Rattle.amd_factor.specs.Orders.{Order};
 ghost use Rattle.amd_factor.specs.Numbers.{FillsFront, KeepsLoans};
-ghost use Rattle.amd_factor.specs.Planning.{CanAdd, IsFull};
-ghost use Rattle.amd_factor.specs.Premises.{CanWriteFactor};
+ghost use Rattle.amd_factor.specs.Planning.{CanAdd, CanAddBehind};
+ghost use Rattle.amd_factor.specs.Premises.{CanFill, CanWriteFactor};
 
 use crate::column::{ColumnLists, Marked, finish_column, plan_behind};
 use crate::neighbours::Neighbours;
@@ -44,9 +44,12 @@ fn add_column<N: Index, A: Allocator>(
     fresh: &mut [usize],
 ) -> Option<Marked>
     ghost o: { Order }
-    requires column { CanAdd N.fits o k neighbours.now fresh.old }
-    requires filled { FillsFront N.value o k lists.old rows.old.items marked mark.old }
-    requires full { IsFull (slice_index lists.old.ptr.now k) (length rows.old.items) room (vec_capacity rows.old) }
+    requires { CanAddBehind N.value N.fits o k (record {
+      neighbours = neighbours.now;
+      marked = marked;
+      mark = mark.old;
+      fresh = fresh.old;
+    }) lists.old rows.old.items room (vec_capacity rows.old) }
     ensures filled { MatchOption result (PassesRoom o.graph o.rows room)
         (λ now. FillsFront N.value o (k + 1) lists.new rows.new.items now mark.new) }
     ensures full { MatchOption result (Unit {0})
@@ -108,9 +111,13 @@ pub fn fill<N: Index, A: Allocator>(
     fresh: &mut [usize],
 ) -> Option<usize>
     ghost o: { Order }
-    requires lists { CanWriteFactor o N.fits later.now.starts.now later.now.places.now }
-    requires sizes { FactorSizes o ptr.old parent.old mark.old link.old fresh.old }
-    requires room { (rows.old.items ≡ []) × (room ≤ vec_capacity rows.old) }
+    requires { CanFill N.fits o later.now (record {
+      ptr = ptr.old;
+      parent = parent.old;
+      mark = mark.old;
+      link = link.old;
+      fresh = fresh.old;
+    }) rows.old.items room (vec_capacity rows.old) }
     ensures factor { MatchOption result (PassesRoom o.graph o.rows room)
         (λ total. (total ≡ length rows.new.items) × (entries : List ℕ) ×
         (map N.value rows.new.items ≡ map pos entries) × HoldFactor o.graph o.rows ptr.new entries parent.new) }

@@ -18,13 +18,12 @@ fill-requires g c κs inside =
       search rules,
       (
         inside,
-        (
-          record { laws = c.requires.1.0; most = λ j l. (let room = h.room in omega (arith, l, room)); later_are = h },
-          (
-            (rw (ptr, parent, mark, link, fresh) c.in_ok-lists.ensures),
-            (c.in_ok-rows.ensures.items, (let e = c.in_ok-rows.ensures.exact in omega (arith, e))),
-          ),
-        ),
+        record {
+          lists = record { laws = c.requires.1.0; most = λ j l. (let room = h.room in omega (arith, l, room)); later_are = h };
+          sizes = rw (ptr, parent, mark, link, fresh) c.in_ok-lists.ensures;
+          empty = c.in_ok-rows.ensures.items;
+          capacity_is = (let e = c.in_ok-rows.ensures.exact in omega (arith, e));
+        },
       ),
     )
 

@@ -23,7 +23,7 @@ module _ {N : Type 0} (value : N → ℤ) (o : Order) (k : ℕ) (ptr : List ℕ)
 
 pub plan_behind-plan-requires : goal.plan_behind-plan-requires
 plan_behind-plan-requires g c κs inside =
-    let q = c.requires.1.1 in let can = q.0 in let front = q.1.0 in let full = q.1.1.full in
+    let q = c.requires.1.1 in let can = q.column in let front = q.front in let full = q.full.full in
     let value = g.N.Index.value in let ptr = c.args.lists.now.ptr.now in let items = c.args.rows.now.items in (
       inside,
       (
@@ -38,11 +38,11 @@ plan_behind-plan-requires g c κs inside =
 
 pub returns-then-room-begin-clause-filled : goal.returns-then-room-begin-clause-filled
 returns-then-room-begin-clause-filled g c =
-    let q = c.requires.1.1 in let can = q.0 in let full = q.1.1.full in let plan = c.plan_behind-plan.result in
+    let q = c.requires.1.1 in let can = q.column in let full = q.full.full in let plan = c.plan_behind-plan.result in
     let columns = columns_now g.N.Index.value g.o c.args.k c.args.lists.now.ptr.now c.args.rows.now.items c.deref.result.now full
-    c.deref.ensures.value q.1.0.filled.columns in
+    c.deref.ensures.value q.front.filled.columns in
     let count = length-take-le plan.count c.plan_behind-plan.new.fresh c.plan_behind-plan.ensures.count in
-    let begin = c.len-begin.ensures in let more = c.if-room-begin.true in let within = q.1.1.within in
+    let begin = c.len-begin.ensures in let more = c.if-room-begin.true in let within = q.full.within in
     passes g.o can.laws c.args.k c.args.lists.now.ptr.now (naturals (map g.N.Index.value c.deref.result.now))
     (take plan.count c.plan_behind-plan.new.fresh) plan.from plan.to c.args.room can.place columns
     c.plan_behind-plan.ensures.plans (omega (arith, count, begin, more, within, full))

@@ -12,7 +12,8 @@ write_first-requires-clause-numbered g c =
 
 pub write_parents-requires-clause-inside : goal.write_parents-requires-clause-inside
 write_parents-requires-clause-inside g c =
-    let k = c.requires.counts in let p = (have-parents g.o k.columns k.factor c.args.sizes.now c.args.parent.now k.sizes_are k.parents).room in
+    let k = c.requires.counts in
+    let p = (have-parents g.o k.columns k.factor c.args.sizes.now c.args.parent.now k.sizes_are k.parents).room in
     λ s l. let r = first-at g.o k.columns k.factor c.args.sizes.now c.args.parent.now k.sizes_are k.parents c.args.owner.now
     c.write_first.new.first (length c.args.over.now) c.requires.numbered c.write_first.ensures.runs c.write_first.ensures.own s l in let b =
     r.1 in (r.0, omega (arith, b, p))
@@ -30,7 +31,8 @@ write_pointers-requires-clause-inside g c =
 
 pub returns : goal.returns
 returns g c =
-    let k = c.requires.counts in λ e. is-cut g.o k.columns k.factor c.args.sizes.now c.args.parent.now k.sizes_are k.parents c.args.owner.now
+    let k = c.requires.counts in
+    λ e. is-cut g.o k.columns k.factor c.args.sizes.now c.args.parent.now k.sizes_are k.parents c.args.owner.now
     c.write_first.new.first (length c.args.over.now) c.requires.numbered c.write_first.ensures.runs c.write_first.ensures.own
     c.write_pointers.new.ptr c.write_parents.new.over
     (c.write_pointers.ensures e) c.write_parents.ensures
