@@ -191,21 +191,26 @@ module _ (g : Graph) (aggressive : Bool) (c : ℕ) (old new : State) where
 
   tests_from : AllTrue step_tests → StepTests
   unfolding step_tests
-  tests_from t = let t3 = t.1.1.1 in let t6 = t3.1.1.1 in let t9 = t6.1.1.1 in let t12 = t9.1.1.1 in record {
-    class = t.0;
-    least = t.1.0;
-    gone = t.1.1.0;
-    kept = t3.0;
-    moved = t3.1.0;
-    merged = t3.1.1.0;
-    made = t6.0;
-    root = t6.1.0;
-    taken = t6.1.1.0;
-    border_stays = t9.0;
-    parent_stays = t9.1.0;
-    bounds = t9.1.1.0;
-    bound_stays = t12.0;
-  }
+  tests_from tests =
+      let (class, tests) = tests in let (least, tests) = tests in let (gone, tests) = tests in
+      let (kept, tests) = tests in let (moved, tests) = tests in let (merged, tests) = tests in
+      let (made, tests) = tests in let (root, tests) = tests in let (taken, tests) = tests in
+      let (border_stays, tests) = tests in let (parent_stays, tests) = tests in let (bounds, tests) = tests in
+      let (bound_stays, tests) = tests in record {
+        class = class;
+        least = least;
+        gone = gone;
+        kept = kept;
+        moved = moved;
+        merged = merged;
+        made = made;
+        root = root;
+        taken = taken;
+        border_stays = border_stays;
+        parent_stays = parent_stays;
+        bounds = bounds;
+        bound_stays = bound_stays;
+      }
 
   or_right_of : (a b : Bool) → (a || b) ≡ true → a ≡ false → b ≡ true
   or_right_of a b h n = elim (or_cases a b h) [ inl y ↦ clash y n | inr y ↦ y ]
