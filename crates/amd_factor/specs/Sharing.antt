@@ -1,5 +1,5 @@
 -- Columns that share entries: one with nothing new has those of a child where they stand.
-use Rattle.std.specs.Prelude.{ℕ, ℤ, ◌≡◌, ◌<◌, ◌≤◌, ◌-◌, ◌^◌, List, None, Some, map, length, pos, slice_index}
+use Rattle.std.specs.Prelude.{ℕ, ℤ, ◌≡◌, ◌<◌, ◌≤◌, ◌-◌, ◌^◌, List, [], None, Some, map, length, pos, slice_index}
 use Rattle.std.specs.Prelude.{slice_range, take}
 use Rattle.amd_model.specs.Factor.{IsColumn}
 use Rattle.amd_model.specs.Graph.{IsGraph}
@@ -87,10 +87,14 @@ pub record CanStand {A N : Type 0} (value : N → ℤ) (o : Order) (k begin end 
   pub told : TellFirsts o k l.starts.items l.ends.items (naturals (map value rows)) firsts
   pub stands : StandsFrom value o k begin end rows
 
--- the columns can be made, by lists of later neighbours: no column stands yet, and none is marked
-pub record CanShare {A : Type 0} (o : Order) (starts later : List ℕ) (l : SharedLists A) : Type 0 where
+-- the columns can be made, by lists of later neighbours: no column stands yet, none is marked, and no row is written;
+-- each row fits
+pub record CanShare {A N : Type 0} (fits : ℤ → Type 0) (o : Order) (starts later : List ℕ) (l : SharedLists A) (rows : List N)
+    : Type 0 where
   pub laws : IsGraph o.graph
   pub neighbours : HasLater o starts later
   pub places : HasColumnPlaces o l
   pub links : LinkChildren o 0 l.link.items
   pub marks : MarksTell o 0 None 0 l.mark.items
+  pub fit : (j : ℕ) → j < length o.rows → fits (pos j)
+  pub empty : rows ≡ []

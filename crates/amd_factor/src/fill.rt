@@ -1,7 +1,7 @@
 // The columns of a factor under an order of the rows, made in that order, each one behind those before it: in a list
 // that grows, or in numbers that a caller has. Source: George and Liu 1981; Liu 1990.
 
-ghost use Rattle.std.specs.Prelude.{ℕ, ◌≡◌, ◌≤◌, ◌+◌, ◌++◌, [], drop, length, map, pos, slice_index, MatchOption};
+ghost use Rattle.std.specs.Prelude.{ℕ, ◌≡◌, ◌≤◌, ◌+◌, ◌++◌, drop, length, map, pos, slice_index, MatchOption};
 ghost use Rattle.std.specs.Prelude.{List, replicate, take};
 ghost use Rattle.std.specs.Vec.{vec_capacity};
 ghost use Rattle.amd_factor.specs.Columns.{FactorSizes, HoldFactor, PassesRoom};

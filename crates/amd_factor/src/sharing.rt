@@ -2,7 +2,7 @@
 // the columns can be counted in room that does not grow with the factor, as long as few of them have something new. The
 // rows are numbers of 32 bits. Source: Sherman 1975 (compressed subscripts); George and Liu 1981.
 
-ghost use Rattle.std.specs.Prelude.{ℕ, ◌≡◌, ◌<◌, ◌≤◌, ◌+◌, ◌-◌, ◌^◌, [], None, Some, length, map, pos, slice_index};
+ghost use Rattle.std.specs.Prelude.{ℕ, ◌≡◌, ◌<◌, ◌≤◌, ◌+◌, ◌-◌, ◌^◌, None, Some, length, map, slice_index};
 ghost use Rattle.std.specs.Prelude.{slice_index_or, take, true, IfOk, MatchOption};
 ghost use Rattle.amd_model.specs.Graph.{IsGraph};
 ghost use Rattle.amd_types.specs.Naturals.{naturals};
@@ -292,9 +292,7 @@ fn share_columns<N: Index, A: Allocator>(
     rows: &mut Vec<N, A>,
 ) -> Result<Option<usize>, AllocError>
     ghost o: { Order }
-    requires fits { (j : ℕ) → j < length o.rows → N.fits (pos j) }
-    requires columns { CanShare o starts.old later.now lists.old }
-    requires empty { rows.old.items ≡ [] }
+    requires { CanShare N.fits o starts.old later.now lists.old rows.old.items }
     ensures shared { IfOk result (λ r. MatchOption r (Unit {0})
         (λ used. Share N.value o (length o.rows) lists.new (take used rows.new.items))) }
     ensures firsts { IfOk result (λ r. MatchOption r (Unit {0})

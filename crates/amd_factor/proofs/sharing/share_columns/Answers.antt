@@ -17,16 +17,16 @@ still_first used more rows written low rises kept =
 
 pub plan_shared-plan-requires : goal.plan_shared-plan-requires
 plan_shared-plan-requires g c κs inside =
-    let q = c.requires.1.1.1 in let i = c.columns.invariant in
-    let low : c.columns.k < length g.o.rows = (let t = c.columns-test.true in let p = q.0.places.starts in omega (arith, t, p)) in (
+    let q = c.requires.1.1 in let i = c.columns.invariant in
+    let low : c.columns.k < length g.o.rows = (let t = c.columns-test.true in let p = q.places.starts in omega (arith, t, p)) in (
       inside.0,
       (
         inside.1,
         (
           record {
-            laws = q.0.laws;
+            laws = q.laws;
             place = low;
-            later = rw (i.left c.columns.k (omega arith), i.left (c.columns.k + 1) (omega arith)) (q.0.neighbours.each c.columns.k low);
+            later = rw (i.left c.columns.k (omega arith), i.left (c.columns.k + 1) (omega arith)) (q.neighbours.each c.columns.k low);
             marks = i.marks;
             long = i.places.fresh;
           },
@@ -38,8 +38,8 @@ plan_shared-plan-requires g c κs inside =
 
 pub stand_column-requires : goal.stand_column-requires
 stand_column-requires g c κs inside =
-    let q = c.requires.1.1.1 in let i = c.columns.invariant in let value = g.N.Index.value in
-    let low : c.columns.k < length g.o.rows = (let t = c.columns-test.true in let p = q.0.places.starts in omega (arith, t, p)) in
+    let q = c.requires.1.1 in let i = c.columns.invariant in let value = g.N.Index.value in
+    let low : c.columns.k < length g.o.rows = (let t = c.columns-test.true in let p = q.places.starts in omega (arith, t, p)) in
     let small : length g.o.rows < 2 ^ 64 = grind (arith, common_steps) in
     let plan = c.plan_shared-plan.result in let lists = c.plan_shared-plan.new.lists in let used = c.columns.used in
     let rows = take used c.columns.rows.items in let placed = c.in-Some.placed in
@@ -59,7 +59,7 @@ stand_column-requires g c κs inside =
       (
         inside.1,
         record {
-          laws = q.0.laws;
+          laws = q.laws;
           place = low;
           small = small;
           places = places_kept g.o c.columns.lists lists kept i.places c.plan_shared-plan.ensures.marks.room
@@ -82,9 +82,9 @@ stand_column-requires g c κs inside =
 
 pub place_column-requires : goal.place_column-requires
 place_column-requires g c =
-    let q = c.requires.1.1.1 in let i = c.columns.invariant in let value = g.N.Index.value in let used = c.columns.used in
+    let q = c.requires.1.1 in let i = c.columns.invariant in let value = g.N.Index.value in let used = c.columns.used in
     let plan = c.plan_shared-plan.result in let lists = c.plan_shared-plan.new.lists in
-    let rows = take used c.columns.rows.items in let start = q.0.neighbours.room in record {
+    let rows = take used c.columns.rows.items in let start = q.neighbours.room in record {
       place = record {
         order = g.o;
         column = c.columns.k;
@@ -96,7 +96,7 @@ place_column-requires g c =
           numbers = i.columns.numbers;
           small = omega (arith, start);
         };
-        fit = c.requires.1.1.0;
+        fit = q.fit;
         within = i.used;
         bound = i.room;
       };
