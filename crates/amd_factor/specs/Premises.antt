@@ -7,13 +7,16 @@ use Rattle.amd_factor.specs.Meetings.{IsByRank, IsScene, Links, Met, Scene, Take
 use Rattle.amd_factor.specs.Neighbours.{AreLater, HasLater}
 use Rattle.amd_factor.specs.Orders.{Order}
 use Rattle.amd_factor.specs.Numbers.{AreNonNegative}
-use Rattle.amd_factor.specs.Partitions.{AreNumbered, Climbs, IsCut, IsJoined, IsMarkedBy, MarkedBefore, Partition, WrittenTo}
+use Rattle.amd_factor.specs.Partitions.{AreNumbered, Climbs, IsCut, IsJoined, IsMarkedBy, IsPartitionOf, MarkedBefore}
+use Rattle.amd_factor.specs.Partitions.{OrderedMatrix, Partition, WrittenTo}
 use Rattle.amd_factor.specs.Sizes.{HoldSizes}
 use Rattle.amd_factor.specs.Thinning.{Thins}
 use Rattle.amd_factor.specs.Walks.{TellParents}
+use Rattle.amd_factor.specs.Within.{IsPlaced}
 use Rattle.amd_factor.specs.declared.neighbours.Neighbours.{Neighbours}
 use Rattle.amd_factor.specs.declared.partition.LentCut.{LentCut}
 use Rattle.amd_factor.specs.declared.ranks.RankedTree.{RankedTree}
+use Rattle.amd_factor.specs.declared.rows_below.Partitioned.{Partitioned}
 
 -- place j of the scene has rank t and these later neighbours, and the ranks are written
 pub record IsNextPlace (s : Scene) (t j : ℕ) (later rank : List ℕ) : Type 0 where
@@ -119,6 +122,16 @@ pub record CanFillRows (b : Partition) (fits : ℤ → Type 0) (next mark : List
   pub all : room ≡ slice_index b.ptr (length b.first - 1)
   pub most : fits (pos (length b.owner))
 
+-- the rows below the blocks can be written into so many numbers, each of which fits: there is a place for each supernode
+-- in two lists
+pub record CanWriteRows {A : Type 0} (fits : ℤ → Type 0) (m : OrderedMatrix) (b : Partitioned A) (room : ℕ) : Type 0 where
+  pub parts : IsPartitionOf m b.cut.first.items b.cut.owner.items b.cut.ptr.items b.cut.parent.items b.lists.starts.items
+      b.lists.neighbours.items
+  pub nexts : length b.next.items + 1 ≡ length b.cut.first.items
+  pub marks : length b.mark.items + 1 ≡ length b.cut.first.items
+  pub all : room ≡ slice_index b.cut.ptr.items (length b.cut.first.items - 1)
+  pub most : fits m.size
+
 -- the later neighbours of each place of the order of a graph are given, and each place fits
 pub record CanWriteFactor (o : Order) (fits : ℤ → Type 0) (starts later : List ℕ) : Type 0 where
   pub laws : IsGraph o.graph
@@ -140,3 +153,21 @@ pub record CanFill {N : Type 0} (fits : ℤ → Type 0) (o : Order) (later : Nei
   pub sizes : FactorSizes o l.ptr l.parent l.mark l.link l.fresh
   pub empty : rows ≡ []
   pub capacity_is : room ≤ capacity
+
+-- the column form of an order is placed, and each of its n places fits
+pub record HasFitPlaces (fits : ℤ → Type 0) (o : Order) (n : ℕ) (ap ai : List ℤ) (places : List ℕ) : Type 0 where
+  pub placed : IsPlaced o n ap ai places
+  pub fit : (j : ℕ) → j < n → fits (pos j)
+
+-- there is room for the columns of n places and so many entries, but for the rows, and for the work
+pub record HasLentColumnRoom (n entries : ℕ) (ptr : List ℕ) (parent links : List (Option ℕ)) (memory : List ℕ) : Type 0 where
+  pub pointers : length ptr ≡ n + 1
+  pub parents : length parent ≡ n
+  pub links_room : n ≤ length links
+  pub words : entries + 3 * n + 1 ≤ length memory
+
+-- there is room for the counts of n places and so many entries, and for the work
+pub record HasLentCountRoom (n entries : ℕ) (counts : List ℕ) (parent : List (Option ℕ)) (memory : List ℕ) : Type 0 where
+  pub counts_room : length counts ≡ n
+  pub parents : length parent ≡ n
+  pub words : 2 * entries + 10 * n + 7 ≤ length memory

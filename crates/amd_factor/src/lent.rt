@@ -2,11 +2,12 @@
 // cut into the places of the rows, the lists of their neighbours and what a count takes. Source: Liu 1986 and 1990;
 // Gilbert, Ng and Peyton 1994.
 
-ghost use Rattle.std.specs.Prelude.{ℕ, List, ◌≡◌, ◌<◌, ◌≤◌, ◌+◌, ◌*◌, ◌++◌, pos, map};
+ghost use Rattle.std.specs.Prelude.{ℕ, List, ◌≡◌, ◌++◌, pos, map};
 ghost use Rattle.std.specs.Prelude.{drop, length, slice_index, MatchOption};
 ghost use Rattle.amd_types.specs.Naturals.{naturals};
 ghost use Rattle.amd_factor.specs.Columns.{HoldFactor, PassesRoom};
 ghost use Rattle.amd_factor.specs.Orders.{Order};
+ghost use Rattle.amd_factor.specs.Premises.{HasLentColumnRoom, HasLentCountRoom, HasFitPlaces};
 ghost use Rattle.amd_factor.specs.Sizes.{HoldSizes};
 ghost use Rattle.amd_factor.specs.Within.{IsPlaced};
 
@@ -30,9 +31,8 @@ pub fn lent_sizes<I: Index>(
 )
     ghost o: { Order }
     requires placed { IsPlaced o (length places.now) (map I.value a_p.now) (map I.value a_i.now) places.now }
-    requires lists { (length counts.old ≡ length places.now) × (length parent.old ≡ length places.now) }
-    requires room { 2 * slice_index (naturals (map I.value a_p.now)) (length places.now) + 10 * length places.now + 7
-        ≤ length memory.old }
+    requires room { HasLentCountRoom (length places.now) (slice_index (naturals (map I.value a_p.now)) (length places.now))
+        counts.old parent.old memory.old }
     ensures { HoldSizes o.graph o.rows counts.new parent.new }
 {
     let size = places.len();
@@ -70,12 +70,9 @@ pub fn lent_columns<I: Index>(
     links: &mut [Option<usize>],
 ) -> Option<usize>
     ghost o: { Order }
-    requires placed { IsPlaced o (length places.now) (map I.value a_p.now) (map I.value a_i.now) places.now }
-    requires fits { (j : ℕ) → j < length places.now → I.fits (pos j) }
-    requires room { (length ptr.old ≡ length places.now + 1) × (length parent.old ≡ length places.now) ×
-        (length places.now ≤ length links.old) ×
-        (slice_index (naturals (map I.value a_p.now)) (length places.now) + 3 * length places.now + 1
-        ≤ length memory.old) }
+    requires matrix { HasFitPlaces I.fits o (length places.now) (map I.value a_p.now) (map I.value a_i.now) places.now }
+    requires room { HasLentColumnRoom (length places.now) (slice_index (naturals (map I.value a_p.now)) (length places.now))
+        ptr.old parent.old links.old memory.old }
     ensures factor { MatchOption result (PassesRoom o.graph o.rows (length rows.old))
         (λ total. (entries : List ℕ) × (total ≡ length entries) ×
         (map I.value rows.new ≡ map pos entries ++ drop total (map I.value rows.old)) ×

@@ -1,10 +1,11 @@
 // A factor by supernodes: runs of places whose columns differ in their own places alone. The rows below the blocks are
 // written into memory that the caller lends, when all else is known. Source: Liu, Ng and Peyton 1993.
 
-ghost use Rattle.std.specs.Prelude.{◌≡◌, ◌+◌, ◌-◌, length, map, slice_index};
+ghost use Rattle.std.specs.Prelude.{◌≡◌, length, map};
 ghost use Rattle.amd_types.specs.Naturals.{naturals};
 ghost use Rattle.amd_factor.specs.Numbers.{AreNonNegative};
-ghost use Rattle.amd_factor.specs.Partitions.{IsPartitionOf, OrderedMatrix};
+ghost use Rattle.amd_factor.specs.Partitions.{OrderedMatrix};
+ghost use Rattle.amd_factor.specs.Premises.{CanWriteRows};
 ghost use Rattle.amd_factor.specs.Supernodes.{IsSupernodesOf};
 
 use crate::below::fill_rows;
@@ -53,13 +54,7 @@ pub struct Partitioned<A: Allocator> {
 /// Source: Liu 1990; Liu, Ng and Peyton 1993.
 pub fn write_rows<I: Index, A: Allocator>(partition: Partitioned<A>, rows: &mut [I]) -> Cut<A>
     ghost m: { OrderedMatrix }
-    requires partition { IsPartitionOf m partition.cut.first.items partition.cut.owner.items partition.cut.ptr.items
-        partition.cut.parent.items partition.lists.starts.items partition.lists.neighbours.items }
-    requires next { length partition.next.items + 1 ≡ length partition.cut.first.items }
-    requires mark { length partition.mark.items + 1 ≡ length partition.cut.first.items }
-    requires room { length rows.old ≡
-        slice_index partition.cut.ptr.items (length partition.cut.first.items - 1) }
-    requires fits { I.fits m.size }
+    requires { CanWriteRows I.fits m partition (length rows.old) }
     ensures same { result ≡ partition.cut }
     ensures told { AreNonNegative (map I.value rows.new) }
     ensures supernodes { IsSupernodesOf m.size m.pointers m.indices m.list partition.cut.first.items

@@ -23,7 +23,13 @@ write_rows-cut-requires g c κs within =
       within,
       (
         (λ a h. absurd (not-mem-nil h)),
-        (p, (c.in_ok-found.ensures.next, (c.in_ok-found.ensures.mark, (long ∙ ends.0, fits)))),
+        record {
+          parts = p;
+          nexts = c.in_ok-found.ensures.next;
+          marks = c.in_ok-found.ensures.mark;
+          all = long ∙ ends.0;
+          most = fits;
+        },
       ),
     )
 

@@ -5,10 +5,10 @@ use Rattle.amd_factor.proofs.lent.lent_columns.Goals as goal
 
 pub fill_into-requires : goal.fill_into-requires
 fill_into-requires g c κs inside =
-    let placed = c.requires.1.0 in
+    let placed = c.requires.1.0.placed in
     let all = rows_long g.o _ _ _ c.args.places.now placed in
-    let lists = c.requires.1.1.1 in
-    let room = lists.3 in
+    let lists = c.requires.1.1 in
+    let room = lists.words in
     let first = c.split_at_mut-starts.ensures.back_len in let second = c.split_at_mut-later.ensures.back_len in
     let third = c.split_at_mut-mark.ensures.back_len in let mark = c.split_at_mut-mark.ensures.front_len in
     let few = c.lay_later-total.ensures.few in
@@ -17,15 +17,15 @@ fill_into-requires g c κs inside =
       inside,
       (
         record {
-          pointers = (let long = lists.0 in omega (arith, long, all));
-          parents = (let long = lists.1 in omega (arith, long, all));
+          pointers = (let long = lists.pointers in omega (arith, long, all));
+          parents = (let long = lists.parents in omega (arith, long, all));
           marks = omega (arith, mark, all);
-          links = (let long = length-take-le (length c.args.places.now) c.args.links.now lists.2 in omega (arith, long, all));
+          links = (let long = length-take-le (length c.args.places.now) c.args.links.now lists.links_room in omega (arith, long, all));
           fresh = omega (arith, fresh, all);
         },
         record {
           laws = is_graph g.o _ _ _ c.args.places.now placed;
-          most = λ j l. c.requires.1.1.0 j (omega (arith, l, all));
+          most = λ j l. c.requires.1.0.fit j (omega (arith, l, all));
           later_are = later_lists g.o _ _ _ c.args.places.now placed c.list_later.new.starts c.list_later.new.neighbours
               c.list_later.ensures;
         },

@@ -26,8 +26,7 @@ list_turned-requires g c =
 pub count_by_meetings-requires : goal.count_by_meetings-requires
 count_by_meetings-requires g c =
     let all = rows_long g.o _ _ _ c.args.places.now c.requires.1.0 in
-    let lists = c.requires.1.1.0 in
-    let room = c.requires.1.1.1 in
+    let lists = c.requires.1.1 in let room = lists.words in
     let first = c.split_at_mut-starts.ensures.back_len in let second = c.split_at_mut-earlier.ensures.back_len in
     let third = c.split_at_mut-later_starts.ensures.back_len in let fourth = c.split_at_mut-later.ensures.back_len in
     let few = c.lay_earlier-total.ensures.few in let turned = c.lay_turned-turned.ensures.few in
@@ -41,8 +40,8 @@ count_by_meetings-requires g c =
         behind = c.list_turned.ensures;
       },
       record {
-        parents = (let long = lists.1 in omega (arith, long, all));
-        sizes_room = (let long = lists.0 in omega (arith, long, all));
+        parents = (let long = lists.parents in omega (arith, long, all));
+        sizes_room = (let long = lists.counts_room in omega (arith, long, all));
         work_room = omega (arith, long, all);
       },
     )

@@ -14,19 +14,13 @@ write_rows-cut-requires g c κs within =
       (λ a h. absurd (not-mem-nil h)),
       (
         within,
-        (
-          p,
-          (
-            c.in_ok-found.ensures.next,
-            (
-              c.in_ok-found.ensures.mark,
-              (
-                long ∙ ends.0,
-                usize-fits g.m.size (length c.in_ok-found.found.cut.owner.items) p.size (omega arith),
-              ),
-            ),
-          ),
-        ),
+        record {
+          parts = p;
+          nexts = c.in_ok-found.ensures.next;
+          marks = c.in_ok-found.ensures.mark;
+          all = long ∙ ends.0;
+          most = usize-fits g.m.size (length c.in_ok-found.found.cut.owner.items) p.size (omega arith);
+        },
       ),
     )
 
