@@ -1,18 +1,20 @@
 -- What the functions that make a factor and count its entries ask of the lists that they are lent.
-use Rattle.std.specs.Prelude.{ℕ, ℤ, pos, ◌≡◌, ◌<◌, ◌≤◌, ◌+◌, ◌-◌, ◌*◌, ◌^◌, List, [], Option, length, slice_index}
+use Rattle.std.specs.Prelude.{ℕ, ℤ, pos, ◌≡◌, ◌<◌, ◌≤◌, ◌+◌, ◌-◌, ◌*◌, ◌^◌, List, [], Option, length, slice_index, unsigned_abs}
 use Rattle.amd_model.specs.Graph.{IsGraph}
+use Rattle.amd_model.specs.Input.Pattern.{graph_of}
 use Rattle.amd_types.specs.Naturals.{naturals}
+use Rattle.amd_factor.specs.Ancestors.{Climbing}
 use Rattle.amd_factor.specs.Columns.{FactorSizes}
 use Rattle.amd_factor.specs.Meetings.{IsByRank, IsScene, Links, Met, Scene, Taken, sum_to}
-use Rattle.amd_factor.specs.Neighbours.{AreLater, HasLater}
+use Rattle.amd_factor.specs.Neighbours.{AreEarlier, AreLater, HasEarlier, HasLater}
 use Rattle.amd_factor.specs.Orders.{Order}
 use Rattle.amd_factor.specs.Numbers.{AreNonNegative}
 use Rattle.amd_factor.specs.Partitions.{AreNumbered, Climbs, IsCut, IsJoined, IsMarkedBy, IsPartitionOf, MarkedBefore}
-use Rattle.amd_factor.specs.Partitions.{OrderedMatrix, Partition, WrittenTo}
+use Rattle.amd_factor.specs.Partitions.{OrderedMatrix, Partition, WrittenTo, ordered_matrix}
 use Rattle.amd_factor.specs.Sizes.{HoldSizes}
-use Rattle.amd_factor.specs.Thinning.{Thins}
+use Rattle.amd_factor.specs.Thinning.{AreThinned, HasThinned, Thins}
 use Rattle.amd_factor.specs.Walks.{TellParents}
-use Rattle.amd_factor.specs.Within.{IsPlaced}
+use Rattle.amd_factor.specs.Within.{IsPlaced, IsPosed}
 use Rattle.amd_factor.specs.declared.neighbours.Neighbours.{Neighbours}
 use Rattle.amd_factor.specs.declared.partition.LentCut.{LentCut}
 use Rattle.amd_factor.specs.declared.ranks.RankedTree.{RankedTree}
@@ -68,6 +70,27 @@ pub record ThinsTree (o t : Order) (parent : List (Option ℕ)) : Type 0 where
   pub thins : Thins o t
   pub parents : TellParents o (length o.rows) parent
 
+-- the parents can be found from the earlier neighbours of each place of the order of a graph
+pub record CanMakeTree (o : Order) (starts earlier : List ℕ) (parent : List (Option ℕ)) (ancestor : List ℕ) : Type 0 where
+  pub laws : IsGraph o.graph
+  pub earlier_are : HasEarlier o starts earlier
+  pub parents : length parent ≡ length o.rows
+  pub ancestors : length ancestor ≡ length o.rows
+
+-- row i of the order of a graph can become a parent, when the rows before it have climbed
+pub record CanLinkRow (o : Order) (i : ℕ) (earlier : List ℕ) (parent : List (Option ℕ)) (ancestor : List ℕ) : Type 0 where
+  pub laws : IsGraph o.graph
+  pub place : i < length o.rows
+  pub earlier_are : AreEarlier o i earlier
+  pub climbing : Climbing o i i parent ancestor
+
+-- earlier neighbours can be left out that are the parents of others
+pub record CanThin (o : Order) (starts earlier : List ℕ) (parent : List (Option ℕ)) (mark : List ℕ) : Type 0 where
+  pub laws : IsGraph o.graph
+  pub earlier_are : HasEarlier o starts earlier
+  pub parents : TellParents o (length o.rows) parent
+  pub marks : length mark ≡ length o.rows
+
 -- there is room for a count of each column, and for the work of a count by the tree
 pub record HasTreeRoom (o : Order) (counts work : List ℕ) : Type 0 where
   pub counts_room : length counts ≡ length o.rows
@@ -91,9 +114,12 @@ pub record CanPutRow (b : Partition) (j s : ℕ) (next mark : List ℕ) (rows : 
   pub new : ¬ (IsMarkedBy mark j s)
   pub told : AreNonNegative rows
 
--- the rows before j are written, and no mark is that of j
-pub record CanAddRow (b : Partition) (j : ℕ) (owner next mark : List ℕ) (rows : List ℤ) : Type 0 where
-  pub owners : owner ≡ b.owner
+-- the rows before j are written, and no mark is that of j; row j has this number and these earlier neighbours
+pub record CanAddRow (b : Partition) (j : ℕ) (number : ℤ) (earlier : List ℕ) (lent : LentCut) (next mark : List ℕ)
+    (rows : List ℤ) : Type 0 where
+  pub row : IsRowOf b j number lent.parent.now
+  pub thinned : AreThinned b.order j earlier
+  pub owners : lent.owner.now ≡ b.owner
   pub written : WrittenTo b j next (naturals rows)
   pub marks : MarkedBefore b j mark
   pub told : AreNonNegative rows
@@ -115,8 +141,12 @@ pub record IsCutOf (b : Partition) (lent : LentCut) : Type 0 where
   pub pointers : lent.ptr.now ≡ b.ptr
   pub parents : lent.parent.now ≡ b.parent
 
--- there is a place for each supernode in two lists, and room for all rows below the blocks, each of which fits
-pub record CanFillRows (b : Partition) (fits : ℤ → Type 0) (next mark : List ℕ) (room : ℕ) : Type 0 where
+-- there is a place for each supernode in two lists, and room for all rows below the blocks, each of which fits; the earlier
+-- neighbours of each place are given
+pub record CanFillRows (b : Partition) (fits : ℤ → Type 0) (earlier : Neighbours) (lent : LentCut) (next mark : List ℕ)
+    (room : ℕ) : Type 0 where
+  pub cut : IsCutOf b lent
+  pub thinned : HasThinned b.order earlier.starts.now earlier.places.now
   pub nexts : length next + 1 ≡ length b.first
   pub marks : length mark + 1 ≡ length b.first
   pub all : room ≡ slice_index b.ptr (length b.first - 1)
@@ -171,3 +201,18 @@ pub record HasLentCountRoom (n entries : ℕ) (counts : List ℕ) (parent : List
   pub counts_room : length counts ≡ n
   pub parents : length parent ≡ n
   pub words : 2 * entries + 10 * n + 7 ≤ length memory
+
+-- the column form is that of an order with n places, each of which fits
+pub record IsFitOrder (fits : ℤ → Type 0) (o : Order) (n : ℕ) (ap ai p : List ℤ) : Type 0 where
+  pub posed : IsPosed o n ap ai p
+  pub fit : (j : ℕ) → j < n → fits (pos j)
+
+-- the matrix is the one with these pointers, indices and list, and its number of rows fits
+pub record IsFitMatrix (fits : ℤ → Type 0) (m : OrderedMatrix) (n : ℤ) (ap ai p : List ℤ) : Type 0 where
+  pub fit : fits n
+  pub matrix : m ≡ ordered_matrix n ap ai p
+
+-- the order is that of the graph of a matrix, and of the rows that the list tells
+pub record IsOrderOf (o : Order) (n : ℤ) (ap ai p : List ℤ) : Type 0 where
+  pub graph : o.graph ≡ graph_of (unsigned_abs n) ap ai
+  pub rows : o.rows ≡ naturals p

@@ -6,9 +6,8 @@ ghost use Rattle.std.specs.Prelude.{ℕ, ◌≡◌, ◌<◌, ◌+◌, ◌-◌, l
 ghost use Rattle.amd_types.specs.Naturals.{naturals};
 ghost use Rattle.amd_factor.specs.Numbers.{AreNonNegative};
 ghost use Rattle.amd_factor.specs.Partitions.{Climbs, IsMarkedBy, MarkedBefore, Partition, WrittenTo};
-ghost use Rattle.amd_factor.specs.Premises.{CanAddRow, CanClimb, CanFillRows, CanPutRow, IsCutOf, IsRowOf};
+ghost use Rattle.amd_factor.specs.Premises.{CanAddRow, CanClimb, CanFillRows, CanPutRow, IsRowOf};
 ghost use Rattle.amd_factor.specs.Supernodes.{HoldSupernodes};
-ghost use Rattle.amd_factor.specs.Thinning.{AreThinned, HasThinned};
 
 use crate::neighbours::Neighbours;
 use crate::partition::LentCut;
@@ -86,9 +85,7 @@ fn add_row<I: Index>(
     rows: &mut [I],
 )
     ghost b: { Partition }
-    requires row { IsRowOf b j (I.value number) cut.now.parent.now }
-    requires earlier { AreThinned b.order j earlier.now }
-    requires lists { CanAddRow b j cut.now.owner.now next.old mark.old (map I.value rows.old) }
+    requires { CanAddRow b j (I.value number) earlier.now cut.now next.old mark.old (map I.value rows.old) }
     ensures told { AreNonNegative (map I.value rows.new) }
     ensures written { WrittenTo b (j + 1) next.new (naturals (map I.value rows.new)) }
     ensures marks { MarkedBefore b (j + 1) mark.new }
@@ -115,9 +112,7 @@ pub fn fill_rows<I: Index>(
     rows: &mut [I],
 )
     ghost b: { Partition }
-    requires cut { IsCutOf b cut.now }
-    requires earlier { HasThinned b.order earlier.now.starts.now earlier.now.places.now }
-    requires room { CanFillRows b I.fits next.old mark.old (length rows.old) }
+    requires { CanFillRows b I.fits earlier.now cut.now next.old mark.old (length rows.old) }
     ensures told { AreNonNegative (map I.value rows.new) }
     ensures rows { HoldSupernodes b.order.graph b.order.rows b.first b.ptr (naturals (map I.value rows.new)) b.parent }
 {

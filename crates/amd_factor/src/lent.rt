@@ -7,7 +7,7 @@ ghost use Rattle.std.specs.Prelude.{drop, length, slice_index, MatchOption};
 ghost use Rattle.amd_types.specs.Naturals.{naturals};
 ghost use Rattle.amd_factor.specs.Columns.{HoldFactor, PassesRoom};
 ghost use Rattle.amd_factor.specs.Orders.{Order};
-ghost use Rattle.amd_factor.specs.Premises.{HasLentColumnRoom, HasLentCountRoom, HasFitPlaces};
+ghost use Rattle.amd_factor.specs.Premises.{HasFitPlaces, HasLentColumnRoom, HasLentCountRoom};
 ghost use Rattle.amd_factor.specs.Sizes.{HoldSizes};
 ghost use Rattle.amd_factor.specs.Within.{IsPlaced};
 
@@ -31,8 +31,8 @@ pub fn lent_sizes<I: Index>(
 )
     ghost o: { Order }
     requires placed { IsPlaced o (length places.now) (map I.value a_p.now) (map I.value a_i.now) places.now }
-    requires room { HasLentCountRoom (length places.now) (slice_index (naturals (map I.value a_p.now)) (length places.now))
-        counts.old parent.old memory.old }
+    requires room { HasLentCountRoom (length places.now)
+        (slice_index (naturals (map I.value a_p.now)) (length places.now)) counts.old parent.old memory.old }
     ensures { HoldSizes o.graph o.rows counts.new parent.new }
 {
     let size = places.len();
@@ -71,8 +71,8 @@ pub fn lent_columns<I: Index>(
 ) -> Option<usize>
     ghost o: { Order }
     requires matrix { HasFitPlaces I.fits o (length places.now) (map I.value a_p.now) (map I.value a_i.now) places.now }
-    requires room { HasLentColumnRoom (length places.now) (slice_index (naturals (map I.value a_p.now)) (length places.now))
-        ptr.old parent.old links.old memory.old }
+    requires room { HasLentColumnRoom (length places.now)
+        (slice_index (naturals (map I.value a_p.now)) (length places.now)) ptr.old parent.old links.old memory.old }
     ensures factor { MatchOption result (PassesRoom o.graph o.rows (length rows.old))
         (λ total. (entries : List ℕ) × (total ≡ length entries) ×
         (map I.value rows.new ≡ map pos entries ++ drop total (map I.value rows.old)) ×

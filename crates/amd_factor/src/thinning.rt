@@ -3,11 +3,10 @@
 // where a node has several unknowns, most arcs are left out. Source: Liu 1986 (the skeleton of a graph).
 
 ghost use Rattle.std.specs.Prelude.{ℕ, ◌≡◌, ◌<◌, ◌≤◌, ◌+◌, ◌⊎◌, Some, None, length, slice_index, slice_index_or};
-ghost use Rattle.amd_model.specs.Graph.{IsGraph};
 ghost use Rattle.amd_factor.specs.Neighbours.{HasEarlier};
 ghost use Rattle.amd_factor.specs.Orders.{Order};
+ghost use Rattle.amd_factor.specs.Premises.{CanThin};
 ghost use Rattle.amd_factor.specs.Thinning.{Keeps, IsThinned, Thins, order_of_lists};
-ghost use Rattle.amd_factor.specs.Walks.{TellParents};
 
 // A row with no more earlier neighbours keeps them all: to look for parents among them would cost more than it saves.
 const FEW: usize = 4;
@@ -89,10 +88,7 @@ pub fn thin_lists(
     mark: &mut [usize],
 )
     ghost o: { Order }
-    requires laws { IsGraph o.graph }
-    requires earlier { HasEarlier o starts.old lists.old }
-    requires parents { TellParents o (length o.rows) parent.now }
-    requires marks { length mark.old ≡ length o.rows }
+    requires { CanThin o starts.old lists.old parent.now mark.old }
     ensures thins { Thins o (order_of_lists (length o.rows) starts.new lists.new) }
     ensures earlier { HasEarlier (order_of_lists (length o.rows) starts.new lists.new) starts.new lists.new }
 {

@@ -1,10 +1,9 @@
 // The elimination tree in nearly linear time: each row climbs from its earlier neighbours by links to ancestors, and
 // all links on the way are drawn to the row itself, so that no way is climbed twice. Source: Liu 1986.
 
-ghost use Rattle.std.specs.Prelude.{ℕ, ◌≡◌, ◌<◌, ◌≤◌, ◌+◌, true, length, slice_index};
-ghost use Rattle.amd_model.specs.Graph.{IsGraph};
-ghost use Rattle.amd_factor.specs.Neighbours.{AreEarlier, HasEarlier};
+ghost use Rattle.std.specs.Prelude.{ℕ, ◌+◌, length};
 ghost use Rattle.amd_factor.specs.Orders.{Order};
+ghost use Rattle.amd_factor.specs.Premises.{CanLinkRow, CanMakeTree};
 ghost use Rattle.amd_factor.specs.Walks.{TellParents};
 ghost use Rattle.amd_factor.specs.Ancestors.{StartsClimb, Climbing, IsDone};
 
@@ -33,10 +32,7 @@ fn climb(j: usize, i: usize, parent: &mut [Option<usize>], ancestor: &mut [usize
 /// Makes row `i` the parent of the roots of the trees of its earlier neighbours.
 fn link_row(i: usize, earlier: &[usize], parent: &mut [Option<usize>], ancestor: &mut [usize])
     ghost o: { Order }
-    requires laws { IsGraph o.graph }
-    requires place { i < length o.rows }
-    requires earlier { AreEarlier o i earlier.now }
-    requires climbing { Climbing o i i parent.old ancestor.old }
+    requires { CanLinkRow o i earlier.now parent.old ancestor.old }
     ensures parents { TellParents o (i + 1) parent.new }
     ensures climbing { Climbing o i i parent.new ancestor.new }
 {
@@ -56,10 +52,7 @@ pub fn elimination_tree(
     ancestor: &mut [usize],
 )
     ghost o: { Order }
-    requires laws { IsGraph o.graph }
-    requires earlier { HasEarlier o starts.now earlier.now }
-    requires parents { length parent.old ≡ length o.rows }
-    requires ancestors { length ancestor.old ≡ length o.rows }
+    requires { CanMakeTree o starts.now earlier.now parent.old ancestor.old }
     ensures { TellParents o (length o.rows) parent.new }
 {
     parent.fill(None);

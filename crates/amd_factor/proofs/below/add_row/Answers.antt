@@ -12,36 +12,36 @@ pub earlier-init : goal.earlier-init
 earlier-init g c =
     let rows = naturals (map g.I.Index.value c.args.rows.now) in record {
       climbs = subst (λ xs. Climbs g.b c.args.j (slice_index g.b.owner c.args.j) c.args.next.now
-          (set c.args.mark.now (slice_index xs c.args.j) (c.args.j + 1)) rows) (sym c.requires.1.1.1.owners)
-          (climbs-begin g.b c.args.j c.args.next.now rows c.requires.1.0.place c.args.mark.now c.requires.1.1.1.written
-          c.requires.1.1.1.marks);
-      told = c.requires.1.1.1.told;
+          (set c.args.mark.now (slice_index xs c.args.j) (c.args.j + 1)) rows) (sym c.requires.1.owners)
+          (climbs-begin g.b c.args.j c.args.next.now rows c.requires.1.row.place c.args.mark.now c.requires.1.written
+          c.requires.1.marks);
+      told = c.requires.1.told;
       marked = λ s l. absurd (omega (arith, l));
     }
 
 pub offset_bounds-cut-i : goal.offset_bounds-cut-i
 offset_bounds-cut-i g c =
-    let e = (thin-neighbour g.b.order c.args.j c.args.earlier.now c.earlier.i-index c.requires.1.1.0 c.earlier-test.true).0 in
-    let j = c.requires.1.0.place in let o = ap length c.requires.1.1.1.owners in omega (arith, e, j, o)
+    let e = (thin-neighbour g.b.order c.args.j c.args.earlier.now c.earlier.i-index c.requires.1.thinned c.earlier-test.true).0 in
+    let j = c.requires.1.row.place in let o = ap length c.requires.1.owners in omega (arith, e, j, o)
 
 pub bounds-cut-i : goal.bounds-cut-i
 bounds-cut-i g c =
-    let e = (thin-neighbour g.b.order c.args.j c.args.earlier.now c.earlier.i-index c.requires.1.1.0 c.earlier-test.true).0 in
-    let j = c.requires.1.0.place in let o = ap length c.requires.1.1.1.owners in omega (arith, e, j, o)
+    let e = (thin-neighbour g.b.order c.args.j c.args.earlier.now c.earlier.i-index c.requires.1.thinned c.earlier-test.true).0 in
+    let j = c.requires.1.row.place in let o = ap length c.requires.1.owners in omega (arith, e, j, o)
 
 pub climb-requires : goal.climb-requires
 climb-requires g c κs within =
     let i = c.earlier.invariant.climbs in
     let rows = naturals (map g.I.Index.value c.earlier.rows) in
-    let e = thin-neighbour g.b.order c.args.j c.args.earlier.now c.earlier.i-index c.requires.1.1.0 c.earlier-test.true in
+    let e = thin-neighbour g.b.order c.args.j c.args.earlier.now c.earlier.i-index c.requires.1.thinned c.earlier-test.true in
     let place = slice_index c.args.earlier.now c.earlier.i-index in (
       within,
       (
-        c.requires.1.0,
+        c.requires.1.row,
         record {
-          climbs = subst (λ xs. Climbs g.b c.args.j (slice_index xs place) c.earlier.next c.earlier.mark rows) (sym c.requires.1.1.1.owners)
+          climbs = subst (λ xs. Climbs g.b c.args.j (slice_index xs place) c.earlier.next c.earlier.mark rows) (sym c.requires.1.owners)
               (climbs-from g.b c.args.j (slice_index g.b.owner place) c.earlier.next c.earlier.mark rows i
-              (begins g.b i.cut.columns i.cut.partition c.requires.1.0.laws place c.args.j e.0 c.requires.1.0.place e.1));
+              (begins g.b i.cut.columns i.cut.partition c.requires.1.row.laws place c.args.j e.0 c.requires.1.row.place e.1));
           told = c.earlier.invariant.told;
         },
       ),
@@ -55,7 +55,7 @@ earlier-preserved g c =
       marked = λ s l. elim (cases_eq s c.earlier.i-index) [
         | inl q ↦ subst (λ x. IsMarkedBy c.climb.new.mark c.args.j (slice_index g.b.owner (slice_index c.args.earlier.now x))) (sym q)
             (subst (λ xs. IsMarkedBy c.climb.new.mark c.args.j (slice_index xs (slice_index c.args.earlier.now c.earlier.i-index)))
-            c.requires.1.1.1.owners c.climb.ensures.marked)
+            c.requires.1.owners c.climb.ensures.marked)
         | inr ne ↦ c.climb.ensures.kept (slice_index g.b.owner (slice_index c.args.earlier.now s))
             (c.earlier.invariant.marked s (omega (arith, l, ne)))
       ];
@@ -64,6 +64,6 @@ earlier-preserved g c =
 pub returns-clause-written : goal.returns-clause-written
 returns-clause-written g c =
     let t = c.earlier-test.false in
-    climbs-end g.b c.args.j c.earlier.next (naturals (map g.I.Index.value c.earlier.rows)) c.requires.1.0.place c.requires.1.0.laws
+    climbs-end g.b c.args.j c.earlier.next (naturals (map g.I.Index.value c.earlier.rows)) c.requires.1.row.place c.requires.1.row.laws
     c.earlier.mark c.earlier.invariant.climbs
-    c.args.earlier.now c.requires.1.1.0 (λ s l. c.earlier.invariant.marked s (omega (arith, l, t)))
+    c.args.earlier.now c.requires.1.thinned (λ s l. c.earlier.invariant.marked s (omega (arith, l, t)))

@@ -8,25 +8,21 @@ pub fill_rows-requires : goal.fill_rows-requires
 fill_rows-requires g c κs within =
     let can = c.requires.1.1 in (
       within,
-      (
-        record {
+      record {
+        cut = record {
           laws = pattern_graph (unsigned_abs g.m.size) g.m.pointers g.m.indices;
           cut = rw (c.deref-3.ensures.value, c.deref-4.ensures.value, c.deref-5.ensures.value, c.deref-6.ensures.value) can.parts.cut;
           firsts = refl;
           owners = refl;
           pointers = refl;
           parents = refl;
-        },
-        (
-          rw (c.deref.ensures.value, c.deref-2.ensures.value) can.parts.near,
-          record {
-            nexts = rw (c.deref_mut.ensures.value, c.deref-3.ensures.value) can.nexts;
-            marks = rw (c.deref_mut-2.ensures.value, c.deref-3.ensures.value) can.marks;
-            all = rw (c.deref-3.ensures.value, c.deref-5.ensures.value) can.all;
-            most = rw c.deref-4.ensures.value (subst g.I.Index.fits can.parts.size can.most);
-          },
-        ),
-      ),
+        };
+        thinned = rw (c.deref.ensures.value, c.deref-2.ensures.value) can.parts.near;
+        nexts = rw (c.deref_mut.ensures.value, c.deref-3.ensures.value) can.nexts;
+        marks = rw (c.deref_mut-2.ensures.value, c.deref-3.ensures.value) can.marks;
+        all = rw (c.deref-3.ensures.value, c.deref-5.ensures.value) can.all;
+        most = rw c.deref-4.ensures.value (subst g.I.Index.fits can.parts.size can.most);
+      },
     )
 
 pub returns-clause-supernodes : goal.returns-clause-supernodes

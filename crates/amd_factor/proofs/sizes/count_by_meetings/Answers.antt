@@ -6,8 +6,12 @@ use Rattle.amd_factor.proofs.sizes.count_by_meetings.Goals as goal
 pub elimination_tree-requires : goal.elimination_tree-requires
 elimination_tree-requires g c =
     let lists = c.requires.0 in let room = c.requires.1 in
-    let sizes = room.sizes_room in let front = c.split_at_mut-ancestor.ensures.front_len in
-    (lists.laws, (lists.before, (room.parents, omega (arith, sizes, front))))
+    let sizes = room.sizes_room in let front = c.split_at_mut-ancestor.ensures.front_len in record {
+      laws = lists.laws;
+      earlier_are = lists.before;
+      parents = room.parents;
+      ancestors = omega (arith, sizes, front);
+    }
 
 pub count_by_tree-requires : goal.count_by_tree-requires
 count_by_tree-requires g c =

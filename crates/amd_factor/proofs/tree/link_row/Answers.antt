@@ -6,12 +6,12 @@ use Rattle.amd_factor.proofs.Trees.Ancestry.{neighbour, parents-told}
 use Rattle.amd_factor.proofs.tree.link_row.Goals as goal
 
 pub earlier-init : goal.earlier-init
-earlier-init g c = record { climbing = c.requires.1.1.1; done = λ s l. absurd (omega (arith, l)) }
+earlier-init g c = record { climbing = c.requires.climbing; done = λ s l. absurd (omega (arith, l)) }
 
 pub climb-requires : goal.climb-requires
 climb-requires g c =
-    let e = neighbour g.o c.args.i c.args.earlier.now c.earlier.j-index c.requires.1.1.0 c.earlier-test.true in
-    record { laws = c.requires.0; place = c.requires.1.0; earlier = e.0; edge = e.1; climbing = c.earlier.invariant.climbing }
+    let e = neighbour g.o c.args.i c.args.earlier.now c.earlier.j-index c.requires.earlier_are c.earlier-test.true in
+    record { laws = c.requires.laws; place = c.requires.place; earlier = e.0; edge = e.1; climbing = c.earlier.invariant.climbing }
 
 pub earlier-preserved : goal.earlier-preserved
 earlier-preserved g c = record {
@@ -25,5 +25,5 @@ earlier-preserved g c = record {
 pub returns-clause-parents : goal.returns-clause-parents
 returns-clause-parents g c =
     let t = c.earlier-test.false in
-    parents-told g.o c.requires.0 c.args.i c.requires.1.0 c.earlier.parent c.earlier.ancestor c.args.earlier.now c.requires.1.1.0
+    parents-told g.o c.requires.laws c.args.i c.requires.place c.earlier.parent c.earlier.ancestor c.args.earlier.now c.requires.earlier_are
     c.earlier.invariant.climbing (λ s l. c.earlier.invariant.done s (omega (arith, l, t)))
