@@ -3,7 +3,8 @@
 // where there is a fault.
 
 ghost use Rattle.std.specs.Prelude.{◌≡◌, ◌↔◌, IsTrue, map};
-ghost use Rattle.amd_factor.specs.Partitions.{OrderedMatrix, ordered_matrix};
+ghost use Rattle.amd_factor.specs.Partitions.{OrderedMatrix};
+ghost use Rattle.amd_factor.specs.Premises.{IsFitMatrix};
 ghost use Rattle.amd_c.specs.Supernodal.{HasBlockPlaces, LeavesSizes, LeavesSupernodes, TellsSizes, blocks};
 
 use amd_calls::factors::{has_numbers, has_parents, write_first_numbers, write_first_parents};
@@ -67,8 +68,7 @@ fn matrix_supernodes_into<I: PrimInt>(
     sizes: &mut SupernodeSizes,
 ) -> Result<(), Fault>
     ghost m: { OrderedMatrix }
-    requires fits { I.fits (I.value matrix.n) }
-    requires matrix { m ≡ ordered_matrix (I.value matrix.n) (map I.value matrix.a_p.now) (map I.value matrix.a_i.now)
+    requires { IsFitMatrix I.fits m (I.value matrix.n) (map I.value matrix.a_p.now) (map I.value matrix.a_i.now)
         (map I.value p.now) }
     ensures left { LeavesSupernodes m.size m.pointers m.indices m.list
         (blocks (map I.value first.old) (map I.value ptr.old) (map I.value rows.old) (map I.value parent.old))

@@ -4,9 +4,8 @@ ghost use Rattle.std.specs.Prelude.{ℕ, List, ◌≡◌, ◌≢◌, ◌<◌, �
 ghost use Rattle.std.specs.Prelude.{IfOk, IfErr, MatchOption};
 ghost use Rattle.amd_factor.specs.Columns.{HoldFactor, PassesRoom};
 ghost use Rattle.amd_factor.specs.Orders.{Order};
-ghost use Rattle.amd_factor.specs.Premises.{CanWriteFactor};
+ghost use Rattle.amd_factor.specs.Premises.{CanWriteFactor, IsFitOrder};
 ghost use Rattle.amd_factor.specs.Factors.{IsFault, WritesFactor};
-ghost use Rattle.amd_factor.specs.Within.{IsPosed};
 ghost use Rattle.amd_factor.specs.declared.factor.Fault.TheVariants.{OutOfMemory, RoomTooSmall};
 
 use crate::entrance::rows_of;
@@ -87,8 +86,7 @@ fn form_columns_into<I: Index, A: Allocator + Copy>(
     rows: &mut [I],
 ) -> Result<Frame<A>, Fault>
     ghost o: { Order }
-    requires posed { IsPosed o size (map I.value a_p.now) (map I.value a_i.now) (map I.value p.now) }
-    requires fits { (j : ℕ) → j < size → I.fits (pos j) }
+    requires { IsFitOrder I.fits o size (map I.value a_p.now) (map I.value a_i.now) (map I.value p.now) }
     ensures factor { IfOk result (λ f. WritesFactor (pos size) (map I.value a_p.now) (map I.value a_i.now)
         (map I.value p.now) (map I.value rows.old) (map I.value rows.new) f.ptr.items f.parent.items) }
     ensures fault { IfErr result (λ e. IsFault (pos size) (map I.value a_p.now) (map I.value a_i.now)

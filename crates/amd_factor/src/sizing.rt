@@ -1,12 +1,11 @@
 // How many supernodes a factor has, and how many rows below their blocks: the columns are counted and the places
 // numbered as for `supernodes`, and no row is written. Source: Liu, Ng and Peyton 1993.
 
-ghost use Rattle.std.specs.Prelude.{◌≡◌, length, map, unsigned_abs, IfOk, IfErr, MatchOption};
+ghost use Rattle.std.specs.Prelude.{◌≡◌, length, map, IfOk, IfErr, MatchOption};
 ghost use Rattle.amd_model.specs.Graph.{IsGraph};
-ghost use Rattle.amd_model.specs.Input.Pattern.{graph_of};
-ghost use Rattle.amd_types.specs.Naturals.{naturals};
 ghost use Rattle.amd_factor.specs.Counted.{IsCountsFault};
 ghost use Rattle.amd_factor.specs.Orders.{Order};
+ghost use Rattle.amd_factor.specs.Premises.{IsOrderOf};
 ghost use Rattle.amd_factor.specs.Sizes.{HoldSizes};
 ghost use Rattle.amd_factor.specs.SupernodeLaws.{AreSizesOf, TellSizesOf};
 
@@ -55,8 +54,7 @@ fn matrix_sizes<I: Index, A: Allocator + Copy>(
     p: &[I],
 ) -> Result<SupernodeSizes, Fault>
     ghost o: { Order }
-    requires graph { o.graph ≡ graph_of (unsigned_abs (I.value n)) (map I.value a_p.now) (map I.value a_i.now) }
-    requires rows { o.rows ≡ naturals (map I.value p.now) }
+    requires { IsOrderOf o (I.value n) (map I.value a_p.now) (map I.value a_i.now) (map I.value p.now) }
     ensures sizes { IfOk result (λ s. AreSizesOf (I.value n) (map I.value a_p.now) (map I.value a_i.now)
         (map I.value p.now) s.supernodes s.rows) }
     ensures fault { IfErr result (λ e. IsCountsFault (I.value n) (map I.value a_p.now) (map I.value a_i.now)

@@ -5,6 +5,7 @@ ghost use Rattle.std.specs.Prelude.{◌≡◌, ◌+◌, ◌∷◌, [], length, p
 ghost use Rattle.amd_factor.specs.Counted.{IsCountsFault};
 ghost use Rattle.amd_factor.specs.Orders.{Order};
 ghost use Rattle.amd_factor.specs.Partitions.{IsPartitionOf, OrderedMatrix, ordered_matrix};
+ghost use Rattle.amd_factor.specs.Premises.{IsFitMatrix};
 ghost use Rattle.amd_factor.specs.Supernodes.{IsSupernodesOf};
 ghost use Rattle.amd_factor.specs.Within.{IsPosed};
 
@@ -129,8 +130,7 @@ fn matrix_supernodes<I: Index, A: Allocator + Copy>(
     p: &[I],
 ) -> Result<Supernodes<A>, Fault>
     ghost m: { OrderedMatrix }
-    requires fits { I.fits (I.value n) }
-    requires matrix { m ≡ ordered_matrix (I.value n) (map I.value a_p.now) (map I.value a_i.now) (map I.value p.now) }
+    requires { IsFitMatrix I.fits m (I.value n) (map I.value a_p.now) (map I.value a_i.now) (map I.value p.now) }
     ensures supernodes { IfOk result (λ s. IsSupernodesOf m.size m.pointers m.indices m.list s.first.items s.ptr.items
         s.rows.items s.parent.items) }
     ensures fault { IfErr result (λ e. IsCountsFault m.size m.pointers m.indices m.list e) }

@@ -49,7 +49,7 @@ form_columns_into-requires g c κs within =
     let low : pos 0 ≤ℤ pos j = omega (arith, ints) in
     let most : pos j ≤ℤ z = omega (arith, ints, l, size) in
     g.I.Number.between_law (pos 0) (pos j) z exact (g.met.I.Zero.zero_fits_law exact) c.requires.fits low most) in
-    (within.0, (within.1, (record { form = form; graph = refl; rows = refl }, fits)))
+    (within.0, (within.1, record { posed = record { form = form; graph = refl; rows = refl }; fit = fits }))
 
 pub returns-clause-factor : goal.returns-clause-factor
 returns-clause-factor g c =

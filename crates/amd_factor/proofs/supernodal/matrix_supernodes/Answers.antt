@@ -8,7 +8,7 @@ use mathlib.Core.List.{not-mem-nil}
 
 pub write_rows-cut-requires : goal.write_rows-cut-requires
 write_rows-cut-requires g c κs within =
-    let p = partition_of c.requires.1.1.1 c.in_ok-found.ensures.partition in
+    let p = partition_of c.requires.1.1.matrix c.in_ok-found.ensures.partition in
     let ends = rows_end p c.len.result c.index.result.now (omega arith) c.index.ensures in
     let long : length c.deref_mut.result.now ≡ c.index.result.now = search rules in (
       (λ a h. absurd (not-mem-nil h)),
