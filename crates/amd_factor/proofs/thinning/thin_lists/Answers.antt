@@ -19,7 +19,8 @@ rows-preserved g c =
     let n : c.rows.i < length g.o.rows = omega (arith, test, long) in record {
       thinning = thinning-step g.o c.args.starts.now c.args.lists.now c.args.parent.now c.requires.earlier_are
           c.requires.parents c.rows.starts c.rows.lists c.rows.mark c.rows.i c.rows.begin c.rows.first t n c.thin_row-first.result
-          c.thin_row-first.new.lists c.thin_row-first.new.mark c.thin_row-first.ensures.thinned c.thin_row-first.ensures.marks c.thin_row-first.auto.mark;
+          c.thin_row-first.new.lists c.thin_row-first.new.mark c.thin_row-first.ensures.thinned
+          c.thin_row-first.ensures.marks c.thin_row-first.auto.mark;
     }
 
 pub returns-clause-thins : goal.returns-clause-thins
