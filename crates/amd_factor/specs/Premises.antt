@@ -103,13 +103,17 @@ pub record IsRowOf (b : Partition) (j : ℕ) (number : ℤ) (parent : List (Opti
   pub is : number ≡ pos j
   pub parents : parent ≡ b.parent
 
--- row j, which climbs, has come to supernode s
-pub record CanClimb (b : Partition) (j s : ℕ) (next mark : List ℕ) (rows : List ℤ) : Type 0 where
+-- row j, which has this number and climbs by these parents, has come to supernode s
+pub record CanClimb (b : Partition) (j : ℕ) (number : ℤ) (s : ℕ) (parent : List (Option ℕ)) (next mark : List ℕ)
+    (rows : List ℤ) : Type 0 where
+  pub row : IsRowOf b j number parent
   pub climbs : Climbs b j s next mark (naturals rows)
   pub told : AreNonNegative rows
 
 -- so it has, and it is not written there yet
-pub record CanPutRow (b : Partition) (j s : ℕ) (next mark : List ℕ) (rows : List ℤ) : Type 0 where
+pub record CanPutRow (b : Partition) (j : ℕ) (number : ℤ) (s : ℕ) (parent : List (Option ℕ)) (next mark : List ℕ)
+    (rows : List ℤ) : Type 0 where
+  pub row : IsRowOf b j number parent
   pub climbs : Climbs b j s next mark (naturals rows)
   pub new : ¬ (IsMarkedBy mark j s)
   pub told : AreNonNegative rows

@@ -6,7 +6,7 @@ ghost use Rattle.std.specs.Prelude.{ℕ, ◌≡◌, ◌<◌, ◌+◌, ◌-◌, l
 ghost use Rattle.amd_types.specs.Naturals.{naturals};
 ghost use Rattle.amd_factor.specs.Numbers.{AreNonNegative};
 ghost use Rattle.amd_factor.specs.Partitions.{Climbs, IsMarkedBy, MarkedBefore, Partition, WrittenTo};
-ghost use Rattle.amd_factor.specs.Premises.{CanAddRow, CanClimb, CanFillRows, CanPutRow, IsRowOf};
+ghost use Rattle.amd_factor.specs.Premises.{CanAddRow, CanClimb, CanFillRows, CanPutRow};
 ghost use Rattle.amd_factor.specs.Supernodes.{HoldSupernodes};
 
 use crate::neighbours::Neighbours;
@@ -36,8 +36,7 @@ fn put_row<I: Index>(
     rows: &mut [I],
 ) -> usize
     ghost b: { Partition }
-    requires row { IsRowOf b j (I.value number) parent.now }
-    requires lists { CanPutRow b j s next.old mark.old (map I.value rows.old) }
+    requires { CanPutRow b j (I.value number) s parent.now next.old mark.old (map I.value rows.old) }
     ensures told { AreNonNegative (map I.value rows.new) }
     ensures climbs { Climbs b j result next.new mark.new (naturals (map I.value rows.new)) }
     ensures higher { s < result }
@@ -61,8 +60,7 @@ fn climb<I: Index>(
     rows: &mut [I],
 )
     ghost b: { Partition }
-    requires row { IsRowOf b j (I.value number) parent.now }
-    requires lists { CanClimb b j from next.old mark.old (map I.value rows.old) }
+    requires { CanClimb b j (I.value number) from parent.now next.old mark.old (map I.value rows.old) }
     ensures told { AreNonNegative (map I.value rows.new) }
     ensures climbs { Climbs b j (slice_index b.owner j) next.new mark.new (naturals (map I.value rows.new)) }
     ensures marked { IsMarkedBy mark.new j from }

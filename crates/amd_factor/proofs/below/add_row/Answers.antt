@@ -36,15 +36,13 @@ climb-requires g c κs within =
     let e = thin-neighbour g.b.order c.args.j c.args.earlier.now c.earlier.i-index c.requires.1.thinned c.earlier-test.true in
     let place = slice_index c.args.earlier.now c.earlier.i-index in (
       within,
-      (
-        c.requires.1.row,
-        record {
-          climbs = subst (λ xs. Climbs g.b c.args.j (slice_index xs place) c.earlier.next c.earlier.mark rows) (sym c.requires.1.owners)
-              (climbs-from g.b c.args.j (slice_index g.b.owner place) c.earlier.next c.earlier.mark rows i
-              (begins g.b i.cut.columns i.cut.partition c.requires.1.row.laws place c.args.j e.0 c.requires.1.row.place e.1));
-          told = c.earlier.invariant.told;
-        },
-      ),
+      record {
+        row = c.requires.1.row;
+        climbs = subst (λ xs. Climbs g.b c.args.j (slice_index xs place) c.earlier.next c.earlier.mark rows) (sym c.requires.1.owners)
+            (climbs-from g.b c.args.j (slice_index g.b.owner place) c.earlier.next c.earlier.mark rows i
+            (begins g.b i.cut.columns i.cut.partition c.requires.1.row.laws place c.args.j e.0 c.requires.1.row.place e.1));
+        told = c.earlier.invariant.told;
+      },
     )
 
 pub earlier-preserved : goal.earlier-preserved

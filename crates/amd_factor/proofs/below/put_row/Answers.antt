@@ -10,8 +10,8 @@ use Rattle.amd_factor.proofs.below.put_row.Goals as goal
 pub offset_bounds-rows-next : goal.offset_bounds-rows-next
 offset_bounds-rows-next g c =
     let i = row-in g.b c.args.j c.args.s c.args.next.now c.args.mark.now (naturals (map g.I.Index.value c.args.rows.now))
-    c.requires.1.0.laws
-    c.requires.1.0.place c.requires.1.1.climbs c.requires.1.1.new in
+    c.requires.1.row.laws
+    c.requires.1.row.place c.requires.1.climbs c.requires.1.new in
     let n = count-length g.I.Index.value c.args.rows.now in
     offset_fits _ (length c.args.rows.now) _ (in-range _ _ _ i n) (omega arith)
 
@@ -19,40 +19,40 @@ pub bounds-rows-next : goal.bounds-rows-next
 bounds-rows-next g c =
     let n = count-length g.I.Index.value c.args.rows.now in
     let i = row-in g.b c.args.j c.args.s c.args.next.now c.args.mark.now (naturals (map g.I.Index.value c.args.rows.now))
-    c.requires.1.0.laws
-    c.requires.1.0.place c.requires.1.1.climbs c.requires.1.1.new in
+    c.requires.1.row.laws
+    c.requires.1.row.place c.requires.1.climbs c.requires.1.new in
     omega (arith, i, n)
 
 pub overflow_add-next : goal.overflow_add-next
 overflow_add-next g c =
     let n = count-length g.I.Index.value c.args.rows.now in
     let i = row-in g.b c.args.j c.args.s c.args.next.now c.args.mark.now (naturals (map g.I.Index.value c.args.rows.now))
-    c.requires.1.0.laws
-    c.requires.1.0.place c.requires.1.1.climbs c.requires.1.1.new in
+    c.requires.1.row.laws
+    c.requires.1.row.place c.requires.1.climbs c.requires.1.new in
     omega (arith, i, n)
 
 pub unwrap-requires : goal.unwrap-requires
 unwrap-requires g c =
-    subst (λ xs. IsSome (slice_index_or xs c.args.s None)) (sym c.requires.1.0.parents)
-    (told g.b c.args.j c.args.s c.args.next.now c.args.mark.now (naturals (map g.I.Index.value c.args.rows.now)) c.requires.1.0.laws
-    c.requires.1.0.place c.requires.1.1.climbs c.requires.1.1.new)
+    subst (λ xs. IsSome (slice_index_or xs c.args.s None)) (sym c.requires.1.row.parents)
+    (told g.b c.args.j c.args.s c.args.next.now c.args.mark.now (naturals (map g.I.Index.value c.args.rows.now)) c.requires.1.row.laws
+    c.requires.1.row.place c.requires.1.climbs c.requires.1.new)
 
 pub returns-clause-told : goal.returns-clause-told
 returns-clause-told g c =
-    told-more g.I.Index.value c.args.rows.now (slice_index c.args.next.now c.args.s) c.args.j c.args.number c.requires.1.0.is
-    c.requires.1.1.told
+    told-more g.I.Index.value c.args.rows.now (slice_index c.args.next.now c.args.s) c.args.j c.args.number c.requires.1.row.is
+    c.requires.1.told
 
 pub returns-clause-climbs : goal.returns-clause-climbs
 returns-clause-climbs g c =
     subst (Climbs g.b c.args.j c.unwrap.result _ _)
-    (sym (set-count g.I.Index.value c.args.rows.now (slice_index c.args.next.now c.args.s) c.args.j c.args.number c.requires.1.0.is))
-    (climbs-on g.b c.args.j c.args.s c.args.next.now c.args.mark.now (naturals (map g.I.Index.value c.args.rows.now)) c.requires.1.0.laws
-    c.requires.1.0.place
-    c.requires.1.1.climbs c.requires.1.1.new c.unwrap.result
-    (ap (λ xs. slice_index_or xs c.args.s None) (sym c.requires.1.0.parents) ∙ c.unwrap.ensures))
+    (sym (set-count g.I.Index.value c.args.rows.now (slice_index c.args.next.now c.args.s) c.args.j c.args.number c.requires.1.row.is))
+    (climbs-on g.b c.args.j c.args.s c.args.next.now c.args.mark.now (naturals (map g.I.Index.value c.args.rows.now)) c.requires.1.row.laws
+    c.requires.1.row.place
+    c.requires.1.climbs c.requires.1.new c.unwrap.result
+    (ap (λ xs. slice_index_or xs c.args.s None) (sym c.requires.1.row.parents) ∙ c.unwrap.ensures))
 
 pub returns-clause-higher : goal.returns-clause-higher
 returns-clause-higher g c =
-    higher g.b c.args.j c.args.s c.args.next.now c.args.mark.now (naturals (map g.I.Index.value c.args.rows.now)) c.requires.1.0.laws
-    c.requires.1.0.place c.requires.1.1.climbs c.requires.1.1.new c.unwrap.result
-    (ap (λ xs. slice_index_or xs c.args.s None) (sym c.requires.1.0.parents) ∙ c.unwrap.ensures)
+    higher g.b c.args.j c.args.s c.args.next.now c.args.mark.now (naturals (map g.I.Index.value c.args.rows.now)) c.requires.1.row.laws
+    c.requires.1.row.place c.requires.1.climbs c.requires.1.new c.unwrap.result
+    (ap (λ xs. slice_index_or xs c.args.s None) (sym c.requires.1.row.parents) ∙ c.unwrap.ensures)
