@@ -16,17 +16,26 @@ use Rattle.amd_listing.specs.Placing.{AreBlocks, IsListedAt, PivotsPlaced}
 use Rattle.amd_listing.proofs.Placed.{placed_same, placed_here, placed_there}
 use Rattle.amd_listing.proofs.BlockPlaces.{other_of, other_listed, last_listed, listing_long, pivot_at}
 
+-- what the pass writes: the next place of each block, and of what is behind the blocks, and the listing with its inverse
+pub record Putting : Type 0 where
+  pub place : List ℕ
+  pub next : ℕ
+  pub p : List ℤ
+  pub q : List ℤ
+
+abbrev pub putting : List ℕ → ℕ → List ℤ → List ℤ → Putting
+putting place next p q = record { place = place; next = next; p = p; q = q }
+
 -- the pass has come to row v: each block is filled as far as its rows below v, and so is the part behind the blocks;
 -- the elements have been put before
-pub record Passed (nv : List ℤ) (starts : List ℕ) (end : ℕ) (home : ℕ → Home) (elements place : List ℕ) (next : ℕ) (p q : List ℤ) (v : ℕ)
-    : Type 0 where
-  pub places : (e : ℕ) → 0 < size_of nv e → num place e ≡ num starts e + count_below v (other_of home e)
-  pub next_is : next ≡ end + count_below v (λ w. is_last (home w))
-  pub placed : (w : ℕ) → w < length nv → (w < v) ⊎ (0 < size_of nv w) → IsListedAt (listing_of (length nv) home elements) p q w
+pub record Passed (nv : List ℤ) (starts : List ℕ) (end : ℕ) (home : ℕ → Home) (elements : List ℕ) (now : Putting) (v : ℕ) : Type 0 where
+  pub places : (e : ℕ) → 0 < size_of nv e → num now.place e ≡ num starts e + count_below v (other_of home e)
+  pub next_is : now.next ≡ end + count_below v (λ w. is_last (home w))
+  pub placed : (w : ℕ) → w < length nv → (w < v) ⊎ (0 < size_of nv w) → IsListedAt (listing_of (length nv) home elements) now.p now.q w
 
 pub passed_same : (nv : List ℤ) (starts : List ℕ) (end : ℕ) (home : ℕ → Home) (elements place place' : List ℕ) (next next' : ℕ)
     (p p' q q' : List ℤ) (v : ℕ) → place' ≡ place → next' ≡ next → p' ≡ p → q' ≡ q →
-    Passed nv starts end home elements place next p q v → Passed nv starts end home elements place' next' p' q' v
+    Passed nv starts end home elements (putting place next p q) v → Passed nv starts end home elements (putting place' next' p' q') v
 passed_same nv starts end home elements place place' next next' p p' q q' v e f g h passed = record {
   places = λ k some. ap (λ l. num l k) e ∙ passed.places k some;
   next_is = f ∙ passed.next_is;
@@ -35,7 +44,7 @@ passed_same nv starts end home elements place place' next next' p p' q q' v e f 
 
 module _ (link nv : List ℤ) (starts : List ℕ) (end : ℕ) (home : ℕ → Home) (elements : List ℕ)
     (b : AreBlocks link nv starts end home elements) where
-  pub passed_none : (p q : List ℤ) → PivotsPlaced nv starts p q → Passed nv starts end home elements starts end p q 0
+  pub passed_none : (p q : List ℤ) → PivotsPlaced nv starts p q → Passed nv starts end home elements (putting starts end p q) 0
   unfolding count_below sum_below
   passed_none p q pivots = record {
     places = λ e some. omega arith;
@@ -49,9 +58,9 @@ module _ (link nv : List ℤ) (starts : List ℕ) (end : ℕ) (home : ℕ → Ho
     ];
   }
 
-  module _ (place : List ℕ) (next : ℕ) (p q : List ℤ) (v : ℕ) (passed : Passed nv starts end home elements place next p q v) where
+  module _ (place : List ℕ) (next : ℕ) (p q : List ℤ) (v : ℕ) (passed : Passed nv starts end home elements (putting place next p q) v) where
     -- an element is passed over
-    pub passed_element : 0 < size_of nv v → Passed nv starts end home elements place next p q (v + 1)
+    pub passed_element : 0 < size_of nv v → Passed nv starts end home elements (putting place next p q) (v + 1)
     unfolding block_at is_last
     passed_element some = let is = b.led.elements v some in record {
       places = λ e sized. passed.places e sized
@@ -104,7 +113,7 @@ module _ (link nv : List ℤ) (starts : List ℕ) (end : ℕ) (home : ℕ → Ho
 
     -- a row held last is put behind the others
     pub passed_last : home v ≡ Last → v < length nv → length p ≡ length nv → length q ≡ length nv →
-        Passed nv starts end home elements place (next + 1) (set p next (pos v)) (set q v (pos next)) (v + 1)
+        Passed nv starts end home elements (putting place (next + 1) (set p next (pos v)) (set q v (pos next))) (v + 1)
     unfolding block_at is_last
     passed_last is small p_long q_long = record {
       places = λ e sized. passed.places e sized
@@ -118,8 +127,8 @@ module _ (link nv : List ℤ) (starts : List ℕ) (end : ℕ) (home : ℕ → Ho
     -- another row of a block is put behind the others of the block
     pub passed_other : (e : ℕ) → home v ≡ Gone e → 0 < size_of nv e → v ≢ e → v < length nv → e < length place →
         length p ≡ length nv → length q ≡ length nv →
-        Passed nv starts end home elements (set place e (num place e + 1)) next (set p (num place e) (pos v))
-        (set q v (pos (num place e))) (v + 1)
+        Passed nv starts end home elements
+        (putting (set place e (num place e + 1)) next (set p (num place e) (pos v)) (set q v (pos (num place e)))) (v + 1)
     unfolding block_at is_last
     passed_other e is some ne small room p_long q_long = record {
       places = λ f sized. elim (cases_eq f e) [

@@ -101,16 +101,27 @@ left_kept child child' sibling stack stack' (suc h) left l s f =
           (λ v k. on v (has_right v below (e ∷ after) (has_tail v e after k))),
     )
 
+-- what a walk writes: the lists of children, of numbers and of nodes on the way, how many of these there are, and the next number
+pub record Walking : Type 0 where
+  pub child : List ℤ
+  pub order : List ℤ
+  pub stack : List ℤ
+  pub height : ℕ
+  pub next : ℕ
+
+abbrev pub walking : List ℤ → List ℤ → List ℤ → ℕ → ℕ → Walking
+walking child order stack height next = record { child = child; order = order; stack = stack; height = height; next = next }
+
 -- how far the walk has come: the first part of the listing is numbered, and the second left
-pub record IsWalk (k : ℕ) (listing : List ℕ) (child_before sibling order_before child order stack : List ℤ) (height next : ℕ) : Type 0 where
+pub record IsWalk (k : ℕ) (listing : List ℕ) (child_before sibling order_before : List ℤ) (now : Walking) : Type 0 where
   pub done : List ℕ
   pub left : List ℕ
   pub parts : listing ≡ done ++ left
-  pub count : next ≡ k + length done
-  pub path : IsLeft child sibling stack height left
-  pub numbered : NumbersFrom k done order
-  pub order_stays : StaysOutside listing order_before order
-  pub child_stays : StaysOutside listing child_before child
+  pub count : now.next ≡ k + length done
+  pub path : IsLeft now.child sibling now.stack now.height left
+  pub numbered : NumbersFrom k done now.order
+  pub order_stays : StaysOutside listing order_before now.order
+  pub child_stays : StaysOutside listing child_before now.child
 
 -- a link of a listing ends a list or names a node
 links_cases : {child sibling : List ℤ} {z : ℤ} {xs : List ℕ} → ListsLinks child sibling z xs →
@@ -134,7 +145,7 @@ tree_size {root = root} t = let e = ap length t.is ∙ length-append t.below (ro
 -- the walk at its beginning
 pub walk_starts : (k root : ℕ) (listing : List ℕ) (child sibling order stack : List ℤ) → ListsTree child sibling root listing →
     0 < length stack →
-    IsWalk k listing child sibling order child order (set stack 0 (pos root)) 1 k
+    IsWalk k listing child sibling order (walking child order (set stack 0 (pos root)) 1 k)
 walk_starts k root listing child sibling order stack tree room = record {
   done = [];
   left = listing;
@@ -148,7 +159,7 @@ walk_starts k root listing child sibling order stack tree room = record {
 
 -- the walk at its end
 pub walk_ends : {k : ℕ} {listing : List ℕ} {child_before sibling order_before child order stack : List ℤ} {height next : ℕ} →
-    IsWalk k listing child_before sibling order_before child order stack height next → height ≡ 0 →
+    IsWalk k listing child_before sibling order_before (walking child order stack height next) → height ≡ 0 →
     (next ≡ k + length listing) × NumbersFrom k listing order
 walk_ends {k} {listing} {sibling = sibling} {child = child} {order = order} {stack = stack} w q =
     let empty : w.left ≡ [] = subst (λ h. IsLeft child sibling stack h w.left) q w.path in
@@ -156,7 +167,7 @@ walk_ends {k} {listing} {sibling = sibling} {child = child} {order = order} {sta
     (w.count ∙ ap (λ m. k + length m) all, subst (λ m. NumbersFrom k m order) all w.numbered)
 
 module _ (k : ℕ) (listing : List ℕ) (child_before sibling order_before child order stack : List ℤ) (height next : ℕ)
-    (w : IsWalk k listing child_before sibling order_before child order stack height next) (i : ℕ) (above : height ≡ suc i) where
+    (w : IsWalk k listing child_before sibling order_before (walking child order stack height next)) (i : ℕ) (above : height ≡ suc i) where
   path : IsLeft child sibling stack (suc i) w.left
   path = subst (λ h. IsLeft child sibling stack h w.left) above w.path
 
@@ -202,7 +213,7 @@ module _ (k : ℕ) (listing : List ℕ) (child_before sibling order_before child
 
     -- the node on top is numbered, where its link leads no further
     pub walk_up : at child e ≡ negsuc 0 → e < length order →
-        IsWalk k listing child_before sibling order_before child (set order e (pos next)) stack i (next + 1)
+        IsWalk k listing child_before sibling order_before (walking child (set order e (pos next)) stack i (next + 1))
     walk_up q room =
         let after = path.2 in
         let none_below : path.1 ≡ [] = links_none path.5 (ap (at child) (sym is_top) ∙ q) in
@@ -239,7 +250,8 @@ module _ (k : ℕ) (listing : List ℕ) (child_before sibling order_before child
 
     -- the first child that is left is put on top, and the next one is then the first
     pub walk_down : (c : ℕ) → at child e ≡ pos c → e < length child → height < length stack →
-        IsWalk k listing child_before sibling order_before (set child e (at sibling c)) order (set stack height (pos c)) (height + 1) next
+        IsWalk k listing child_before sibling order_before
+        (walking (set child e (at sibling c)) order (set stack height (pos c)) (height + 1) next)
     walk_down c q room high =
         let below = path.1 in let after = path.2 in
         let child' = set child e (at sibling c) in let stack' = set stack height (pos c) in
@@ -289,12 +301,12 @@ module _ (k : ℕ) (listing : List ℕ) (child_before sibling order_before child
         }
 
 -- the lists of the walk are as long as at its beginning, and how far it has come, whatever the listing
-pub record IsGoing (k root : ℕ) (child_before sibling order_before stack_before child order stack : List ℤ) (height next : ℕ) : Type 0 where
-  pub child_room : length child ≡ length child_before
-  pub order_room : length order ≡ length order_before
-  pub stack_room : length stack ≡ length stack_before
+pub record IsGoing (k root : ℕ) (child_before sibling order_before stack_before : List ℤ) (now : Walking) : Type 0 where
+  pub child_room : length now.child ≡ length child_before
+  pub order_room : length now.order ≡ length order_before
+  pub stack_room : length now.stack ≡ length stack_before
   pub walk : (listing : List ℕ) → ListsTree child_before sibling root listing →
-      IsWalk k listing child_before sibling order_before child order stack height next
+      IsWalk k listing child_before sibling order_before now
 
 -- a turn of the walk at the node on top of the stack: what it reads and writes is in the lists
 pub record IsTurn (sibling child order stack : List ℤ) (height next nn i e : ℕ) : Type 0 where
@@ -310,7 +322,7 @@ pub record IsTurn (sibling child order stack : List ℤ) (height next nn i e : �
 
 pub turn : {k root nn : ℕ} {child_before sibling order_before stack_before child order stack : List ℤ} {height next : ℕ} →
     FitsTree child_before sibling order_before stack_before root k nn →
-    IsGoing k root child_before sibling order_before stack_before child order stack height next →
+    IsGoing k root child_before sibling order_before stack_before (walking child order stack height next) →
     0 < height → (e : ℕ) × (at stack (height - 1) ≡ pos e) × IsTurn sibling child order stack height next nn (height - 1) e
 turn {k} {root} {nn} {child_before} {sibling} {order_before} {stack_before} {child} {order} {stack} {height} {next} f g some =
     let above : height ≡ suc (height - 1) = omega arith in
@@ -348,7 +360,7 @@ turn {k} {root} {nn} {child_before} {sibling} {order_before} {stack_before} {chi
 -- the same, where the stack's link was read
 pub turn_at : {k root nn : ℕ} {child_before sibling order_before stack_before child order stack : List ℤ} {height next : ℕ} →
     FitsTree child_before sibling order_before stack_before root k nn →
-    IsGoing k root child_before sibling order_before stack_before child order stack height next →
+    IsGoing k root child_before sibling order_before stack_before (walking child order stack height next) →
     0 < height → (e : ℕ) → Some e ≡ named (at stack (height - 1)) → IsTurn sibling child order stack height next nn (height - 1) e
 turn_at {nn = nn} {sibling = sibling} {child = child} {order = order} {stack = stack} {height = height} {next = next} f g some e q =
     let t = turn f g some in
