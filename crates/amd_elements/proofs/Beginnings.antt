@@ -8,7 +8,7 @@ use Rattle.amd_model.specs.Quotient.{has}
 use Rattle.amd_words.specs.Words.{num, is_place, word, start, rows, rows_in, is_negative, size_of, in_front, Names}
 use Rattle.amd_elements.specs.Element.{Builds}
 use Rattle.amd_lists.specs.Layout.{has_list, end_of, Layout}
-use Rattle.amd_elements.specs.Making.{Makes}
+use Rattle.amd_elements.proofs.Made.{Makes}
 use Rattle.amd_elements.specs.Room.{Rooms}
 use Rattle.amd_elements.specs.Beginning.{Begins}
 use Rattle.amd_elements.specs.Effects.{TakesPivot}

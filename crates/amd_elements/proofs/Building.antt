@@ -1,4 +1,5 @@
 -- The list of a new element, gathered from the lists of its pivot and of the pivot's elements.
+use Rattle.amd_lists.specs.Layout.{list_in}
 use Rattle.std.proofs.Common.{ℕ, ℤ, Bool, true, false, List, [], ◌++◌, ◌≡◌, ◌<◌, ◌≤◌, ◌+◌, ◌-◌, ◌||◌, inl, inr, refl, sym, subst}
 use Rattle.std.proofs.Common.{ap, ◌∙◌, arith, length, fold, flat_map, sum_by, ◌^◌}
 use Rattle.std.specs.Prelude.{nat_lt, ◌==◌}
@@ -12,7 +13,7 @@ use Rattle.amd_round_laws.specs.Rounds.{firsts}
 use Rattle.amd_round_laws.proofs.Lists.Named.{sum_named, filter_named}
 use Rattle.amd_round_laws.proofs.Lists.Added.{same_adds, adds_marks}
 use Rattle.amd_lists.specs.Spans.{IsSpan}
-use Rattle.amd_elements.specs.Element.{grown, Gathers, IsGathering, elements_at, variables_at, members_at, front_of, Builds}
+use Rattle.amd_elements.specs.Element.{grown, Gathers, IsGathering, elements_at, variables_at, front_of, Builds}
 use Rattle.amd_elements.specs.Premises.{CanGather}
 use Rattle.amd_elements.specs.Room.{named_around}
 use Rattle.amd_words.proofs.RowLists.{rows_length}
@@ -134,7 +135,7 @@ module _ {free : ℕ} {all taken : List ℕ} {iw nv iw1 nv1 : List ℤ} {end tot
 module _ (iw nv nv1 pe : List ℤ) (len : List ℕ) (pivot m free : ℕ) (sizes : (i : ℕ) → size_of nv1 i ≡ size_of nv i)
     (front1 : (i : ℕ) → in_front nv1 i ≡ (in_front nv i || pivot == i)) (clear : (j : ℕ) → in_front nv j ≡ false) where
   abbrev f : ℕ → List ℕ
-  f e = classes nv (members_at iw pe len e)
+  f e = classes nv (list_in iw pe len e)
 
   abbrev vs : List ℕ
   vs = classes nv (variables_at iw pe len pivot m)

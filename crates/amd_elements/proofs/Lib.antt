@@ -1,4 +1,5 @@
 -- Lemmas on the making of an element: its rows gathered, the room for them, and the lists that stay as they were.
+pub mod Made
 pub mod ListsAround
 pub mod Gathering
 pub mod Building

@@ -1,11 +1,12 @@
 -- The lists around a pivot, one after another: where they stand, and what they name together.
+use Rattle.amd_lists.specs.Layout.{list_in}
 use Rattle.std.proofs.Common.{ℕ, ℤ, true, List, [], ◌∷◌, ◌++◌, ◌≡◌, ◌<◌, ◌≤◌, ◌+◌, ◌-◌, refl, sym, ap, subst, ◌∙◌, arith, length, flat_map}
 use Rattle.std.proofs.Common.{append_assoc, append-nil}
 use Rattle.std.specs.Prelude.{nat_lt}
 use Rattle.std.proofs.lemmas.List.Elements.{filter-append}
 use Rattle.std.proofs.lemmas.List.Concat.{flat_map-append}
 use Rattle.amd_words.specs.Words.{num, is_place, place, word, start, size_of, classes, rows, Names}
-use Rattle.amd_elements.specs.Element.{elements_at, variables_at, members_at, IsListLaid, ListsLaid}
+use Rattle.amd_elements.specs.Element.{elements_at, variables_at, IsListLaid, ListsLaid}
 use Rattle.amd_elements.specs.Room.{named_around}
 use Rattle.amd_elements.specs.Visiting.{Visit, Visited, visited, CanTake, Takes}
 use Rattle.amd_elements.specs.Premises.{HasListsAround}
@@ -28,10 +29,10 @@ classes_flat nv f [] = refl
 classes_flat nv f (x ∷ xs) = classes_append nv (f x) (flat_map f xs) ∙ ap (λ l. classes nv (f x) ++ l) (classes_flat nv f xs)
 
 pub classes_around : (iw nv pe : List ℤ) (len : List ℕ) (pivot m : ℕ) → classes nv (named_around iw pe len pivot m)
-    ≡ flat_map (λ e. classes nv (members_at iw pe len e)) (elements_at iw pe pivot m) ++ classes nv (variables_at iw pe len pivot m)
+    ≡ flat_map (λ e. classes nv (list_in iw pe len e)) (elements_at iw pe pivot m) ++ classes nv (variables_at iw pe len pivot m)
 classes_around iw nv pe len pivot m =
-    classes_append nv (flat_map (members_at iw pe len) (elements_at iw pe pivot m)) (variables_at iw pe len pivot m)
-    ∙ ap (λ l. l ++ classes nv (variables_at iw pe len pivot m)) (classes_flat nv (members_at iw pe len) (elements_at iw pe pivot m))
+    classes_append nv (flat_map (list_in iw pe len) (elements_at iw pe pivot m)) (variables_at iw pe len pivot m)
+    ∙ ap (λ l. l ++ classes nv (variables_at iw pe len pivot m)) (classes_flat nv (list_in iw pe len) (elements_at iw pe pivot m))
 
 module _ (iw pe : List ℤ) (len : List ℕ) (n end pivot m : ℕ) (within : m ≤ num len pivot) (laid : ListsLaid iw pe len n end pivot m) where
   -- the words of the pivot
@@ -103,20 +104,20 @@ module _ {pivot m : ℕ} {iw nv pe : List ℤ} {len : List ℕ} {end : ℕ} (lis
         pub list_names : Names (length nv) iw' first count
         list_names = still_names first count list_before (names_at iw refl (sym first_is) (sym count_is) element_laid.2)
 
-        list_next : flat_map (members_at iw pe len) (rows iw (start pe pivot) (p - from)) ++ rows iw' first count
-            ≡ flat_map (members_at iw pe len) (rows iw (start pe pivot) (p + 1 - from))
-        list_next = ap (λ l. flat_map (members_at iw pe len) (rows iw (start pe pivot) (p - from)) ++ l)
-            (still first count list_before ∙ rows_at iw first_is count_is ∙ ap (members_at iw pe len) row_is)
-            ∙ sym (flat_next (members_at iw pe len) iw (start pe pivot) (p - from))
-            ∙ ap (λ k. flat_map (members_at iw pe len) (rows iw (start pe pivot) k)) (sym (next_place after))
+        list_next : flat_map (list_in iw pe len) (rows iw (start pe pivot) (p - from)) ++ rows iw' first count
+            ≡ flat_map (list_in iw pe len) (rows iw (start pe pivot) (p + 1 - from))
+        list_next = ap (λ l. flat_map (list_in iw pe len) (rows iw (start pe pivot) (p - from)) ++ l)
+            (still first count list_before ∙ rows_at iw first_is count_is ∙ ap (list_in iw pe len) row_is)
+            ∙ sym (flat_next (list_in iw pe len) iw (start pe pivot) (p - from))
+            ∙ ap (λ k. flat_map (list_in iw pe len) (rows iw (start pe pivot) k)) (sym (next_place after))
 
         abbrev pub list_rest : List ℕ
-        list_rest = flat_map (members_at iw pe len) (rows iw (start pe pivot + (p + 1 - from)) (m - (p + 1 - from)))
+        list_rest = flat_map (list_in iw pe len) (rows iw (start pe pivot + (p + 1 - from)) (m - (p + 1 - from)))
             ++ variables_at iw pe len pivot m
 
         list_split : named_around iw pe len pivot m
-            ≡ (flat_map (members_at iw pe len) (rows iw (start pe pivot) (p - from)) ++ rows iw' first count) ++ list_rest
-        list_split = let k : ℕ = p + 1 - from in let f : (ℕ → List ℕ) = members_at iw pe len in
+            ≡ (flat_map (list_in iw pe len) (rows iw (start pe pivot) (p - from)) ++ rows iw' first count) ++ list_rest
+        list_split = let k : ℕ = p + 1 - from in let f : (ℕ → List ℕ) = list_in iw pe len in
             let e : m ≡ k + (m - k) = omega (arith, after, there) in
             ap (λ c. flat_map f (rows iw (start pe pivot) c) ++ variables_at iw pe len pivot m) e
             ∙ ap (λ xs. flat_map f xs ++ variables_at iw pe len pivot m) (rows_both iw (start pe pivot) k (m - k))
@@ -128,12 +129,12 @@ module _ {pivot m : ℕ} {iw nv pe : List ℤ} {len : List ℕ} {end : ℕ} (lis
 
         -- a visit comes to that list, and goes on behind it
         module _ {V : Type 0} (holds : Visit V) (initial : Visited V) {nv' : List ℤ} {visitor : V} (held : holds end
-            (named_around iw pe len pivot m) (flat_map (members_at iw pe len) (rows iw (start pe pivot) (p - from))) initial
+            (named_around iw pe len pivot m) (flat_map (list_in iw pe len) (rows iw (start pe pivot) (p - from))) initial
             (visited iw' nv' visitor)) where
           pub list_visit : CanTake holds end (rows iw' first count) (visited iw' nv' visitor)
           list_visit = record {
             all = named_around iw pe len pivot m;
-            taken = flat_map (members_at iw pe len) (rows iw (start pe pivot) (p - from));
+            taken = flat_map (list_in iw pe len) (rows iw (start pe pivot) (p - from));
             rest = list_rest;
             first = initial;
             split = list_split;
@@ -141,7 +142,7 @@ module _ {pivot m : ℕ} {iw nv pe : List ℤ} {len : List ℕ} {end : ℕ} (lis
           }
 
           pub list_visited : {after : Visited V} → Takes holds end (rows iw' first count) (visited iw' nv' visitor) after →
-              holds end (named_around iw pe len pivot m) (flat_map (members_at iw pe len) (rows iw (start pe pivot) (p + 1 - from)))
+              holds end (named_around iw pe len pivot m) (flat_map (list_in iw pe len) (rows iw (start pe pivot) (p + 1 - from)))
               initial after
           unfolding list_visit
           list_visited {after} takes = subst (λ xs. holds end (named_around iw pe len pivot m) xs initial after) list_next
@@ -159,24 +160,24 @@ module _ {pivot m : ℕ} {iw nv pe : List ℤ} {len : List ℕ} {end : ℕ} (lis
     rest_names = still_names (from + m) (count - m) rest_before
         (names_at iw refl (sym (ap (λ s. s + m) from_is)) (sym (ap (λ c. c - m) count_is)) own_rest.1)
 
-    rest_next : flat_map (members_at iw pe len) (elements_at iw pe pivot m) ++ rows iw' (from + m) (count - m)
+    rest_next : flat_map (list_in iw pe len) (elements_at iw pe pivot m) ++ rows iw' (from + m) (count - m)
         ≡ named_around iw pe len pivot m
-    rest_next = ap (λ l. flat_map (members_at iw pe len) (elements_at iw pe pivot m) ++ l) (still (from + m) (count - m) rest_before
+    rest_next = ap (λ l. flat_map (list_in iw pe len) (elements_at iw pe pivot m) ++ l) (still (from + m) (count - m) rest_before
         ∙ rows_at iw (ap (λ s. s + m) from_is) (ap (λ c. c - m) count_is))
 
     rest_split : named_around iw pe len pivot m
-        ≡ (flat_map (members_at iw pe len) (elements_at iw pe pivot m) ++ rows iw' (from + m) (count - m)) ++ []
-    rest_split = sym rest_next ∙ sym (append-nil (flat_map (members_at iw pe len) (elements_at iw pe pivot m)
+        ≡ (flat_map (list_in iw pe len) (elements_at iw pe pivot m) ++ rows iw' (from + m) (count - m)) ++ []
+    rest_split = sym rest_next ∙ sym (append-nil (flat_map (list_in iw pe len) (elements_at iw pe pivot m)
         ++ rows iw' (from + m) (count - m)))
 
     -- a visit comes to them, and ends behind them
     module _ {V : Type 0} (holds : Visit V) (initial : Visited V) {nv' : List ℤ} {visitor : V} (held : holds end
-        (named_around iw pe len pivot m) (flat_map (members_at iw pe len) (elements_at iw pe pivot m)) initial
+        (named_around iw pe len pivot m) (flat_map (list_in iw pe len) (elements_at iw pe pivot m)) initial
         (visited iw' nv' visitor)) where
       pub rest_visit : CanTake holds end (rows iw' (from + m) (count - m)) (visited iw' nv' visitor)
       rest_visit = record {
         all = named_around iw pe len pivot m;
-        taken = flat_map (members_at iw pe len) (elements_at iw pe pivot m);
+        taken = flat_map (list_in iw pe len) (elements_at iw pe pivot m);
         rest = [];
         first = initial;
         split = rest_split;

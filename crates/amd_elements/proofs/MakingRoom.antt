@@ -12,9 +12,9 @@ use Rattle.amd_model.proofs.Quotient.Lists.{has_append, flat_gives}
 use Rattle.amd_round_laws.specs.Rounds.{firsts}
 use Rattle.amd_round_laws.proofs.Lists.Named.{flat_same}
 use Rattle.amd_words.specs.Words.{num, place, word, start, classes}
-use Rattle.amd_elements.specs.Element.{front_of, elements_at, variables_at, members_at, ListsLaid}
-use Rattle.amd_lists.specs.Layout.{has_list, elements_in, Layout}
-use Rattle.amd_elements.specs.Compaction.{Packs}
+use Rattle.amd_elements.specs.Element.{front_of, elements_at, variables_at, ListsLaid}
+use Rattle.amd_lists.specs.Layout.{has_list, elements_in, Layout, list_in}
+use Rattle.amd_elements.proofs.Moves.{Packs}
 use Rattle.amd_elements.specs.Pivots.{built_front}
 use Rattle.amd_elements.specs.Room.{Rooms, named_around}
 use Rattle.amd_lists.specs.Workspaces.{Workspace}
@@ -65,9 +65,9 @@ front_few n iw nv pe len free me m within laid = once_few n (front_of iw nv pe l
     (λ j h. small j (front_named iw nv pe len me m j h))
   where
     small : (j : ℕ) → has (named_around iw pe len me m) j ≡ true → j < n
-    small j h = elim (or_cases (has (flat_map (members_at iw pe len) (elements_at iw pe me m)) j) (has (variables_at iw pe len me m) j)
-        (sym (has_append (flat_map (members_at iw pe len) (elements_at iw pe me m)) (variables_at iw pe len me m) j) ∙ h)) [
-          | inl a ↦ (let e = flat_gives (members_at iw pe len) (elements_at iw pe me m) j a in
+    small j h = elim (or_cases (has (flat_map (list_in iw pe len) (elements_at iw pe me m)) j) (has (variables_at iw pe len me m) j)
+        (sym (has_append (flat_map (list_in iw pe len) (elements_at iw pe me m)) (variables_at iw pe len me m) j) ∙ h)) [
+          | inl a ↦ (let e = flat_gives (list_in iw pe len) (elements_at iw pe me m) j a in
               names_below n iw (start pe e.0) (num len e.0) j (laid.1 e.0 e.1).2 e.2)
           | inr b ↦ names_below n iw (start pe me + m) (num len me - m) j (own_variables iw pe len n free me m within laid).1 b
         ]
@@ -84,13 +84,13 @@ module _ {n : ℕ} {p v : Workspace} (y : Layout n p.iw p.pe p.e_len p.len p.fre
 
   pub rooms_front : front_of v.iw p.nv v.pe p.len me (place (word p.e_len me)) ≡ built_front p me
   rooms_front = let m : ℕ = place (word p.e_len me) in let skip : (ℕ → Bool) = λ x. x == me in
-      ap (λ es. firsts skip (flat_map (λ e. classes p.nv (members_at v.iw v.pe p.len e)) es
+      ap (λ es. firsts skip (flat_map (λ e. classes p.nv (list_in v.iw v.pe p.len e)) es
       ++ classes p.nv (variables_at v.iw v.pe p.len me m)))
       rooms_elements
       ∙ ap (λ xs. firsts skip (xs ++ classes p.nv (variables_at v.iw v.pe p.len me m)))
-      (flat_same (λ e. classes p.nv (members_at v.iw v.pe p.len e)) (λ e. classes p.nv (members_at p.iw p.pe p.len e))
+      (flat_same (λ e. classes p.nv (list_in v.iw v.pe p.len e)) (λ e. classes p.nv (list_in p.iw p.pe p.len e))
       (elements_in p.iw p.pe p.e_len me)
       (λ e k. ap (classes p.nv) (reads_list p.iw p.pe p.e_len p.len v.iw v.pe p.e_len p.len e (h.reads e (elements e k)))))
-      ∙ ap (λ xs. firsts skip (flat_map (λ e. classes p.nv (members_at p.iw p.pe p.len e)) (elements_in p.iw p.pe p.e_len me)
+      ∙ ap (λ xs. firsts skip (flat_map (λ e. classes p.nv (list_in p.iw p.pe p.len e)) (elements_in p.iw p.pe p.e_len me)
       ++ classes p.nv xs))
       (reads_variables p.iw p.pe p.e_len p.len v.iw v.pe p.e_len p.len me (h.reads me listed) (y.parts me listed))

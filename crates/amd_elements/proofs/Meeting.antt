@@ -1,4 +1,5 @@
 -- The classes of a new element are met one by one, and unmarked again.
+use Rattle.amd_lists.specs.Layout.{list_in}
 use Rattle.amd_model.proofs.Counting.Below.{clash}
 use Rattle.std.proofs.Common.{ℕ, ℤ, Bool, true, false, List, [], ◌∷◌, ◌++◌, ◌≡◌, ◌+◌, ◌-◌, ◌&&◌, ◌||◌, not, inl, inr, refl, sym}
 use Rattle.std.proofs.Common.{subst, ap, ◌∙◌, arith, length, fold, flat_map, pos, negsuc}
@@ -16,7 +17,7 @@ use Rattle.amd_round_laws.specs.Rounds.{firsts}
 use Rattle.amd_round_laws.proofs.Lists.Added.{same_adds, adds_marks}
 use Rattle.amd_round_laws.proofs.Fronts.Gathered.{firsts_gives}
 use Rattle.amd_words.specs.Words.{place, word, size_of, in_front, classes, rows, rows_in, is_negative}
-use Rattle.amd_elements.specs.Element.{elements_at, variables_at, members_at, front_of}
+use Rattle.amd_elements.specs.Element.{elements_at, variables_at, front_of}
 use Rattle.amd_elements.specs.Room.{Meets, Unmarks, IsMeeting, IsRemainder, named_around}
 use Rattle.amd_words.proofs.WordMarks.{both_not}
 use Rattle.amd_words.proofs.RowLists.{rows_more}
@@ -222,15 +223,15 @@ module _ (iw nv nv1 pe : List ℤ) (len : List ℕ) (pivot m : ℕ) (sizes : (i 
 pub front_named : (iw nv pe : List ℤ) (len : List ℕ) (pivot m j : ℕ) → has (front_of iw nv pe len pivot m) j ≡ true →
     has (named_around iw pe len pivot m) j ≡ true
 front_named iw nv pe len pivot m j h =
-    let skip : (ℕ → Bool) = λ x. x == pivot in let f : (ℕ → List ℕ) = λ e. classes nv (members_at iw pe len e) in
+    let skip : (ℕ → Bool) = λ x. x == pivot in let f : (ℕ → List ℕ) = λ e. classes nv (list_in iw pe len e) in
     let xs : List ℕ = flat_map f (elements_at iw pe pivot m) in let ys : List ℕ = classes nv (variables_at iw pe len pivot m) in
     let named : has (xs ++ ys) j ≡ true = (firsts_gives skip (xs ++ ys) (front_of iw nv pe len pivot m) refl j h).0 in
-    has_append (flat_map (members_at iw pe len) (elements_at iw pe pivot m)) (variables_at iw pe len pivot m) j
+    has_append (flat_map (list_in iw pe len) (elements_at iw pe pivot m)) (variables_at iw pe len pivot m) j
     ∙ elim (or_cases (has xs j) (has ys j) (sym (has_append xs ys j) ∙ named)) [
-      | inl a ↦ or_left (has (flat_map (members_at iw pe len) (elements_at iw pe pivot m)) j) _
-          (let e = flat_gives f (elements_at iw pe pivot m) j a in flat_from (members_at iw pe len) (elements_at iw pe pivot m) j e.0 e.1
-          (filter_gives (λ i. nat_lt 0 (size_of nv i)) (members_at iw pe len e.0) j e.2).0)
-      | inr b ↦ or_right (has (flat_map (members_at iw pe len) (elements_at iw pe pivot m)) j) (has (variables_at iw pe len pivot m) j)
+      | inl a ↦ or_left (has (flat_map (list_in iw pe len) (elements_at iw pe pivot m)) j) _
+          (let e = flat_gives f (elements_at iw pe pivot m) j a in flat_from (list_in iw pe len) (elements_at iw pe pivot m) j e.0 e.1
+          (filter_gives (λ i. nat_lt 0 (size_of nv i)) (list_in iw pe len e.0) j e.2).0)
+      | inr b ↦ or_right (has (flat_map (list_in iw pe len) (elements_at iw pe pivot m)) j) (has (variables_at iw pe len pivot m) j)
           (filter_gives (λ i. nat_lt 0 (size_of nv i)) (variables_at iw pe len pivot m) j b).0
     ]
 

@@ -6,13 +6,24 @@ use Rattle.std.proofs.lemmas.List.{get_or_past}
 use Rattle.amd_model.specs.Below.{sum_below}
 use Rattle.amd_model.proofs.Counting.Below.{sum_same, sum_zero, sum_at}
 use Rattle.amd_words.specs.Words.{num, is_place, place, flip_of, word, start}
-use Rattle.amd_lists.specs.Layout.{Layout, has_list, end_of}
-use Rattle.amd_elements.specs.Compaction.{Spaced, Compacts, Moves, Packs}
+use Rattle.amd_lists.specs.Layout.{Layout, ReadsSame, has_list, end_of, live_words}
+use Rattle.amd_elements.specs.Compaction.{Spaced, Compacts, Moves}
 use Rattle.amd_lists.specs.Workspaces.{Workspace}
 use Rattle.amd_lists.proofs.Frames.{has_parts, has_from, has_same}
 use Rattle.amd_words.proofs.Signs.{mark_no_place, place_of, is_place_of}
 use Rattle.amd_elements.proofs.MoveSigns.{flip_same, flip_some}
 use Rattle.amd_elements.proofs.MarkedLists.{same_start, start_below, Marked}
+
+-- from the workspace p to v the lists moved so that no gap is between them, and each reads as before
+pub record Packs (n : ℕ) (p v : Workspace) : Type 0 where
+  pub long : length v.iw ≡ length p.iw
+  pub p_long : length v.pe ≡ length p.pe
+  pub listed : (j : ℕ) → has_list v.pe p.len j ≡ has_list p.pe p.len j
+  pub reads : (j : ℕ) → has_list p.pe p.len j ≡ true → ReadsSame p.iw p.pe p.e_len p.len v.iw v.pe p.e_len p.len j
+  pub others : (j : ℕ) → has_list p.pe p.len j ≡ false → word v.pe j ≡ word p.pe j
+  pub laid : Layout n v.iw v.pe p.e_len p.len v.free
+  pub count : v.free ≡ live_words n p.pe p.len
+  pub lower : v.free ≤ p.free
 
 -- a sum with one changed term
 pub sum_one : (n : ℕ) (f g : ℕ → ℕ) (j c : ℕ) → j < n → g j ≡ f j + c → ((k : ℕ) → (k ≡ j → ⊥) → g k ≡ f k) →

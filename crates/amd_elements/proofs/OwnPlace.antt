@@ -6,9 +6,9 @@ use Rattle.std.proofs.lemmas.Bool.{true≢false, cases_eq, cases_lt}
 use Rattle.amd_model.specs.Quotient.{has}
 use Rattle.amd_words.specs.Words.{num, is_place, place, flip_of, word, start, size_of, in_front, classes, rows}
 use Rattle.amd_round_laws.proofs.Lists.Named.{sum_named}
-use Rattle.amd_elements.specs.Element.{grown, Gathers, front_of, members_at, Builds}
-use Rattle.amd_lists.specs.Layout.{has_list, end_of}
-use Rattle.amd_elements.specs.Making.{Makes}
+use Rattle.amd_elements.specs.Element.{grown, Gathers, front_of, Builds}
+use Rattle.amd_lists.specs.Layout.{has_list, end_of, list_in}
+use Rattle.amd_elements.proofs.Made.{Makes}
 use Rattle.amd_lists.specs.Workspaces.{Workspace}
 use Rattle.amd_words.proofs.Signs.{mark_none}
 use Rattle.amd_words.proofs.RowLists.{rows_none}
@@ -48,7 +48,7 @@ module _ (iw nv nv1 pe : List ℤ) (len : List ℕ) (me : ℕ) (sizes : (i : ℕ
   own_all = let a : start pe me ≡ start pe me + 0 = omega arith in let b : num len me ≡ num len me - 0 = omega arith in
       classes_same nv nv1 sizes (rows iw (start pe me) (num len me)) ∙ ap (λ s. classes nv (rows iw s (num len me))) a
       ∙ ap (λ c. classes nv (rows iw (start pe me + 0) c)) b
-      ∙ ap (λ xs. flat_map (λ e. classes nv (members_at iw pe len e)) xs ++ classes nv (rows iw (start pe me + 0) (num len me - 0)))
+      ∙ ap (λ xs. flat_map (λ e. classes nv (list_in iw pe len e)) xs ++ classes nv (rows iw (start pe me + 0) (num len me - 0)))
       (sym (rows_none iw (start pe me)))
 
   pub own_few : sum_by (size_of nv) (front_of iw nv pe len me 0) + 2 < 2 ^ 63 →

@@ -1,4 +1,5 @@
 -- The words of the lists of a round: the new element has no more than its pivot and the elements that it absorbs leave.
+use Rattle.amd_lists.specs.Layout.{list_in}
 use Rattle.std.proofs.Common.{ℕ, ℤ, Bool, List, [], ◌∷◌, ◌++◌, ◌≡◌, ◌<◌, ◌≤◌, ◌+◌, ◌-◌, ◌||◌, inl, inr, sym, ap, arith}
 use Rattle.std.proofs.Common.{le_of_eq}
 use Rattle.std.proofs.Common.{cond, length, fold, filter, flat_map, sum_by}
@@ -13,7 +14,7 @@ use Rattle.amd_model.proofs.Quotient.Sums.{sum_one}
 use Rattle.amd_model.proofs.Quotient.Lists.{add_old, add_fresh, filter_yes, filter_no}
 use Rattle.amd_words.specs.Words.{num, start, size_of, classes}
 use Rattle.amd_round_laws.specs.Rounds.{firsts}
-use Rattle.amd_elements.specs.Element.{front_of, members_at, elements_at, variables_at}
+use Rattle.amd_elements.specs.Element.{front_of, elements_at, variables_at}
 use Rattle.amd_elements.specs.Room.{named_around}
 use Rattle.amd_elements.proofs.ListsAround.{classes_around}
 use Rattle.amd_words.proofs.RowLists.{rows_length}
@@ -53,8 +54,8 @@ pub front_words : (iw nv pe : List ℤ) (len : List ℕ) (pivot m : ℕ) →
     length (front_of iw nv pe len pivot m) ≤ sum_by (num len) (elements_at iw pe pivot m) + (num len pivot - m)
 front_words iw nv pe len pivot m =
     let a = front_short iw nv pe len pivot m in
-    let b = length-append (flat_map (members_at iw pe len) (elements_at iw pe pivot m)) (variables_at iw pe len pivot m) in
-    let c = flat_few (members_at iw pe len) (num len) (elements_at iw pe pivot m)
+    let b = length-append (flat_map (list_in iw pe len) (elements_at iw pe pivot m)) (variables_at iw pe len pivot m) in
+    let c = flat_few (list_in iw pe len) (num len) (elements_at iw pe pivot m)
     (λ e. le_of_eq (rows_length iw (start pe e) (num len e))) in
     let d = rows_length iw (start pe pivot + m) (num len pivot - m) in omega (arith, a, b, c, d)
 

@@ -12,7 +12,7 @@ use Rattle.amd_model.proofs.Quotient.Sums.{sum_over}
 use Rattle.amd_words.specs.Words.{num, is_place, place, flip_of, word, start, rows, Names}
 use Rattle.amd_elements.specs.Element.{IsListLaid, ListsLaid, Builds}
 use Rattle.amd_lists.specs.Layout.{has_list, elements_in, list_in, Layout, live_words}
-use Rattle.amd_elements.specs.Making.{Makes}
+use Rattle.amd_elements.proofs.Made.{Makes}
 use Rattle.amd_elements.specs.Pivots.{built_front, HasElements}
 use Rattle.amd_elements.specs.Premises.{IsPivot}
 use Rattle.amd_lists.specs.Workspaces.{Workspace}

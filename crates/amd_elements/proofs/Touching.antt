@@ -9,11 +9,11 @@ use Rattle.amd_model.proofs.Counting.Below.{clash}
 use Rattle.amd_model.proofs.Quotient.Lists.{filter_yes, filter_no, firsts, once_firsts}
 use Rattle.amd_round_laws.proofs.Lists.Named.{sum_named}
 use Rattle.amd_words.specs.Words.{num, place, word, start, size_of, in_front, classes}
-use Rattle.amd_lists.specs.Layout.{elements_in, rows_met}
-use Rattle.amd_elements.specs.Element.{front_of, members_at, elements_at, variables_at}
+use Rattle.amd_lists.specs.Layout.{elements_in, rows_met, list_in}
+use Rattle.amd_elements.specs.Element.{front_of, elements_at, variables_at}
 use Rattle.amd_lists.specs.Renewal.{is_kept, is_outside}
 use Rattle.amd_lists.specs.Layout.{variables_in, Layout, ReadsSame, LosesOne}
-use Rattle.amd_elements.specs.Making.{IsTouched}
+use Rattle.amd_elements.proofs.Made.{IsTouched}
 use Rattle.amd_elements.specs.Beginning.{Begins}
 use Rattle.amd_lists.specs.Workspaces.{Workspace}
 use Rattle.amd_words.proofs.RowLists.{rows_length}
@@ -35,12 +35,12 @@ filter_less p (y ∷ xs) x h f = elim (or_cases (y == x) (has xs x) h) [
 -- the front of a pivot names no class twice, and not the pivot
 pub front_apart : (iw nv pe : List ℤ) (len : List ℕ) (me m : ℕ) → has (front_of iw nv pe len me m) me ≡ false
 unfolding has
-front_apart iw nv pe len me m = let xs : List ℕ = flat_map (λ e. classes nv (members_at iw pe len e)) (elements_at iw pe me m)
+front_apart iw nv pe len me m = let xs : List ℕ = flat_map (λ e. classes nv (list_in iw pe len e)) (elements_at iw pe me m)
     ++ classes nv (variables_at iw pe len me m) in
     firsts (λ x. x == me) [] xs me ∙ and_right (has xs me) (not (me == me)) (not_from_true (me == me) (eq-eqb me me refl))
 
 pub front_once : (iw nv pe : List ℤ) (len : List ℕ) (me m : ℕ) → Once (front_of iw nv pe len me m)
-front_once iw nv pe len me m = once_firsts (λ x. x == me) [] (flat_map (λ e. classes nv (members_at iw pe len e)) (elements_at iw pe me m)
+front_once iw nv pe len me m = once_firsts (λ x. x == me) [] (flat_map (λ e. classes nv (list_in iw pe len e)) (elements_at iw pe me m)
     ++ classes nv (variables_at iw pe len me m)) _
 
 -- each class of the front loses a word by the new element

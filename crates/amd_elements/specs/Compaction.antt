@@ -1,8 +1,7 @@
 -- A compaction of the lists of a workspace.
 use Rattle.std.specs.Prelude.{ℕ, ℤ, true, false, List, ◌≡◌, ◌<◌, ◌≤◌, ◌+◌, ◌⊎◌, length}
 use Rattle.amd_words.specs.Words.{num, is_place, word, start}
-use Rattle.amd_lists.specs.Layout.{has_list, end_of, live_words, Layout, ReadsSame}
-use Rattle.amd_lists.specs.Workspaces.{Workspace}
+use Rattle.amd_lists.specs.Layout.{has_list, end_of, live_words}
 
 -- lists lie below the free end and do not overlap, and no word below it is a mark
 pub record Spaced (iw pe : List ℤ) (len : List ℕ) (free : ℕ) : Type 0 where
@@ -33,14 +32,3 @@ pub record Moves (iw iw' : List ℤ) (from to count : ℕ) : Type 0 where
   pub copied : (k : ℕ) → k < count → word iw' (to + k) ≡ word iw (from + k)
   pub below : (k : ℕ) → k < to → word iw' k ≡ word iw k
   pub above : (k : ℕ) → to + count ≤ k → word iw' k ≡ word iw k
-
--- from the workspace p to v the lists moved so that no gap is between them, and each reads as before
-pub record Packs (n : ℕ) (p v : Workspace) : Type 0 where
-  pub long : length v.iw ≡ length p.iw
-  pub p_long : length v.pe ≡ length p.pe
-  pub listed : (j : ℕ) → has_list v.pe p.len j ≡ has_list p.pe p.len j
-  pub reads : (j : ℕ) → has_list p.pe p.len j ≡ true → ReadsSame p.iw p.pe p.e_len p.len v.iw v.pe p.e_len p.len j
-  pub others : (j : ℕ) → has_list p.pe p.len j ≡ false → word v.pe j ≡ word p.pe j
-  pub laid : Layout n v.iw v.pe p.e_len p.len v.free
-  pub count : v.free ≡ live_words n p.pe p.len
-  pub lower : v.free ≤ p.free

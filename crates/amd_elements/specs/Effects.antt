@@ -31,15 +31,7 @@ pub record BeginsBuilt (me : ℕ) (p v : Workspace) (begun : Begun) : Type 0 whe
   pub end : v.free ≤ length v.iw
   pub total : begun.total ≡ sum_by (size_of p.nv) (built_front p me)
   pub block : begun.block ≡ size_of p.nv me
-  pub same : v ≡ record p {
-    iw = v.iw;
-    nv = v.nv;
-    pe = v.pe;
-    e_len = v.e_len;
-    len = v.len;
-    w = v.w;
-    free = v.free;
-  }
+  pub same : v ≡ record p { iw = v.iw; nv = v.nv; pe = v.pe; e_len = v.e_len; len = v.len; w = v.w; free = v.free }
 
 -- the elements that count words name have ended in the row me
 pub record Absorbs (me : ℕ) (iw : List ℤ) (from count : ℕ) (pe : List ℤ) (w : List ℕ) (pe' : List ℤ) (w' : List ℕ)

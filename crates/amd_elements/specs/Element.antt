@@ -3,6 +3,7 @@ use Rattle.std.specs.Prelude.{ℕ, ℤ, true, List, ◌++◌, ◌≡◌, ◌<◌
 use Rattle.std.specs.Prelude.{sum_by}
 use Rattle.amd_model.specs.Quotient.{has, add_new}
 use Rattle.amd_words.specs.Words.{is_place, word, start, size_of, in_front, classes, rows, Names, num}
+use Rattle.amd_lists.specs.Layout.{list_in}
 use Rattle.amd_round_laws.specs.Rounds.{firsts}
 
 -- the list that stands from start to free, and behind it the classes of xs that are not in the front, each at its first
@@ -33,21 +34,17 @@ pub record IsGathering (free : ℕ) (all taken : List ℕ) (iw nv iw' nv' : List
   pub fits : free + length (grown iw nv free free (classes nv all)) ≤ length iw
   pub few : sum_by (size_of nv) (grown iw nv free free (classes nv all)) < 2 ^ 63
 
--- the elements and the variables of a row whose list stands in the workspace, elements first, and the members of an
--- element
+-- the elements and the variables of a row whose list stands in the workspace, elements first
 abbrev pub elements_at : List ℤ → List ℤ → ℕ → ℕ → List ℕ
 elements_at iw pe i n_elements = rows iw (start pe i) n_elements
 
 abbrev pub variables_at : List ℤ → List ℤ → List ℕ → ℕ → ℕ → List ℕ
 variables_at iw pe len i n_elements = rows iw (start pe i + n_elements) (num len i - n_elements)
 
-abbrev pub members_at : List ℤ → List ℤ → List ℕ → ℕ → List ℕ
-members_at iw pe len e = rows iw (start pe e) (num len e)
-
 -- the list of the new element of a pivot
 abbrev pub front_of : List ℤ → List ℤ → List ℤ → List ℕ → ℕ → ℕ → List ℕ
 front_of iw nv pe len pivot n_elements = firsts (λ x. x == pivot)
-    (flat_map (λ e. classes nv (members_at iw pe len e)) (elements_at iw pe pivot n_elements)
+    (flat_map (λ e. classes nv (list_in iw pe len e)) (elements_at iw pe pivot n_elements)
     ++ classes nv (variables_at iw pe len pivot n_elements))
 
 -- the list of a row lies before free, and its words name rows below n

@@ -1,6 +1,5 @@
 -- A new element, and the room for it.
 pub mod Element
-pub mod Making
 pub mod Room
 pub mod Visiting
 pub mod Compaction

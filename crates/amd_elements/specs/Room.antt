@@ -4,9 +4,9 @@ use Rattle.std.specs.Prelude.{ℕ, ℤ, true, false, List, ◌++◌, ◌≡◌, 
 use Rattle.amd_model.specs.Quotient.{has}
 use Rattle.amd_round_laws.specs.Rounds.{firsts}
 use Rattle.amd_words.specs.Words.{word, size_of, in_front, classes}
-use Rattle.amd_lists.specs.Layout.{has_list, Layout, ReadsSame}
+use Rattle.amd_lists.specs.Layout.{has_list, Layout, ReadsSame, list_in}
 use Rattle.amd_lists.specs.Workspaces.{Workspace}
-use Rattle.amd_elements.specs.Element.{elements_at, variables_at, members_at}
+use Rattle.amd_elements.specs.Element.{elements_at, variables_at}
 
 -- some classes were met: they are in the front now, and each that was not in the front before took one place
 pub record Meets (nv : List ℤ) (xs : List ℕ) (left : ℕ) (nv' : List ℤ) (left' : ℕ) : Type 0 where
@@ -38,7 +38,7 @@ pub record IsRemainder (taken : List ℕ) (iw nv : List ℤ) (left : ℕ) (iw' n
 -- what the lists of a pivot's elements name, element after element, and then what the pivot's own list names as
 -- variables
 abbrev pub named_around : List ℤ → List ℤ → List ℕ → ℕ → ℕ → List ℕ
-named_around iw pe len pivot n_elements = flat_map (members_at iw pe len) (elements_at iw pe pivot n_elements)
+named_around iw pe len pivot n_elements = flat_map (list_in iw pe len) (elements_at iw pe pivot n_elements)
     ++ variables_at iw pe len pivot n_elements
 
 -- from the workspace p to v the lists may have moved, with their free end, and each reads as before

@@ -52,7 +52,7 @@ fn move_list<S: Signed, P: Signed>(
 
 /// Moves the lists down so that no word lies between them. Returns the new free end: how many words they have.
 #[cold]
-pub fn compact<S: Signed, P: Signed, U: Unsigned>(
+pub fn pack_lists<S: Signed, P: Signed, U: Unsigned>(
     iw: &mut [Word<S>],
     pe: &mut [Word<P>],
     len: &mut [Cell<U>],

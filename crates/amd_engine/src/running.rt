@@ -9,7 +9,7 @@ ghost use Rattle.amd_model.specs.Input.Held.{HasMarks};
 ghost use Rattle.amd_model.specs.Quotient.{QuotientGraph};
 ghost use Rattle.amd_model.specs.State.{State};
 ghost use Rattle.amd_rounds.specs.Keeps.{AreRoundsWithin, Stands};
-ghost use Rattle.amd_lists.specs.Sizes.{AreWideEnough, IsNarrow};
+ghost use Rattle.amd_lists.specs.Sizes.{AreWideEnough};
 ghost use Rattle.amd_workspace.specs.Starting.{KeepsRows};
 ghost use Rattle.amd_engine.specs.InPlace.{AreOver, CanRun, RunsInPlace, StandsAtStart, first_sums};
 ghost use Rattle.amd_engine.specs.InPlace.{workspace_in};
@@ -109,7 +109,7 @@ fn advance<S: Signed, P: Signed, U: Unsigned>(
     room: usize,
     control: &Control,
 ) -> Numbers
-    requires wide { IsNarrow S.MOST P.MOST U.MOST (length rows.old.nv.now) (workspace_in iw.old rows.old numbers) }
+    requires wide { AreWideEnough S.MOST P.MOST U.MOST (length rows.old.nv.now) (length iw.old) }
     requires stands { (g : Graph) × (dense : ℕ → Bool) × (nzaat : ℕ) × (t : QuotientGraph) × (s : State) ×
         Stands g dense nzaat (workspace_in iw.old rows.old numbers) t s }
     ensures rounds { AreRoundsWithin control.now.aggressive room (workspace_in iw.old rows.old numbers)

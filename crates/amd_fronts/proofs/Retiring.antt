@@ -403,14 +403,17 @@ module _ {most_word most_place most_cell me : ℕ} {p v : Workspace} {gone : ℕ
     -- and this class can be renewed
     pub class_ready : CanRenewOrRetire most_word most_place most_cell me i (renewed_in p v)
     class_ready = let f = h.lengths in let n = r.lengths in let long = h.renewed.long in let wide = r.narrow.0 in record {
-      lengths = (f.0 ∙ n.0, f.1 ∙ n.1, h.renewed.l_long ∙ n.2, f.2 ∙ n.3);
+      list = record {
+        lengths = (f.0 ∙ n.0, f.1 ∙ n.1, h.renewed.l_long ∙ n.2, f.2 ∙ n.3);
+        narrow = omega (arith, long, wide);
+        row = (r.row.0, r.row.2);
+        placed = front_placed r.laid r.list r.apart r.once r.front r.marked k l h i is r.end;
+        loses = front_loses r.laid r.list r.apart r.once r.front r.marked k l h i is;
+        met = front_met r.laid r.list r.apart r.once r.front r.marked k l h i is p.flag p.w r.met;
+      };
       more_lengths = (f.3 ∙ r.more_lengths.0, f.4 ∙ r.more_lengths.1);
-      narrow = (omega (arith, long, wide), r.narrow.1);
-      row = r.row;
-      placed = front_placed r.laid r.list r.apart r.once r.front r.marked k l h i is r.end;
-      loses = front_loses r.laid r.list r.apart r.once r.front r.marked k l h i is;
+      small = (r.row.1, r.narrow.1);
       marked = front_marked r.laid r.list r.apart r.once r.front r.marked k l h i is;
-      met = front_met r.laid r.list r.apart r.once r.front r.marked k l h i is p.flag p.w r.met;
     }
 
     module _ {v' : Workspace} {more : ℕ} (g : RenewsOrRetires me i (renewed_in p v) v' more) where

@@ -1,9 +1,8 @@
 -- What the parts of turning a front over to its element leave behind, each between what it found and what it left.
-use Rattle.std.specs.Prelude.{ℕ, ℤ, pos, negsuc, Bool, true, List, ◌≡◌, ◌<◌, ◌≤◌, ◌+◌, ◌==◌, ◌&&◌, ◌++◌, cond}
+use Rattle.std.specs.Prelude.{ℕ, ℤ, Bool, true, List, ◌≡◌, ◌<◌, ◌≤◌, ◌+◌, ◌==◌, ◌&&◌, ◌++◌, cond}
 use Rattle.std.specs.Prelude.{length}
-use Rattle.std.specs.Prelude.{slice_set}
 use Rattle.amd_model.specs.Quotient.{has}
-use Rattle.amd_words.specs.Words.{num, word, flip_of, size_of}
+use Rattle.amd_words.specs.Words.{num, word, flip_of}
 use Rattle.amd_lists.specs.Lengths.{KeepsLinks}
 use Rattle.amd_lists.specs.Chains.{DegreeLists, without}
 use Rattle.amd_lists.specs.Layout.{elements_in, list_in, RenewsOne}
@@ -14,14 +13,7 @@ use Rattle.amd_fronts.specs.Fronts.{kept_in, near_in, reach_of, renewed_in, Rene
 use Rattle.amd_fronts.specs.Turning.{TurnsFront}
 use Rattle.amd_fronts.specs.declared.outside.Tally.{Tally}
 
--- the counter of the element e has lost the rows of a class; if it ended, its start names the pivot
-pub record TouchesOrEnds (tally : Tally) (e : ℕ) (degree : List ℕ) (pe : List ℤ) (w : List ℕ) (pe' : List ℤ)
-    (w' : List ℕ) : Type 0 where
-  pub long : (length w' ≡ length w) × (length pe' ≡ length pe)
-  pub counted : (x : ℕ) → num w' x ≡ cond (x == e) (settled_in tally degree w e) (num w x)
-  pub starts : (x : ℕ) → word pe' x ≡ cond (x == e && ends_in tally degree w e) (flip_of tally.me) (word pe x)
-
--- so have those of the elements xs
+-- the counters of the elements xs have lost the rows of a class; where one ended, its start names the pivot
 pub record TouchesAll (tally : Tally) (xs degree : List ℕ) (pe : List ℤ) (w : List ℕ) (pe' : List ℤ) (w' : List ℕ)
     : Type 0 where
   pub long : (length w' ≡ length w) × (length pe' ≡ length pe)
@@ -73,13 +65,6 @@ pub record RenewsClass (me i : ℕ) (p v : Workspace) (count reach hash : ℕ) :
       (kept_in (is_kept p.w) p.iw p.pe p.e_len i ++ near_in (is_outside p.nv) p.iw p.pe p.e_len p.len i)
   pub same : v ≡ record p { iw = v.iw; e_len = v.e_len; len = v.len }
 
--- the class i has ended: its rows, gone of them, go with the row me
-pub record Retires (i me : ℕ) (pe e_len nv pe' e_len' nv' : List ℤ) (gone : ℕ) : Type 0 where
-  pub starts : pe' ≡ slice_set pe i (flip_of me)
-  pub lists : e_len' ≡ slice_set e_len i (negsuc 0)
-  pub sizes : nv' ≡ slice_set nv i (pos 0)
-  pub gone_is : gone ≡ size_of nv i
-
 -- the class i was renewed, or ended and gone rows go with the pivot
 pub record RenewsOrRetires (me i : ℕ) (p v : Workspace) (gone : ℕ) : Type 0 where
   pub renews : RenewsOrEnds (length p.w) me i p v gone
@@ -98,15 +83,4 @@ pub record Turns (aggressive : Bool) (me : ℕ) (p v : Workspace) (gone : ℕ) :
   pub linked : LeavesLists (length p.w) (front_at p me) p v
   pub lengths : (length v.w ≡ length p.w) × (length v.head ≡ length p.head) × (length v.next ≡ length p.next)
   pub more_lengths : (length v.pe ≡ length p.w) × (length v.last ≡ length p.w)
-  pub same : v ≡ record p {
-    iw = v.iw;
-    pe = v.pe;
-    e_len = v.e_len;
-    nv = v.nv;
-    len = v.len;
-    degree = v.degree;
-    w = v.w;
-    head = v.head;
-    next = v.next;
-    last = v.last;
-  }
+  pub same : v ≡ record (renewed_in p v) { w = v.w; head = v.head; next = v.next }

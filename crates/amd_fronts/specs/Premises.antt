@@ -9,7 +9,7 @@ use Rattle.amd_lists.specs.Layout.{elements_in, end_of, list_in, Layout, IsPlace
 use Rattle.amd_lists.specs.Renewal.{is_kept, is_outside, AreMet}
 use Rattle.amd_lists.specs.Workspaces.{Workspace}
 use Rattle.amd_fronts.specs.Counts.{IsListed}
-use Rattle.amd_fronts.specs.Tallies.{front_at, NamesFront, IsCounted, IsPart}
+use Rattle.amd_fronts.specs.Tallies.{front_at, IsCounted, IsPart}
 use Rattle.amd_fronts.specs.TurningLists.{IsFrontList, AreTurning}
 use Rattle.amd_fronts.specs.declared.outside.Tally.{Tally}
 
@@ -52,18 +52,12 @@ pub record CanCountFront (most_place most_cell me : ℕ) (p : Workspace) : Type 
   pub starts : is_place (word p.pe me) ≡ true
   pub inside : end_of p.pe p.len me ≤ length p.iw
   pub small : me + 2 ≤ most_place
-  pub front : NamesFront (length p.w) p.iw (start p.pe me) (num p.len me)
+  pub front : Names (length p.w) p.iw (start p.pe me) (num p.len me) × Once (front_at p me)
   pub classes : (i : ℕ) → has (front_at p me) i ≡ true → IsCounted (front_at p me) p i
   pub two : 2 ≤ p.flag
   pub under : (e : ℕ) → num p.w e < p.flag
   pub fits : (e : ℕ) → e < length p.w → num p.degree e + p.flag ≤ most_cell
   pub part : IsPart (front_at p me) p
-
--- counters are below a flag, and there may be room for a count above it
-pub record CanRenewFlag (most_cell flag : ℕ) (w : List ℕ) : Type 0 where
-  pub short : length w + 2 ≤ most_cell
-  pub two : 2 ≤ flag
-  pub under : (e : ℕ) → num w e < flag
 
 -- the list of the class i can be renewed
 pub record CanRenewClass (most_word most_place me i : ℕ) (p : Workspace) : Type 0 where
@@ -82,14 +76,10 @@ pub record CanRetire (most_place i me : ℕ) (pe e_len nv : List ℤ) : Type 0 w
 
 -- it can be renewed, or end
 pub record CanRenewOrRetire (most_word most_place most_cell me i : ℕ) (p : Workspace) : Type 0 where
-  pub lengths : HasLists (length p.w) p.pe p.e_len p.len p.nv
+  pub list : CanRenewClass most_word most_place me i p
   pub more_lengths : (length p.degree ≡ length p.w) × (length p.last ≡ length p.w)
-  pub narrow : (length p.iw ≤ most_place) × (length p.w ≤ most_cell)
-  pub row : (me < length p.w) × (me + 2 ≤ most_place) × (me ≤ most_word)
-  pub placed : IsPlaced (length p.w) p.iw p.pe p.e_len p.len i
-  pub loses : LosesOne (is_kept p.w) (is_outside p.nv) p.iw p.pe p.e_len p.len i
+  pub small : (me + 2 ≤ most_place) × (length p.w ≤ most_cell)
   pub marked : in_front p.nv i ≡ true
-  pub met : AreMet p.flag p.w (elements_in p.iw p.pe p.e_len i)
 
 -- so can each class of the front of the new element me
 pub record CanRenewAll (most_word most_place most_cell me : ℕ) (p : Workspace) : Type 0 where

@@ -1,7 +1,7 @@
 -- What the classes of a front do to the counters of the elements that they list, and to the lists by bound.
 use Rattle.std.specs.Prelude.{ℕ, ℤ, Bool, true, false, List, ◌≡◌, ◌<◌, ◌≤◌, not, cond, filter, length}
-use Rattle.amd_model.specs.Quotient.{has, Once}
-use Rattle.amd_words.specs.Words.{num, word, size_of, flip_of, rows, Names}
+use Rattle.amd_model.specs.Quotient.{has}
+use Rattle.amd_words.specs.Words.{num, word, size_of, flip_of}
 use Rattle.amd_lists.specs.Chains.{DegreeLists}
 use Rattle.amd_lists.specs.Layout.{elements_in, list_in, rows_met}
 use Rattle.amd_lists.specs.Workspaces.{Workspace}
@@ -27,10 +27,6 @@ ends_in tally degree w e = ends tally.aggressive tally.flag (touched_in tally de
 -- the counter that is left of it
 abbrev pub settled_in : Tally → List ℕ → List ℕ → ℕ → ℕ
 settled_in tally degree w e = settled tally.aggressive tally.flag (touched_in tally degree w e)
-
--- the words from a place on name each class of a front once
-abbrev pub NamesFront : ℕ → List ℤ → ℕ → ℕ → Type 0
-NamesFront n iw from count = Names n iw from count × Once (rows iw from count)
 
 -- a class of a front can be counted: there is a list for its bound, and it lists no row of the front as an element
 pub record IsCounted (front : List ℕ) (p : Workspace) (i : ℕ) : Type 0 where

@@ -2,12 +2,12 @@
 // the new element ends: it goes with the pivot. Source: Amestoy, Davis and Duff 1996 (approximate external degree,
 // element absorption, mass elimination).
 
-ghost use Rattle.std.specs.Prelude.{ℕ, ◌<◌, ◌≡◌, length, min};
-ghost use Rattle.amd_words.specs.Words.{num};
+ghost use Rattle.std.specs.Prelude.{ℕ, ◌<◌, ◌≡◌, length, min, negsuc, pos, slice_set};
+ghost use Rattle.amd_words.specs.Words.{flip_of, num, size_of};
 ghost use Rattle.amd_lists.specs.Renewal.{CanRenew, RenewsList, key_mask};
 ghost use Rattle.amd_lists.specs.Spans.{row_list};
 ghost use Rattle.amd_lists.specs.Workspaces.{KeepsLoans, workspace_of};
-ghost use Rattle.amd_fronts.specs.Effects.{RenewsAllClasses, RenewsClass, RenewsOrRetires, Retires};
+ghost use Rattle.amd_fronts.specs.Effects.{RenewsAllClasses, RenewsClass, RenewsOrRetires};
 ghost use Rattle.amd_fronts.specs.Premises.{CanRenewAll, CanRenewClass, CanRenewOrRetire, CanRetire};
 
 use amd_lists::lent::{list_lent, named_lent};
@@ -79,7 +79,10 @@ fn retire<S: Signed, P: Signed>(
     me: usize,
 ) -> usize
     requires { CanRetire P.MOST i me pe.old e_len.old nv.old }
-    ensures { Retires i me pe.old e_len.old nv.old pe.new e_len.new nv.new result }
+    ensures starts { pe.new ≡ slice_set pe.old i (flip_of me) }
+    ensures lists { e_len.new ≡ slice_set e_len.old i (negsuc 0) }
+    ensures sizes { nv.new ≡ slice_set nv.old i (pos 0) }
+    ensures gone { result ≡ size_of nv.old i }
 {
     let gone = size_inside(nv, i);
     put_flip(pe, i, me);

@@ -3,13 +3,13 @@
 // it was not met. In the same pass the classes leave the lists by bound, and with `aggressive` an element without rows
 // outside ends. Source: Amestoy, Davis and Duff 1996 (approximate external degree, aggressive absorption).
 
-ghost use Rattle.std.specs.Prelude.{ℕ, ◌+◌, ◌<◌, ◌==◌, ◌≡◌, ◌≤◌, cond, length, true};
-ghost use Rattle.amd_words.specs.Words.{in_front, is_place, num, place, rows, size_of, start, word};
+ghost use Rattle.std.specs.Prelude.{ℕ, ◌&&◌, ◌+◌, ◌<◌, ◌==◌, ◌≡◌, ◌≤◌, cond, length, true};
+ghost use Rattle.amd_words.specs.Words.{flip_of, in_front, is_place, num, place, rows, size_of, start, word};
 ghost use Rattle.amd_lists.specs.Chains.{IsBounded, TakesOut};
 ghost use Rattle.amd_lists.specs.Workspaces.{KeepsLoans, workspace_of};
-ghost use Rattle.amd_fronts.specs.Effects.{CountsClass, CountsOutside, RenewsFlag, TouchesAll, TouchesOrEnds};
-ghost use Rattle.amd_fronts.specs.Premises.{CanCountClass, CanCountFront, CanRenewFlag, CanTouch, CanTouchAll};
-ghost use Rattle.amd_fronts.specs.Tallies.{front_at, tally_of, touched_in};
+ghost use Rattle.amd_fronts.specs.Effects.{CountsClass, CountsOutside, RenewsFlag, TouchesAll};
+ghost use Rattle.amd_fronts.specs.Premises.{CanCountClass, CanCountFront, CanTouch, CanTouchAll};
+ghost use Rattle.amd_fronts.specs.Tallies.{ends_in, front_at, settled_in, tally_of, touched_in};
 
 use amd_lists::chains::take_out;
 use amd_lists::lent::{list_lent, named_lent};
@@ -55,7 +55,10 @@ fn touch_or_end<P: Signed, U: Unsigned>(
 )
     requires touch { CanTouch U.MOST tally degree.now w.old e }
     requires end { (e < length pe.old) × (tally.me + 2 ≤ P.MOST) }
-    ensures { TouchesOrEnds tally e degree.now pe.old w.old pe.new w.new }
+    ensures long { (length w.new ≡ length w.old) × (length pe.new ≡ length pe.old) }
+    ensures counted { (x : ℕ) → num w.new x ≡ cond (x == e) (settled_in tally degree.now w.old e) (num w.old x) }
+    ensures starts { (x : ℕ) → word pe.new x ≡ cond (x == e && ends_in tally degree.now w.old e) (flip_of tally.me)
+        (word pe.old x) }
 {
     touch(w, degree, e, tally);
     let left = cell_at(w, e);
@@ -188,7 +191,9 @@ fn clear<U: Unsigned>(w: &mut [Cell<U>])
 /// The flag for what comes next. Below the greatest number less the count of rows it is the one given, and the numbers
 /// stay. Else it is 2, and each number that is not 0 is 1.
 pub fn renew_flag<U: Unsigned>(w: &mut [Cell<U>], flag: usize) -> usize
-    requires { CanRenewFlag U.MOST flag w.old }
+    requires short { length w.old + 2 ≤ U.MOST }
+    requires two { 2 ≤ flag }
+    requires under { (e : ℕ) → num w.old e < flag }
     ensures { RenewsFlag U.MOST flag w.old w.new result }
 {
     if flag < U::MOST - w.len() {

@@ -62,29 +62,6 @@ pub record Chooses (n least : ℕ) (lists : ℕ → List ℕ) (pivot bound : ℕ
 abbrev pub Linked : ℕ → List ℕ → List (ℕ × ℕ) → List ℕ → (ℕ → List ℕ) → Type 0
 Linked n head sides degree lists = DegreeLists n head (nexts sides) (lasts sides) degree lists
 
--- a row and a bound, where there is a head for each row
-pub record IsLinkable (i d : ℕ) (head : List ℕ) (sides : List (ℕ × ℕ)) : Type 0 where
-  pub long : length head ≡ row_count sides
-  pub row : (i < row_count sides) × (d < row_count sides)
-
--- a row of the bound d has left its list
-pub record UnlinksRow (i d : ℕ) (head : List ℕ) (sides : List (ℕ × ℕ)) (head' : List ℕ) (sides' : List (ℕ × ℕ)) : Type 0
-  where
-    pub unlinks : Unlinks (row_count sides) i d head (nexts sides) (lasts sides) head' (nexts sides') (lasts sides')
-    pub lengths : HasSides (row_count sides) head' sides'
-
--- so they are, and each row can stand beside another one: cells go up to most_cell
-pub record CanLink (most_cell i d : ℕ) (head : List ℕ) (sides : List (ℕ × ℕ)) : Type 0 where
-  pub long : length head ≡ row_count sides
-  pub short : row_count sides ≤ most_cell
-  pub row : (i < row_count sides) × (d < row_count sides)
-
--- a row stands at the head of the list of the bound d
-pub record RelinksRow (i d : ℕ) (head : List ℕ) (sides : List (ℕ × ℕ)) (head' : List ℕ) (sides' : List (ℕ × ℕ)) : Type 0
-  where
-    pub relinks : Relinks (row_count sides) i d head (nexts sides) (lasts sides) head' (nexts sides') (lasts sides')
-    pub lengths : HasSides (row_count sides) head' sides'
-
 -- a row with a bound, where there is a head and a bound for each row
 pub record IsBounded (i : ℕ) (head degree : List ℕ) (sides : List (ℕ × ℕ)) : Type 0 where
   pub lengths : (length head ≡ row_count sides) × (length degree ≡ row_count sides)
@@ -113,13 +90,6 @@ pub record PutsHead (i d : ℕ) (head : List ℕ) (sides : List (ℕ × ℕ)) (d
       Linked (row_count sides) head' sides' degree' (λ b. cond (b == d) (i ∷ lists b) (lists b))
   pub degrees : degree' ≡ slice_set degree i d
   pub others : (x : ℕ) → (x ≡ i → ⊥) → (x ≡ num head d → ⊥) → num (lasts sides') x ≡ num (lasts sides) x
-
--- the least bound, from `least` on, that has a row
-pub record IsLeastBound (head : List ℕ) (least bound : ℕ) : Type 0 where
-  pub from : least ≤ bound
-  pub inside : bound < length head
-  pub found : num head bound < length head
-  pub below : (b : ℕ) → least ≤ b → b < bound → length head ≤ num head b
 
 -- a pivot of the bound given was chosen among the bounds from `least` on, and taken out of its list
 pub record ChoosesRow (least : ℕ) (head : List ℕ) (sides : List (ℕ × ℕ)) (head' : List ℕ) (sides' : List (ℕ × ℕ))

@@ -24,10 +24,6 @@ HasLinks n head next last = (length head ≡ n) × (length next ≡ n) × (lengt
 abbrev pub HasSides : ℕ → List ℕ → List (ℕ × ℕ) → Type 0
 HasSides n head sides = HasLinks n head (nexts sides) (lasts sides)
 
--- where lists start, counts of elements, lengths and counters
-abbrev pub HasCounters : ℕ → List ℤ → List ℤ → List ℕ → List ℕ → Type 0
-HasCounters n pe e_len len w = (length pe ≡ n) × (length e_len ≡ n) × (length len ≡ n) × (length w ≡ n)
-
 -- the lists of the links are as long as before
 abbrev pub KeepsLinks : List ℕ → List ℕ → List ℕ → List ℕ → List ℕ → List ℕ → Type 0
 KeepsLinks head next last head' next' last' = (length head' ≡ length head) × (length next' ≡ length next) ×

@@ -24,7 +24,3 @@ pub record IsSized (n : ℕ) (p : Workspace) : Type 0 where
 abbrev pub AreWideEnough : ℕ → ℕ → ℕ → ℕ → ℕ → Type 0
 AreWideEnough most_word most_place most_cell n iwlen = (iwlen ≤ most_place) × (iwlen ≤ most_cell) × (n + 2 ≤ most_word)
     × (n + 2 ≤ most_cell) × (most_word ≤ most_place)
-
--- so they do for this workspace
-abbrev pub IsNarrow : ℕ → ℕ → ℕ → ℕ → Workspace → Type 0
-IsNarrow most_word most_place most_cell n p = AreWideEnough most_word most_place most_cell n (length p.iw)

@@ -1,18 +1,23 @@
 // The classes by bound: a list for each bound, linked both ways, with the class that was put in last at its head. The
 // number of rows stands for no row. Source: Amestoy, Davis and Duff 1996 (degree lists).
 
-ghost use Rattle.std.specs.Prelude.{◌≡◌, length};
-ghost use Rattle.amd_lists.specs.Lengths.{row_count};
-ghost use Rattle.amd_lists.specs.Chains.{IsLinkable, UnlinksRow, IsBounded, TakesOut, CanLink, RelinksRow};
-ghost use Rattle.amd_lists.specs.Chains.{CanPutHead, PutsHead, SomeFrom, IsLeastBound, ChoosesRow};
+ghost use Rattle.std.specs.Prelude.{ℕ, ◌<◌, ◌≡◌, ◌≤◌, length};
+ghost use Rattle.amd_words.specs.Sides.{lasts, nexts};
+ghost use Rattle.amd_words.specs.Words.{num};
+ghost use Rattle.amd_lists.specs.Lengths.{HasSides, row_count};
+ghost use Rattle.amd_lists.specs.Chains.{CanPutHead, ChoosesRow, IsBounded, PutsHead, Relinks, SomeFrom, TakesOut};
+ghost use Rattle.amd_lists.specs.Chains.{Unlinks};
 
 use amd_words::sides::{Sides, last_at, next_at, put_last, put_next, row_count};
 use amd_words::{Cell, Unsigned, cell_at, put_cell};
 
 /// Links what stands before and behind a row of the bound `d` to each other.
 fn unlink<U: Unsigned>(head: &mut [Cell<U>], sides: &mut [Sides<U>], i: usize, d: usize)
-    requires { IsLinkable i d head.old sides.old }
-    ensures { UnlinksRow i d head.old sides.old head.new sides.new }
+    requires long { length head.old ≡ row_count sides.old }
+    requires row { (i < row_count sides.old) × (d < row_count sides.old) }
+    ensures unlinks { Unlinks (row_count sides.old) i d head.old (nexts sides.old) (lasts sides.old) head.new
+        (nexts sides.new) (lasts sides.new) }
+    ensures lengths { HasSides (row_count sides.old) head.new sides.new }
 {
     let n = row_count(sides);
     let before = last_at(sides, i);
@@ -42,8 +47,12 @@ pub fn take_out<U: Unsigned>(
 
 /// Links a row in front of the first one of the bound `d`.
 fn link<U: Unsigned>(head: &mut [Cell<U>], sides: &mut [Sides<U>], i: usize, d: usize)
-    requires { CanLink U.MOST i d head.old sides.old }
-    ensures { RelinksRow i d head.old sides.old head.new sides.new }
+    requires long { length head.old ≡ row_count sides.old }
+    requires short { row_count sides.old ≤ U.MOST }
+    requires row { (i < row_count sides.old) × (d < row_count sides.old) }
+    ensures relinks { Relinks (row_count sides.old) i d head.old (nexts sides.old) (lasts sides.old) head.new
+        (nexts sides.new) (lasts sides.new) }
+    ensures lengths { HasSides (row_count sides.old) head.new sides.new }
 {
     let n = row_count(sides);
     let after = cell_at(head, d);
@@ -73,7 +82,10 @@ pub fn put_head<U: Unsigned>(
 /// The least bound, from `least` on, that has a row.
 fn least_bound<U: Unsigned>(head: &[Cell<U>], least: usize) -> usize
     requires some { SomeFrom (length head.now) head.now least }
-    ensures { IsLeastBound head.now least result }
+    ensures from { least ≤ result }
+    ensures inside { result < length head.now }
+    ensures found { num head.now result < length head.now }
+    ensures below { (b : ℕ) → least ≤ b → b < result → length head.now ≤ num head.now b }
 {
     let n = head.len();
     let mut bound = least;

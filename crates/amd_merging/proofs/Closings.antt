@@ -1,5 +1,5 @@
 -- An element is closed: its list is shortened in its place, and the free end may go back to where it ends.
-use Rattle.std.proofs.Common.{ℕ, ℤ, Bool, true, List, pos, ◌≡◌, ◌<◌, ◌≤◌, ◌+◌, ◌-◌, ◌⊎◌, inl, inr, ap, subst, ◌∙◌, arith, length, set}
+use Rattle.std.proofs.Common.{ℕ, ℤ, Bool, true, List, pos, ◌≡◌, ◌<◌, ◌≤◌, ◌+◌, ◌-◌, ◌⊎◌, inl, inr, ap, subst, sym, ◌∙◌, arith, length, set}
 use Rattle.std.proofs.Common.{get_or-set_same, get_or-set_other}
 use Rattle.amd_words.specs.Words.{num, is_place, place, word, start, rows, flip_of, Names}
 use Rattle.amd_lists.specs.Renewal.{Filters}
@@ -10,7 +10,7 @@ use Rattle.amd_merging.specs.Closing.{Closes}
 use Rattle.amd_words.proofs.Signs.{mark_none}
 use Rattle.amd_lists.proofs.Frames.{edited, edited_fewer, edited_reads, lowered_last}
 
-pub closes : {n : ℕ} {pass : ℕ → Bool} {share : ℕ → ℕ} {first sum : ℕ} {iw iw' : List ℤ} {end free : ℕ} (me last : ℕ)
+closes : {n : ℕ} {pass : ℕ → Bool} {share : ℕ → ℕ} {first sum : ℕ} {iw iw' : List ℤ} {end free : ℕ} (me last : ℕ)
     (pe e_len : List ℤ) (len : List ℕ) → me < length e_len → me < length len → is_place (word pe me) ≡ true →
     Filters n pass share first (span iw (start pe me) (num len me)) (start pe me) (sifted iw' end sum) →
     Layout n iw pe e_len len free →
@@ -37,6 +37,18 @@ closes {n} {pass} {share} {first} {sum} {iw} {iw'} {end} {free} me last pe e_len
       fewer = edited_fewer me y iw' len' shorter lengths names others;
       laid = edited me y iw' len' shorter lengths names others e_len' (omega (arith, none)) counts;
     }
+
+-- so it is where the list starts at `from`, with the two lists that are written
+pub closes_at : {n : ℕ} {pass : ℕ → Bool} {share : ℕ → ℕ} {first sum : ℕ} {iw iw' : List ℤ} {from end free : ℕ} (me last : ℕ)
+    (pe e_len : List ℤ) (len : List ℕ) {e_len' : List ℤ} {len' : List ℕ} → me < length e_len → me < length len → start pe me ≡ from →
+    is_place (word pe me) ≡ true → e_len' ≡ set e_len me (flip_of last) → len' ≡ set len me (end - from) →
+    Filters n pass share first (span iw from (num len me)) from (sifted iw' end sum) → Layout n iw pe e_len len free →
+    Closes n me pass free (lists_of iw pe e_len len) (lists_of iw' pe e_len' len')
+closes_at {n} {pass} {share} {first} {sum} {iw} {iw'} {from} {end} {free} me last pe e_len len small_e small_l at one counts lengths f y =
+    rw (counts, lengths) (subst (λ s. Closes n me pass free (lists_of iw pe e_len len)
+    (lists_of iw' pe (set e_len me (flip_of last)) (set len me (end - s)))) at
+    (closes me last pe e_len len small_e small_l one
+    (subst (λ s. Filters n pass share first (span iw s (num len me)) s (sifted iw' end sum)) (sym at) f) y))
 
 pub lowers : {n : ℕ} {iw pe e_len : List ℤ} {len : List ℕ} {free : ℕ} (me from end : ℕ) → from ≤ end → start pe me ≡ from →
     num len me ≡ end - from → end_of pe len me ≤ free → ((j : ℕ) → (j ≡ me → ⊥) → has_list pe len j ≡ true → end_of pe len j ≤ from) →

@@ -20,7 +20,7 @@ use Rattle.amd_merging.specs.Classes.{Classes}
 use Rattle.amd_merging.specs.Merging.{links, kept_of, words_of, IsRenewed, AreApart, IsMember, MergesInto, Pushes, Settles, IsReady}
 use Rattle.amd_lists.specs.Layout.{variables_in}
 use Rattle.amd_lists.specs.Sizes.{bucket_count}
-use Rattle.amd_merging.specs.Merging.{MergesAll, IsHead, bucket_of}
+use Rattle.amd_merging.specs.Merging.{MergesAll, bucket_of}
 use Rattle.amd_lists.proofs.Keys.{key_small}
 use Rattle.amd_lists.specs.Renewal.{key_of}
 use Rattle.amd_merging.proofs.BucketKeys.{bucket_small, bucket_same}
@@ -30,6 +30,10 @@ use Rattle.amd_merging.proofs.Likeness.{alike_key}
 use Rattle.amd_merging.proofs.MergeBack.{miss, MergedBack, back_none, back_stays, back_moves, back_fits, Written, written_none, written_not}
 use Rattle.amd_merging.proofs.MergeBack.{written_self, written_stays, written_moves, back_all}
 use Rattle.amd_merging.proofs.SameWords.{words_same, renewed_same, apart_same, alike_same, once_back, either_end}
+
+-- the row at the head of a bucket represents itself, and belongs into the bucket
+abbrev IsHead : ℕ → List ℕ → List ℕ → (ℕ → ℕ) → ℕ → ℕ → Type 0
+IsHead count last rest rep b x = (has rest x ≡ true) × (rep x ≡ x) × (bucket_of count last x ≡ b)
 
 module _ (n : ℕ) (was : Classes) (rest : List ℕ) (flag0 count : ℕ) where
   -- what merging has come to, where these are the lists that it changes

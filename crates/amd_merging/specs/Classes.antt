@@ -1,5 +1,4 @@
--- What the end of a round works on: the lists of classes, what merging and placing change beside them, and the numbers
--- of an element.
+-- What the end of a round works on: the lists of classes, and what merging and placing change beside them.
 use Rattle.std.specs.Prelude.{ℕ, ℤ, List}
 use Rattle.amd_words.specs.Sides.{nexts, lasts}
 use Rattle.amd_lists.specs.Workspaces.{Workspace}
@@ -34,12 +33,6 @@ pub record Placing : Type 0 where
   pub last : List ℕ
   pub hash : List ℕ
 
--- the numbers of elements: the mark of the rows of each, the length of its list, and the rows of its border
-pub record Numbers : Type 0 where
-  pub e_len : List ℤ
-  pub len : List ℕ
-  pub degree : List ℕ
-
 -- these, of slices
 abbrev pub lists_of : List ℤ → List ℤ → List ℤ → List ℕ → Lists
 lists_of iw pe e_len len = record { iw = iw; pe = pe; e_len = e_len; len = len }
@@ -66,9 +59,6 @@ placing_of nv degree head sides hash = record {
   last = lasts sides;
   hash = hash;
 }
-
-abbrev pub numbers_of : List ℤ → List ℕ → List ℕ → Numbers
-numbers_of e_len len degree = record { e_len = e_len; len = len; degree = degree }
 
 -- and of a workspace
 abbrev pub lists_in : Workspace → Lists

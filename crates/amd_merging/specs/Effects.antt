@@ -1,18 +1,17 @@
 -- What merging the classes of a front and placing those that are left leave behind, each between what it found and what
 -- it left.
-use Rattle.std.specs.Prelude.{ℕ, ℤ, Bool, true, false, List, ◌∷◌, ◌≡◌, ◌<◌, ◌≤◌, ◌+◌, ◌-◌, ◌==◌, ◌&&◌, ◌⊎◌, not, cond}
+use Rattle.std.specs.Prelude.{ℕ, ℤ, Bool, false, List, ◌∷◌, ◌≡◌, ◌<◌, ◌≤◌, ◌+◌, ◌==◌, ◌&&◌, ◌⊎◌, not, cond}
 use Rattle.std.specs.Prelude.{nat_lt, length, slice_set}
 use Rattle.amd_model.specs.Quotient.{has}
 use Rattle.amd_round_laws.specs.Rounds.{alike_in}
 use Rattle.amd_words.specs.Sides.{nexts}
-use Rattle.amd_words.specs.Words.{num, word, is_place, start, size_of, in_front, flip_of, rows}
+use Rattle.amd_words.specs.Words.{num, size_of, in_front, rows}
 use Rattle.amd_lists.specs.Chains.{DegreeLists}
-use Rattle.amd_lists.specs.Layout.{has_list, end_of, variables_in, Layout}
+use Rattle.amd_lists.specs.Layout.{variables_in}
 use Rattle.amd_lists.specs.Lengths.{row_count}
 use Rattle.amd_lists.specs.Renewal.{Filters}
 use Rattle.amd_lists.specs.Spans.{span, sifted}
-use Rattle.amd_merging.specs.Classes.{Lists, Classes, Placing, Numbers, lists_of}
-use Rattle.amd_merging.specs.Closing.{Closes}
+use Rattle.amd_merging.specs.Classes.{Lists, Classes, Placing}
 use Rattle.amd_merging.specs.declared.restoring.Front.{Front}
 use Rattle.amd_merging.specs.FrontLists.{LongToMerge, LongToPlace, MergesList, PutsAll}
 use Rattle.amd_lists.specs.Sizes.{bucket_count}
@@ -85,18 +84,3 @@ pub record RestoresFront (front : Front) (least : ℕ) (iw : List ℤ) (p : Plac
   pub empty : (b : ℕ) → b < bucket_count (length p.next) → length p.next ≤ num v.hash b
   pub linked : PutsAll (length p.next) front.border front.left (rows iw front.from front.count) p v
   pub lengths : LongToPlace (length p.next) v
-
--- the list of the element me was closed: whatever else the workspace holds, it is the one that was filtered, and the
--- free end may go back to its end where no other list ends behind its start
-pub record ClosesElement (me from end block border : ℕ) (p v : Numbers) : Type 0 where
-  pub counts : v.e_len ≡ slice_set p.e_len me (flip_of (block + border))
-  pub lengths : v.len ≡ slice_set p.len me (end - from)
-  pub borders : v.degree ≡ slice_set p.degree me border
-  pub closes : (n : ℕ) (pass : ℕ → Bool) (share : ℕ → ℕ) (first sum : ℕ) (iw iw' pe : List ℤ) (free : ℕ) →
-      start pe me ≡ from → is_place (word pe me) ≡ true →
-      Filters n pass share first (span iw from (num p.len me)) from (sifted iw' end sum) →
-      Layout n iw pe p.e_len p.len free →
-      Closes n me pass free (lists_of iw pe p.e_len p.len) (lists_of iw' pe v.e_len v.len)
-  pub lowers : (n : ℕ) (iw pe : List ℤ) (free : ℕ) → start pe me ≡ from → end_of pe v.len me ≤ free →
-      ((j : ℕ) → (j ≡ me → ⊥) → has_list pe v.len j ≡ true → end_of pe v.len j ≤ from) →
-      Layout n iw pe v.e_len v.len free → Layout n iw pe v.e_len v.len end

@@ -150,7 +150,3 @@ pub record MergesAll (rest : List ℕ) (rep : ℕ → ℕ) (p v : Classes) : Typ
   pub lists : (x : ℕ) → word v.e_len x ≡ cond (has rest x && not (rep x == x)) (negsuc 0) (word p.e_len x)
   pub front : (x : ℕ) → in_front v.nv x ≡ cond (has rest x && not (rep x == x)) false (in_front p.nv x)
   pub nexts : (x : ℕ) → has rest x ≡ false → num v.next x ≡ num p.next x
-
--- the row at the head of a bucket represents itself, and belongs into the bucket
-abbrev pub IsHead : ℕ → List ℕ → List ℕ → (ℕ → ℕ) → ℕ → ℕ → Type 0
-IsHead count last rest rep b x = (has rest x ≡ true) × (rep x ≡ x) × (bucket_of count last x ≡ b)

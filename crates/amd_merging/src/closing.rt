@@ -1,9 +1,8 @@
 // The closing of an element: its list has lost the rows that are no longer classes, and its length, its rows and the
 // rows of its border are written. Source: Amestoy, Davis and Duff 1996 (the arrays of the quotient graph).
 
-ghost use Rattle.amd_merging.specs.Classes.{numbers_of};
-ghost use Rattle.amd_merging.specs.Effects.{ClosesElement};
-ghost use Rattle.amd_merging.specs.Premises.{CanClose};
+ghost use Rattle.std.specs.Prelude.{◌+◌, ◌-◌, ◌<◌, ◌≡◌, ◌≤◌, length, slice_set};
+ghost use Rattle.amd_words.specs.Words.{flip_of};
 
 use amd_words::words::put_flip;
 use amd_words::{Cell, Signed, Unsigned, Word, put_cell};
@@ -21,9 +20,13 @@ pub fn close<P: Signed, U: Unsigned>(
     block: usize,
     border: usize,
 )
-    requires { CanClose P.MOST U.MOST me from end block border (numbers_of e_len.old len.old degree.old) }
-    ensures { ClosesElement me from end block border (numbers_of e_len.old len.old degree.old)
-        (numbers_of e_len.new len.new degree.new) }
+    requires row { (me < length e_len.old) × (me < length len.old) × (me < length degree.old) }
+    requires order { from ≤ end }
+    requires few { block + border + 2 ≤ P.MOST }
+    requires fits { (end - from ≤ U.MOST) × (border ≤ U.MOST) }
+    ensures counts { e_len.new ≡ slice_set e_len.old me (flip_of (block + border)) }
+    ensures lengths { len.new ≡ slice_set len.old me (end - from) }
+    ensures borders { degree.new ≡ slice_set degree.old me border }
 {
     put_flip(e_len, me, block + border);
     put_cell(len, me, end - from);

@@ -3,20 +3,18 @@
 // bucket are compared: a bucket is chosen by ten bits of a key, or by all but the lowest four in a large front.
 // Source: Amestoy, Davis and Duff 1996 (supervariables, found by a hash function).
 
-ghost use Rattle.std.specs.Prelude.{ℕ, ◌&&◌, ◌<◌, ◌==◌, ◌≡◌, ◌≤◌, negsuc, cond, length, slice_set, true, false};
+ghost use Rattle.std.specs.Prelude.{ℕ, ◌&&◌, ◌+◌, ◌<◌, ◌==◌, ◌≡◌, ◌≤◌, negsuc, cond, length, slice_set, true, false};
 ghost use Rattle.std.specs.Prelude.{nat_lt};
 ghost use Rattle.amd_model.specs.Quotient.{each, has};
 ghost use Rattle.amd_words.specs.Sides.{lasts, nexts};
 ghost use Rattle.amd_words.specs.Words.{flip_of, is_place, num, rows, size_of, word};
-ghost use Rattle.amd_lists.specs.Chains.{Chain};
 ghost use Rattle.amd_lists.specs.Lengths.{row_count};
 ghost use Rattle.amd_lists.specs.Spans.{IsSpan};
 ghost use Rattle.amd_merging.specs.Reading.{KeepsCounts, classes_with, lists_read};
 ghost use Rattle.amd_merging.specs.Effects.{AddsInside, FindsAlike, MergesClasses, MergesOne};
-ghost use Rattle.amd_merging.specs.Merging.{Finds, HasNone, HasSome, IsRenewed, as_long, bucket, bucket_of};
+ghost use Rattle.amd_merging.specs.Merging.{Finds, HasNone, HasSome, IsRenewed, as_long, bucket};
 ghost use Rattle.amd_merging.specs.Merging.{is_near, looks};
-ghost use Rattle.amd_merging.specs.Premises.{CanAdd, CanCompare, CanFind, CanMergeFront, CanMergeInto, CanMergeOne};
-ghost use Rattle.amd_merging.specs.Premises.{CanPush, CanWalk};
+ghost use Rattle.amd_merging.specs.Premises.{CanAdd, CanFind, CanMeet, CanMergeFront, CanMergeOne, CanWalk};
 
 use crate::buckets::bucket_at;
 use amd_words::sides::{Sides, last_at, next_at, put_next, row_count};
@@ -91,9 +89,7 @@ fn any_as_long<P: Signed, U: Unsigned>(
     count: usize,
     few: usize,
 ) -> bool
-    requires lengths { (length e_len.now ≡ row_count sides.now) × (length len.now ≡ row_count sides.now) }
-    requires chain { Chain (row_count sides.now) (nexts sides.now) head (bucket (nexts sides.now) head) }
-    requires members { (j : ℕ) → has (bucket (nexts sides.now) head) j ≡ true → is_place (word e_len.now j) ≡ true }
+    requires { CanMeet e_len.now len.now sides.now head }
     ensures some { result ≡ true → HasSome (λ j. num (lasts sides.now) j == key &&
         as_long e_len.now len.now count few j) (bucket (nexts sides.now) head) }
     ensures none { result ≡ false → HasNone (λ j. num (lasts sides.now) j == key &&
@@ -119,7 +115,8 @@ fn is_compared<P: Signed, U: Unsigned>(
     head: usize,
     i: usize,
 ) -> bool
-    requires { CanCompare i e_len.now len.now sides.now head }
+    requires bucket { CanMeet e_len.now len.now sides.now head }
+    requires class { (i < row_count sides.now) × (is_place (word e_len.now i) ≡ true) }
     ensures some { result ≡ true → HasSome (is_near e_len.now len.now (lasts sides.now) i)
         (bucket (nexts sides.now) head) }
     ensures none { result ≡ false → HasNone (is_near e_len.now len.now (lasts sides.now) i)
@@ -232,7 +229,9 @@ fn merge<S: Signed, P: Signed>(
     i: usize,
     j: usize,
 )
-    requires { CanMergeInto S.MOST P.MOST i j pe.old e_len.old nv.old }
+    requires lengths { (length pe.old ≡ length nv.old) × (length e_len.old ≡ length nv.old) }
+    requires short { length nv.old + 2 ≤ P.MOST }
+    requires add { CanAdd S.MOST i j nv.old }
     ensures links { pe.new ≡ slice_set pe.old i (flip_of j) }
     ensures lists { e_len.new ≡ slice_set e_len.old i (negsuc 0) }
     ensures adds { AddsInside i j nv.old nv.new }
@@ -244,7 +243,8 @@ fn merge<S: Signed, P: Signed>(
 
 /// Puts a class at the head of a bucket.
 fn push<U: Unsigned>(hash: &mut [Cell<U>], sides: &mut [Sides<U>], i: usize, key: usize)
-    requires { CanPush U.MOST i key hash.old sides.old }
+    requires inside { (i < row_count sides.old) × (key < length hash.old) }
+    requires short { row_count sides.old ≤ U.MOST }
     ensures links { nexts sides.new ≡ slice_set (nexts sides.old) i (num hash.old key) }
     ensures keys { lasts sides.new ≡ lasts sides.old }
     ensures heads { hash.new ≡ slice_set hash.old key i }
@@ -255,7 +255,7 @@ fn push<U: Unsigned>(hash: &mut [Cell<U>], sides: &mut [Sides<U>], i: usize, key
 
 /// The sizes of classes and the counters of rows, which merging writes.
 #[derive(Drop)]
-pub struct Counts<'a, 'b, S: Signed, U: Unsigned> {
+pub struct ClassCounts<'a, 'b, S: Signed, U: Unsigned> {
     /// The number of rows of each class, negative in the front.
     pub nv: &'a mut [Word<S>],
     /// The counter of each row, by which it is marked.
@@ -281,7 +281,7 @@ fn merge_one<S: Signed, P: Signed, U: Unsigned>(
     pe: &mut [Word<P>],
     e_len: &mut [Word<P>],
     len: &[Cell<U>],
-    counts: &mut Counts<'_, '_, S, U>,
+    counts: &mut ClassCounts<'_, '_, S, U>,
     hash: &mut [Cell<U>],
     sides: &mut [Sides<U>],
     sought: Sought,
@@ -339,7 +339,7 @@ pub fn merge_front<S: Signed, P: Signed, U: Unsigned>(
     pe: &mut [Word<P>],
     e_len: &mut [Word<P>],
     len: &mut [Cell<U>],
-    counts: &mut Counts<'_, '_, S, U>,
+    counts: &mut ClassCounts<'_, '_, S, U>,
     hash: &mut [Cell<U>],
     sides: &mut [Sides<U>],
     front: Members,

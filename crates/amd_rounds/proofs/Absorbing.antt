@@ -86,7 +86,7 @@ module _ {g : Graph} {dense : ℕ → Bool} {nzaat : ℕ} {aggressive : Bool} {p
         let was : num r.p2.w e ≡ num p.w e = counters_here r e ∙ cond-false (own e) 0 (num p.w e) o in
         elim (cases_eq (num r.turns.first e) 0) [
           | inr nz ↦ omega (arith, nz)
-          | inl z ↦ (let b = eqb-true (num r.p2.w e) 0 (sym (r.turns.zeros e) ∙ eq-eqb (num r.turns.first e) 0 z) in
+          | inl z ↦ (let b = eqb-true (num r.p2.w e) 0 (sym (r.turns.renews.zeros e) ∙ eq-eqb (num r.turns.first e) 0 z) in
               absurd (omega (arith, b, was, some)))
         ]
 
@@ -118,7 +118,7 @@ module _ {g : Graph} {dense : ℕ → Bool} {nzaat : ℕ} {aggressive : Bool} {p
   ends_listed e h = elim (cases_eq (seen_here e) 0) [
     | inr nz ↦ seen_listed r e (omega (arith, nz))
     | inl z ↦ clash h (ap (λ m. ends aggressive r.p3.flag (counter r.p3.flag (num r.turns.first e) (num p.degree e) m)) z
-        ∙ ends_none aggressive r.p3.flag (num r.turns.first e) (num p.degree e) r.turns.two (r.turns.under e))
+        ∙ ends_none aggressive r.p3.flag (num r.turns.first e) (num p.degree e) r.turns.renews.two (r.turns.renews.under e))
   ]
 
   untouched_stays : (e : ℕ) → own e ≡ false → has touched e ≡ false → ends_by r e ≡ false

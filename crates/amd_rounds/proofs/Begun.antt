@@ -11,7 +11,7 @@ use Rattle.amd_words.specs.Words.{num, word, place, is_place, size_of}
 use Rattle.amd_lists.specs.Layout.{rows_met}
 use Rattle.amd_elements.specs.Pivots.{built_front}
 use Rattle.amd_lists.specs.Layout.{elements_in, ReadsSame}
-use Rattle.amd_elements.specs.Making.{IsTouched}
+use Rattle.amd_elements.proofs.Made.{IsTouched}
 use Rattle.amd_elements.specs.Beginning.{Begins}
 use Rattle.amd_lists.specs.Renewal.{is_kept}
 use Rattle.amd_fronts.specs.Turning.{IsTurning}
@@ -123,10 +123,12 @@ module _ (g : Graph) (dense : ℕ → Bool) (nzaat : ℕ) (p : Workspace) (t : Q
     row = picks.row;
     laid = begins_front.laid;
     end = begins.end;
-    starts = begins_front.starts;
-    within = begins_front.inside;
-    once = subst Once (sym front_is) (front_once p.iw p.nv p.pe p.len c (place (word p.e_len c)));
-    apart = ap (λ l. has l c) front_is ∙ apart;
+    list = record {
+      starts = begins_front.starts;
+      within = begins_front.inside;
+      once = subst Once (sym front_is) (front_once p.iw p.nv p.pe p.len c (place (word p.e_len c)));
+      apart = ap (λ l. has l c) front_is ∙ apart;
+    };
   }
 
   front_turning : (i : ℕ) → has front i ≡ true → IsTurning g.size c p2 i

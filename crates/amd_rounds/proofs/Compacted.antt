@@ -13,7 +13,8 @@ use Rattle.amd_round_laws.specs.Views.{live_of}
 use Rattle.amd_words.specs.Words.{num, word, is_place, place, size_of}
 use Rattle.amd_lists.specs.Layout.{has_list, elements_in, variables_in, Layout, ReadsSame}
 use Rattle.amd_lists.proofs.Frames.{has_parts, reads_list, reads_elements, reads_variables, live_part}
-use Rattle.amd_elements.specs.Compaction.{Compacts, Packs}
+use Rattle.amd_elements.specs.Compaction.{Compacts}
+use Rattle.amd_elements.proofs.Moves.{Packs}
 use Rattle.amd_elements.proofs.Moves.{packs}
 use Rattle.amd_model.proofs.Quotient.Lists.{some_of}
 use Rattle.amd_lists.specs.Workspaces.{Workspace}

@@ -56,7 +56,8 @@ module _ {g : Graph} {dense : ℕ → Bool} {nzaat : ℕ} {aggressive : Bool} {p
 
   pub counters_under : (most : ℕ) → p.most ≤ most → (e : ℕ) → num r.p3.w e < r.p3.flag + most
   counters_under most high e = let a = counted r e in
-      let b = settled_under aggressive r.p3.flag (num r.turns.first e) (num p.degree e) (seen_here e) most r.turns.two (r.turns.under e)
+      let b = settled_under aggressive r.p3.flag (num r.turns.first e) (num p.degree e) (seen_here e) most
+      r.turns.renews.two (r.turns.renews.under e)
       (λ some rows_met. let q = seen_listed e rows_met in
       let d = (standing.element_flip g dense nzaat p t s r.st q.0 e (front_placed r q.0 q.1) q.2).3 in
       (seen_few e, omega (arith, d, high))) in omega (arith, a, b)
@@ -64,8 +65,9 @@ module _ {g : Graph} {dense : ℕ → Bool} {nzaat : ℕ} {aggressive : Bool} {p
   -- a counter is 0 after the count exactly if it was after the beginning, or if the element ended
   pub counter_zero : (e : ℕ) → (num r.p3.w e == 0) ≡ (num r.p2.w e == 0 || ends_by r e)
   counter_zero e = ap (λ m. m == 0) (counted r e)
-      ∙ settled_zero aggressive r.p3.flag (num r.turns.first e) (num p.degree e) (seen_here e) r.turns.two (r.turns.under e) (seen_few e)
-      ∙ ap (λ b. b || ends_by r e) (r.turns.zeros e)
+      ∙ settled_zero aggressive r.p3.flag (num r.turns.first e) (num p.degree e) (seen_here e) r.turns.renews.two
+      (r.turns.renews.under e) (seen_few e)
+      ∙ ap (λ b. b || ends_by r e) (r.turns.renews.zeros e)
 
   -- the counter of an open class is above 0
   pub class_counter : (j : ℕ) → has t.placed j ≡ true → 0 < num r.p3.w j
@@ -74,10 +76,11 @@ module _ {g : Graph} {dense : ℕ → Bool} {nzaat : ℕ} {aggressive : Bool} {p
       let some = r.st.laid.standing j (r.st.laid.classes j class).0 in
       let own = standing.element_apart g dense nzaat p t s r.st r.c j (pivot_placed r) k in
       let was : num r.p2.w j ≡ num p.w j = counters_here r j ∙ cond-false (has (elements_in p.iw p.pe p.e_len r.c) j) 0 (num p.w j) own in
-      let stays = counted_none aggressive r.p3.flag (num r.turns.first j) (num p.degree j) (seen_here j) r.turns.two (r.turns.under j)
+      let stays = counted_none aggressive r.p3.flag (num r.turns.first j) (num p.degree j) (seen_here j) r.turns.renews.two
+      (r.turns.renews.under j)
       (seen_none j k) in
       let a = counted r j in
-      let first : num r.turns.first j ≡ 0 → ⊥ = λ z. (let b = eqb-true (num r.p2.w j) 0 (sym (r.turns.zeros j)
+      let first : num r.turns.first j ≡ 0 → ⊥ = λ z. (let b = eqb-true (num r.p2.w j) 0 (sym (r.turns.renews.zeros j)
       ∙ eq-eqb (num r.turns.first j) 0 z) in omega (arith, b, was, some)) in
       above (num r.p3.w j) (num r.turns.first j) (a ∙ sym stays) first
     where

@@ -1,6 +1,6 @@
 -- After the classes of a front are merged: those that are left can be placed, and the element can be closed.
 use Rattle.std.proofs.Common.{ℕ, negsuc, Bool, true, false, List, ◌≡◌, ◌<◌, ◌≤◌, ◌+◌, ◌-◌, ◌⊎◌, inl, inr, sym, subst, ap, ◌∙◌}
-use Rattle.std.proofs.Common.{arith, cond, not, filter, length, sum_by, ◌%◌}
+use Rattle.std.proofs.Common.{arith, cond, not, filter, length}
 use Rattle.std.specs.Prelude.{◌^◌, ◌==◌, min}
 use Rattle.std.proofs.Math.Nat.{min-le_left}
 use Rattle.amd_lists.proofs.Keys.{key_small}
@@ -12,7 +12,7 @@ use Rattle.amd_model.proofs.Counting.Below.{clash}
 use Rattle.amd_model.proofs.Listings.Words.{filter_has, has_filter as filter_gives}
 use Rattle.amd_words.specs.Words.{num, word, place, is_place, start, in_front, flip_of}
 use Rattle.amd_lists.specs.Layout.{has_list, end_of, Layout}
-use Rattle.amd_lists.specs.Chains.{without}
+use Rattle.amd_lists.specs.Chains.{DegreeLists, without}
 use Rattle.amd_lists.specs.Sizes.{bucket_count}
 use Rattle.amd_merging.specs.Merging.{words_of, bucket_of}
 use Rattle.amd_merging.specs.Restoring.{marked_in, IsPlaceable}
@@ -43,16 +43,17 @@ module _ {g : Graph} {dense : ℕ → Bool} {nzaat : ℕ} {aggressive : Bool} {p
   drops : (j : ℕ) → (word p4.pe j ≡ word r.p3.pe j) ⊎ (is_place (word p4.pe j) ≡ false)
   unfolding is_place
   drops j = elim (cases_Bool (merged j)) [
-    | inl y ↦ inr (ap is_place (merges.merged.links j ∙ cond-true (merged j) (flip_of (into r p4 merges j)) (word r.p3.pe j) y))
-    | inr n ↦ inl (merges.merged.links j ∙ cond-false (merged j) (flip_of (into r p4 merges j)) (word r.p3.pe j) n)
+    | inl y ↦ inr (ap is_place (merges.list.merged.links j ∙ cond-true (merged j) (flip_of (into r p4 merges j)) (word r.p3.pe j) y))
+    | inr n ↦ inl (merges.list.merged.links j ∙ cond-false (merged j) (flip_of (into r p4 merges j)) (word r.p3.pe j) n)
   ]
 
   still_laid : Layout g.size r.p3.iw p4.pe p4.e_len r.p3.len r.p3.free
   unfolding place
   still_laid = let y = dropped (can_merge r).front.laid p4.pe drops in
       recounted p4.e_len y (λ j h. elim (cases_Bool (merged j)) [
-        | inl m ↦ (let e = ap place (merges.merged.lists j ∙ cond-true (merged j) (negsuc 0) (word r.p3.e_len j) m) in omega (arith, e))
-        | inr n ↦ (let e = ap place (merges.merged.lists j ∙ cond-false (merged j) (negsuc 0) (word r.p3.e_len j) n) in
+        | inl m ↦ (let e = ap place (merges.list.merged.lists j ∙ cond-true (merged j) (negsuc 0) (word r.p3.e_len j) m) in
+            omega (arith, e))
+        | inr n ↦ (let e = ap place (merges.list.merged.lists j ∙ cond-false (merged j) (negsuc 0) (word r.p3.e_len j) n) in
             let a = y.parts j h in omega (arith, e, a))
       ])
 
@@ -61,11 +62,13 @@ module _ {g : Graph} {dense : ℕ → Bool} {nzaat : ℕ} {aggressive : Bool} {p
     row = (can_merge r).front.row;
     laid = subst (λ (w : Workspace). Layout g.size w.iw p4.pe p4.e_len w.len w.free) (sym merges.same) still_laid;
     end = subst (λ (w : Workspace). w.free ≤ length w.iw) (sym merges.same) (can_merge r).front.end;
-    starts = ap is_place (pivot_start r p4 merges) ∙ (can_merge r).front.starts;
-    within = subst (λ (w : Workspace). place (word p4.pe r.c) + num w.len r.c ≤ w.free) (sym merges.same)
-        (let a = ap place (pivot_start r p4 merges) in let b = (can_merge r).front.within in omega (arith, a, b));
-    once = subst Once (sym (front_stays r p4 merges)) (can_merge r).front.once;
-    apart = ap (λ l. has l r.c) (front_stays r p4 merges) ∙ (can_merge r).front.apart;
+    list = record {
+      starts = ap is_place (pivot_start r p4 merges) ∙ (can_merge r).front.list.starts;
+      within = subst (λ (w : Workspace). place (word p4.pe r.c) + num w.len r.c ≤ w.free) (sym merges.same)
+          (let a = ap place (pivot_start r p4 merges) in let b = (can_merge r).front.list.within in omega (arith, a, b));
+      once = subst Once (sym (front_stays r p4 merges)) (can_merge r).front.list.once;
+      apart = ap (λ l. has l r.c) (front_stays r p4 merges) ∙ (can_merge r).front.list.apart;
+    };
   }
 
   -- ---- its classes
@@ -105,9 +108,9 @@ module _ {g : Graph} {dense : ℕ → Bool} {nzaat : ℕ} {aggressive : Bool} {p
   heads_marked : (b : ℕ) → b < bucket_count g.size → num p4.hash b < g.size →
       (1 < num p4.len r.c) × (has (marked_in p4.nv (front_at p4 r.c)) (num p4.hash b) ≡ true) ×
       (bucket_of (num p4.len r.c) p4.last (num p4.hash b) ≡ b)
-  heads_marked b l h = let q = merges.heads b l h in (
+  heads_marked b l h = let q = merges.list.heads b l h in (
     (let a = q.0 in let f = ap (λ (w : Workspace). num w.len r.c) merges.same in omega (arith, a, f)),
-    ap (λ xs. has xs (num p4.hash b)) (marked_made r p4 merges) ∙ sym (ap (λ xs. has xs (num p4.hash b)) merges.made) ∙ q.1,
+    ap (λ xs. has xs (num p4.hash b)) (marked_made r p4 merges) ∙ sym (ap (λ xs. has xs (num p4.hash b)) merges.list.made) ∙ q.1,
     ap (λ (w : Workspace). bucket_of (num w.len r.c) w.last (num p4.hash b)) merges.same ∙ q.2,
   )
 
@@ -134,17 +137,18 @@ module _ {g : Graph} {dense : ℕ → Bool} {nzaat : ℕ} {aggressive : Bool} {p
       (filter_gives (λ j. not (has (front_at r.p2 r.c) j)) (without r.c (by_bound t d)) x h).1
 
   pub still_linked : LinksByBound g.size p4 lists
-  still_linked = merges.linked lists (λ d x l h. not_rest r p4 merges x (outside d x h))
-      (r.turns.linked (λ d. without r.c (by_bound t d)) named linked_begun)
+  still_linked = subst (λ (w : Workspace). DegreeLists g.size w.head p4.next w.last w.degree lists) (sym merges.same)
+      (merges.list.linked r.p3.head r.p3.degree lists (λ d x l h. not_rest r p4 merges x (outside d x h))
+      (r.turns.linked (λ d. without r.c (by_bound t d)) named linked_begun))
 
   -- ---- an element behind all lists
 
   stays_before : r.is_built ≡ true → (j : ℕ) → (j ≡ r.c → ⊥) → has_list p4.pe p4.len j ≡ true → end_of p4.pe p4.len j ≤ start p4.pe r.c
   stays_before built j ne h =
       let parts = has_parts p4.pe p4.len j h in let some = parts.1 in
-      let alone = no_mark (merged j) (into r p4 merges j) (word r.p3.pe j) (ap is_place (sym (merges.merged.links j)) ∙ parts.0) in
-      let at : word p4.pe j ≡ word r.p3.pe j = merges.merged.links j ∙ cond-false (merged j) (flip_of (into r p4 merges j)) (word r.p3.pe j)
-      alone in
+      let alone = no_mark (merged j) (into r p4 merges j) (word r.p3.pe j) (ap is_place (sym (merges.list.merged.links j)) ∙ parts.0) in
+      let at : word p4.pe j ≡ word r.p3.pe j = merges.list.merged.links j
+      ∙ cond-false (merged j) (flip_of (into r p4 merges j)) (word r.p3.pe j) alone in
       let half = half_place r j (ap is_place (sym at) ∙ parts.0) in
       let count = ap (λ (w : Workspace). num w.len j) merges.same in
       let short = r.turns.turns.renewed.renewed.shorter j in

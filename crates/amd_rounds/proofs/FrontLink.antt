@@ -12,15 +12,15 @@ use Rattle.amd_round_laws.proofs.Fronts.Absorbed.{front_found}
 use Rattle.amd_round_laws.proofs.Lists.Taken.{taken_off}
 use Rattle.amd_words.specs.Words.{size_of}
 use Rattle.amd_fronts.specs.Counts.{counter}
-use Rattle.amd_lists.specs.Layout.{elements_in, rows_met}
-use Rattle.amd_elements.specs.Element.{front_of, members_at, elements_at, variables_at}
+use Rattle.amd_lists.specs.Layout.{elements_in, rows_met, list_in}
+use Rattle.amd_elements.specs.Element.{front_of, elements_at, variables_at}
 
 pub front_gathered : (g : Graph) (s : State) (t : QuotientGraph) → Fits g t s → (v : View) → Keeps v t →
     (iw nv pe : List ℤ) (len : List ℕ) (c m : ℕ) → has t.placed c ≡ true →
-    v.size ≡ size_of nv → v.members ≡ members_at iw pe len → v.lists.elements c ≡ elements_at iw pe c m →
+    v.size ≡ size_of nv → v.members ≡ list_in iw pe len → v.lists.elements c ≡ elements_at iw pe c m →
     v.lists.variables c ≡ variables_at iw pe len c m → front_of iw nv pe len c m ≡ gathered t c
 front_gathered g s t fits v keeps iw nv pe len c m class size members elements variables =
-    ap (λ z. firsts (λ x. x == c) (flat_map (λ e. live_of z (members_at iw pe len e)) (elements_at iw pe c m)
+    ap (λ z. firsts (λ x. x == c) (flat_map (λ e. live_of z (list_in iw pe len e)) (elements_at iw pe c m)
     ++ live_of z (variables_at iw pe len c m))) (sym size)
     ∙ ap (λ z. firsts (λ x. x == c) (flat_map (λ e. live_of v.size (z e)) (elements_at iw pe c m)
     ++ live_of v.size (variables_at iw pe len c m))) (sym members)

@@ -18,13 +18,13 @@ use Rattle.amd_rounds.specs.Premises.{HasFront}
 
 module _ {n me : ℕ} {p : Workspace} (h : HasFront n me p) where
   pub front_names : Names n p.iw (start p.pe me) (num p.len me)
-  front_names = λ k l. h.laid.words (start p.pe me + k) (let a = h.within in omega (arith, a, l))
+  front_names = λ k l. h.laid.words (start p.pe me + k) (let a = h.list.within in omega (arith, a, l))
 
   pub front_below : (j : ℕ) → has (front_at p me) j ≡ true → j < n
   front_below j m = names_below n p.iw (start p.pe me) (num p.len me) j front_names m
 
   pub front_count : num p.len me ≤ n
-  front_count = let a = once_few n (front_at p me) h.once front_below in let b = rows_length p.iw (start p.pe me) (num p.len me) in
+  front_count = let a = once_few n (front_at p me) h.list.once front_below in let b = rows_length p.iw (start p.pe me) (num p.len me) in
       omega (arith, a, b)
 
 -- lists by bound ask nothing of the bound of a row that none of them names

@@ -12,7 +12,7 @@ use Rattle.amd_elements.specs.Pivots.{built_front}
 use Rattle.amd_lists.specs.Layout.{elements_in, variables_in}
 use Rattle.amd_lists.specs.Chains.{Chooses}
 use Rattle.amd_elements.specs.Beginning.{Begins}
-use Rattle.amd_elements.specs.Making.{IsTouched}
+use Rattle.amd_elements.proofs.Made.{IsTouched}
 use Rattle.amd_lists.specs.Renewal.{is_kept, is_outside}
 use Rattle.amd_fronts.specs.Fronts.{is_done, kept_in, near_in}
 use Rattle.amd_fronts.specs.TurningLists.{AreTurning}
@@ -178,12 +178,12 @@ module _ {g : Graph} {dense : ℕ → Bool} {nzaat : ℕ} {aggressive : Bool} {p
   counting = record r.p2 { w = r.turns.first; flag = r.p3.flag }
 
   turning : AreTurning g.size r.c counting
-  turning i h = begun.turning_zeros r.turns.zeros (can_turn.classes i h)
+  turning i h = begun.turning_zeros r.turns.renews.zeros (can_turn.classes i h)
 
   pub left_pivot : word r.turns.turns.left r.c ≡ word r.p2.pe r.c
-  left_pivot = left_me {p = counting} aggressive can_turn.front.laid r.turns.two r.turns.under turning r.turns.turns.left
-      r.turns.turns.ended
+  left_pivot = left_me {p = counting} aggressive can_turn.front.laid r.turns.renews.two r.turns.renews.under turning
+      r.turns.turns.left r.turns.turns.ended
 
   pub left_class : (i : ℕ) → has front i ≡ true → word r.turns.turns.left i ≡ word r.p2.pe i
-  left_class i h = left_front {p = counting} aggressive can_turn.front.laid r.turns.two r.turns.under turning r.turns.turns.left
-      r.turns.turns.ended i (ap (λ l. has l i) front_begun ∙ h)
+  left_class i h = left_front {p = counting} aggressive can_turn.front.laid r.turns.renews.two r.turns.renews.under turning
+      r.turns.turns.left r.turns.turns.ended i (ap (λ l. has l i) front_begun ∙ h)

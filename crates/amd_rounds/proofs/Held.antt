@@ -48,7 +48,7 @@ module _ {g : Graph} {dense : ℕ → Bool} {nzaat : ℕ} {aggressive : Bool} {p
       let q = filter_gives (λ i. into r p4 merges i == i) (rest r p4 merges) x h in
       let some = ltb-true 0 (size_of r.p3.nv x) (filter_gives (λ i. nat_lt 0 (size_of r.p3.nv i)) (front_at r.p3 r.c) x q.0).1 in
       let all : ℕ = sum_by (size_of r.p3.nv) (filter (λ i. into r p4 merges i == x) (rest r p4 merges)) in
-      let size : size_of v.nv x ≡ all = ended.restores.sizes x ∙ merges.merged.sizes x
+      let size : size_of v.nv x ≡ all = ended.restores.sizes x ∙ merges.list.merged.sizes x
       ∙ cond-true (has (rest r p4 merges) x) (cond (into r p4 merges x == x) all 0) (size_of r.p3.nv x) q.0
       ∙ cond-true (into r p4 merges x == x) all 0 q.1 in
       let part = named_sum (size_of r.p3.nv) (filter (λ i. into r p4 merges i == x) (rest r p4 merges)) x

@@ -57,7 +57,7 @@ module _ {g : Graph} {dense : ℕ → Bool} {nzaat : ℕ} {aggressive : Bool} {p
   borders_after e mark h = elim (cases_eq e r.c) [
     | inr ne ↦ relaid.borders_open r p4 merges v ended e ne mark h
     | inl q ↦ (let a = ap (num v.degree) q in let b = pivot_border r p4 merges v ended in
-        let m = ap (λ (w : Workspace). w.most) ended.same in let k = merges.most_is in
+        let m = ap (λ (w : Workspace). w.most) ended.same in let k = ap (λ (w : Workspace). w.most) merges.same in
         let l = le-max_right r.p3.most (r.total - r.gone) in omega (arith, a, b, m, k, l))
   ]
 

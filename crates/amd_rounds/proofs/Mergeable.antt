@@ -85,11 +85,13 @@ module _ {g : Graph} {dense : ℕ → Bool} {nzaat : ℕ} {aggressive : Bool} {p
     row = r.picks.row;
     laid = laid_turned;
     end = end_turned;
-    starts = ap is_place (pivot_start r ∙ left_pivot r) ∙ (begins_here r).starts;
-    within = let a = (begins_here r).inside in let b = ap place (pivot_start r ∙ left_pivot r) in let c = pivot_length r in
-        let d = free_stays r in omega (arith, a, b, c, d);
-    once = subst Once (sym (front_after r)) (once_front r);
-    apart = ap (λ l. has l r.c) (front_after r) ∙ front_other r;
+    list = record {
+      starts = ap is_place (pivot_start r ∙ left_pivot r) ∙ (begins_here r).starts;
+      within = let a = (begins_here r).inside in let b = ap place (pivot_start r ∙ left_pivot r) in let c = pivot_length r in
+          let d = free_stays r in omega (arith, a, b, c, d);
+      once = subst Once (sym (front_after r)) (once_front r);
+      apart = ap (λ l. has l r.c) (front_after r) ∙ front_other r;
+    };
   }
 
   -- ---- the classes that are left
@@ -195,10 +197,10 @@ module _ {g : Graph} {dense : ℕ → Bool} {nzaat : ℕ} {aggressive : Bool} {p
       small = let a = border_is in let b = total_few in omega (arith, a, b);
       standing = λ i x h m. class_standing i h x m;
     };
-    two = r.turns.two;
+    two = r.turns.renews.two;
     under = counters_under r (max r.p3.most (r.total - r.gone)) (let a = most_stays r in
         let b = le-max_left r.p3.most (r.total - r.gone) in omega (arith, a, b));
-    room = r.turns.room;
+    room = (let a = r.turns.renews.room in let b = r.begins.sized.w in omega (arith, a, b));
     most = let a = total_few in let b = most_stays r in let c = r.st.laid.most in (omega (arith, a), omega (arith, b, c));
     live = let a = rows_live in let b = border_is in let c = live_stays r in omega (arith, a, b, c);
     empty = λ b l. let a = r.st.laid.empty b l in let h = ap (λ k. num k b) (hash_stays r) in omega (arith, a, h);

@@ -90,7 +90,7 @@ module _ {g : Graph} {dense : ℕ → Bool} {nzaat : ℕ} {aggressive : Bool} {p
   pivot_unmerged = not_rest r.c (front_other r)
 
   pub pivot_start : word p4.pe r.c ≡ word r.p3.pe r.c
-  pivot_start = merges.merged.links r.c ∙ ap (λ b. cond (b && not (into r.c == r.c)) (Rattle.amd_words.specs.Words.flip_of (into r.c))
+  pivot_start = merges.list.merged.links r.c ∙ ap (λ b. cond (b && not (into r.c == r.c)) (Rattle.amd_words.specs.Words.flip_of (into r.c))
       (word r.p3.pe r.c)) pivot_unmerged
 
   pub front_stays : front_at p4 r.c ≡ front_at r.p3 r.c
@@ -102,12 +102,12 @@ module _ {g : Graph} {dense : ℕ → Bool} {nzaat : ℕ} {aggressive : Bool} {p
 
   made_marked : (x : ℕ) → has (front_at r.p3 r.c) x ≡ true → 0 < size_of p4.nv x → in_front p4.nv x ≡ true
   made_marked x h l =
-      let k = made_gives (front_at r.p3 r.c) into (classes_in r.p3) (classes_in p4) merges.merged x
+      let k = made_gives (front_at r.p3 r.c) into (classes_in r.p3) (classes_in p4) merges.list.merged x
       (filter_has (λ j. nat_lt 0 (size_of p4.nv j)) (front_at r.p3 r.c) x h (lt-ltb 0 (size_of p4.nv x) l)) in
-      merges.merged.front x
+      merges.list.merged.front x
       ∙ cond-false (has rest x && not (into x == x)) false (in_front r.p3.nv x)
       (and_right (has rest x) (not (into x == x)) (not_from_true (into x == x) (eq-eqb (into x) x k.1)))
       ∙ (can_merge r).renewed.marked x k.0
 
   pub marked_made : marked_in p4.nv (front_at p4 r.c) ≡ made
-  marked_made = ap (marked_in p4.nv) front_stays ∙ marked_classes p4.nv (front_at r.p3 r.c) made_marked ∙ merges.made
+  marked_made = ap (marked_in p4.nv) front_stays ∙ marked_classes p4.nv (front_at r.p3 r.c) made_marked ∙ merges.list.made

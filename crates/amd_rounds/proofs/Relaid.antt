@@ -38,7 +38,7 @@ module _ {g : Graph} {dense : ℕ → Bool} {nzaat : ℕ} {aggressive : Bool} {p
   pub class_stays : (j : ℕ) → has t.placed j ≡ true → ends_by r j ≡ false
   class_stays j h = ap (λ m. ends aggressive r.p3.flag (counter r.p3.flag (num r.turns.first j) (num p.degree j) m))
       (seen_none r j h)
-      ∙ ends_none aggressive r.p3.flag (num r.turns.first j) (num p.degree j) r.turns.two (r.turns.under j)
+      ∙ ends_none aggressive r.p3.flag (num r.turns.first j) (num p.degree j) r.turns.renews.two (r.turns.renews.under j)
 
   -- a row outside the front has as many rows as before
   row_half : (j : ℕ) → has r.begins.front j ≡ false → word r.p3.nv j ≡ word r.p2.nv j
@@ -74,7 +74,7 @@ module _ {g : Graph} {dense : ℕ → Bool} {nzaat : ℕ} {aggressive : Bool} {p
         (r.st.laid.laid.parts i (r.st.laid.classes i (standing.placed_class g dense nzaat p t s r.st i h).0).0)
 
     pub size_open : (i : ℕ) → has r.begins.front i ≡ false → size_of v.nv i ≡ cond (i == r.c) 0 (size_of p.nv i)
-    size_open i out = ended.restores.sizes i ∙ merges.merged.sizes i
+    size_open i out = ended.restores.sizes i ∙ merges.list.merged.sizes i
         ∙ cond-false (has rest i) _ (size_of r.p3.nv i) (merging.not_rest r p4 merges i out)
         ∙ ap rows_in (row_half i out) ∙ (begins_here r).sizes i
 
@@ -117,7 +117,8 @@ module _ {g : Graph} {dense : ℕ → Bool} {nzaat : ℕ} {aggressive : Bool} {p
       | inl h ↦ ended.restores.marks j ∙ ap (λ l. marked_at p4.nv j && not (has l j)) (merging.front_merged r p4 merges)
           ∙ ap (λ b. marked_at p4.nv j && not b) h ∙ and-false (marked_at p4.nv j)
       | inr out ↦ (
-          let none : marked_at p4.nv j ≡ false = merges.merged.front j ∙ cond-false (merged j) false (marked_at r.p3.nv j) (alone j out)
+          let none : marked_at p4.nv j ≡ false = merges.list.merged.front j
+          ∙ cond-false (merged j) false (marked_at r.p3.nv j) (alone j out)
           ∙ ap is_negative (row_half j out) ∙ (begins_here r).marks j ∙ out in
           ended.restores.marks j ∙ ap (λ b. b && not (has (front_at p4 r.c) j)) none)
     ]
@@ -129,7 +130,7 @@ module _ {g : Graph} {dense : ℕ → Bool} {nzaat : ℕ} {aggressive : Bool} {p
     made_parts i h l =
         let all : ℕ = sum_by (size_of r.p3.nv) (filter (λ j. into j == i) rest) in
         let sizes : size_of v.nv i ≡ cond (has rest i) (cond (into i == i) all 0) (size_of r.p3.nv i) = ended.restores.sizes i
-        ∙ merges.merged.sizes i in
+        ∙ merges.list.merged.sizes i in
         let in_list : has (front_at r.p3 r.c) i ≡ true = ap (λ k. has k i) (front_after r) ∙ h in
         let named : has rest i ≡ true = elim (cases_Bool (has rest i)) [
           | inl y ↦ y
@@ -164,12 +165,12 @@ module _ {g : Graph} {dense : ℕ → Bool} {nzaat : ℕ} {aggressive : Bool} {p
         let out : (has (front_at r.p2 r.c) i && lists.done r i) ≡ false = ap (λ b. has (front_at r.p2 r.c) i && b) part.1
         ∙ and-false (has (front_at r.p2 r.c) i) in
         let at : word v.pe i ≡ word r.turns.turns.left i = ap (λ k. word k i) (lists.starts_stay r p4 merges v ended)
-        ∙ merges.merged.links i ∙ cond-false _ (flip_of (into i)) (word r.p3.pe i) part.0
+        ∙ merges.list.merged.links i ∙ cond-false _ (flip_of (into i)) (word r.p3.pe i) part.0
         ∙ lists.starts_is r i ∙ cond-false _ (flip_of r.c) (word r.turns.turns.left i) over in
         let count : num v.len i ≡ num r.p3.len i = ended.closes.lengths i ne ∙ ap (λ k. num k i) (ap (λ q. q.len) merges.same) in
         let listed : has_list r.turns.turns.left r.p2.len i ≡ true =
         has_same r.p2.pe r.turns.turns.left r.p2.len r.p2.len i (left_class r i h) refl ∙ ((can_turn r).classes i of_front).listed in
-        let mark : word v.e_len i ≡ word all.counts i = ended.closes.counts i ne ∙ merges.merged.lists i
+        let mark : word v.e_len i ≡ word all.counts i = ended.closes.counts i ne ∙ merges.list.merged.lists i
         ∙ cond-false _ (negsuc 0) (word r.p3.e_len i) part.0 ∙ all.lists i ∙ cond-false _ (negsuc 0) (word all.counts i) out in (
           has_same r.turns.turns.left v.pe r.p3.len v.len i at count ∙ all.renewed.listed i ∙ listed,
           ap is_place mark ∙ all.renewed.count i of_front,
@@ -229,8 +230,8 @@ module _ {g : Graph} {dense : ℕ → Bool} {nzaat : ℕ} {aggressive : Bool} {p
     -- ---- bounds
 
     pub most_after : v.most ≤ g.size
-    most_after = let a : v.most ≡ p4.most = ap (λ q. q.most) ended.same in let b = merges.most_is in let few = (can_merge r).most in
-        let m = max-le few.1 few.0 in omega (arith, a, b, m)
+    most_after = let a : v.most ≡ p4.most = ap (λ q. q.most) ended.same in
+        let b = ap (λ (w : Workspace). w.most) merges.same in let few = (can_merge r).most in let m = max-le few.1 few.0 in omega (arith, a, b, m)
 
     -- the bound of an open class and the border of another element stay
     pub bound_open : (j : ℕ) → (j ≡ r.c → ⊥) → has r.begins.front j ≡ false → num v.degree j ≡ num p.degree j
@@ -250,7 +251,8 @@ module _ {g : Graph} {dense : ℕ → Bool} {nzaat : ℕ} {aggressive : Bool} {p
         | inr o ↦ (
             let same = (lists.through r p4 merges v ended e o.0 ne o.1 o.2 o.3).1.0 in
             let was = r.st.laid.borders e (ap is_place (sym same) ∙ mark) o.0 in let b = bound_open e ne o.1 in
-            let a : v.most ≡ p4.most = ap (λ q. q.most) ended.same in let d = merges.most_is in let f = most_stays r in
+            let a : v.most ≡ p4.most = ap (λ q. q.most) ended.same in
+            let d = ap (λ (w : Workspace). w.most) merges.same in let f = most_stays r in
             let l = le-max_left r.p3.most (r.total - r.gone) in omega (arith, was, b, a, d, f, l))
       ]
     ]

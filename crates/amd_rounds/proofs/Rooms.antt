@@ -6,7 +6,8 @@ use Rattle.amd_model.specs.Quotient.{has, Once}
 use Rattle.amd_words.specs.Words.{num, word, place, size_of}
 use Rattle.amd_lists.specs.Layout.{has_list, elements_in, Layout}
 use Rattle.amd_elements.specs.Beginning.{Begins}
-use Rattle.amd_elements.specs.Compaction.{Compacts, Packs}
+use Rattle.amd_elements.specs.Compaction.{Compacts}
+use Rattle.amd_elements.proofs.Moves.{Packs}
 use Rattle.amd_elements.specs.Effects.{BeginsBuilt}
 use Rattle.amd_elements.specs.Pivots.{built_front}
 use Rattle.amd_elements.specs.Room.{Rooms}
@@ -17,7 +18,7 @@ use Rattle.amd_elements.proofs.MakingRoom.{rooms_packed, rooms_elements, rooms_k
 use Rattle.amd_elements.proofs.Moves.{packs}
 use Rattle.amd_elements.proofs.Settling.{lists_laid}
 use Rattle.amd_lists.specs.Workspaces.{Workspace}
-use Rattle.amd_lists.specs.Sizes.{IsNarrow}
+use Rattle.amd_lists.specs.Sizes.{AreWideEnough}
 use Rattle.amd_rounds.specs.Laid.{IsLaid}
 use Rattle.amd_rounds.specs.Parts.{BeginsElement, MakesRoom}
 use Rattle.amd_rounds.specs.Premises.{CanBegin}
@@ -94,7 +95,7 @@ module _ {nzaat me : ℕ} {p : Workspace} (laid : IsLaid (length p.nv) nzaat p) 
     front_is = rooms_front laid.laid made.rooms me listed known
 
     -- the element can be built
-    pub can_make : (most_word most_place most_cell : ℕ) → IsNarrow most_word most_place most_cell (length p.nv) p →
+    pub can_make : (most_word most_place most_cell : ℕ) → AreWideEnough most_word most_place most_cell (length p.nv) (length p.iw) →
         CanMakeElement most_place most_cell me v
     can_make most_word most_place most_cell wide = subst (λ (q : Workspace). CanMakeElement most_place most_cell me q)
         (sym made.same) (record {

@@ -74,10 +74,10 @@ module _ {g : Graph} {dense : ℕ → Bool} {nzaat : ℕ} {aggressive : Bool} {p
   other x h e = clash {P = ⊥} h (ap (has (front r)) e ∙ front_other r)
 
   count_is : (x : ℕ) → (x ≡ r.c → ⊥) → word v.e_len x ≡ cond (merged x) (negsuc 0) (word r.p3.e_len x)
-  count_is x ne = ended.closes.counts x ne ∙ merges.merged.lists x
+  count_is x ne = ended.closes.counts x ne ∙ merges.list.merged.lists x
 
   start_is : (x : ℕ) → word v.pe x ≡ cond (merged x) (flip_of (into r p4 merges x)) (word r.p3.pe x)
-  start_is x = ap (λ (w : Workspace). word w.pe x) ended.same ∙ merges.merged.links x
+  start_is x = ap (λ (w : Workspace). word w.pe x) ended.same ∙ merges.list.merged.links x
 
   pub was_class : (x : ℕ) → has t.placed x ≡ true → is_place (word p.e_len x) ≡ true
   was_class x h = (r.st.laid.classes x (standing.placed_class g dense nzaat p t s r.st x h).0).1

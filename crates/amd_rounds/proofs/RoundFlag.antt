@@ -35,12 +35,12 @@ module _ {g : Graph} {dense : ℕ → Bool} {nzaat : ℕ} {aggressive : Bool} {p
   flag_before = ap (λ (w : Workspace). w.flag) r.begins.same ∙ ap (λ (w : Workspace). w.flag) r.picks.same
 
   turned_flag : r.p3.flag ≡ renewed_flag r.most_cell (length p.w) p.flag
-  turned_flag = renewal r.most_cell r.p2.flag r.p3.flag r.p2.w r.turns.first r.turns.renewed
+  turned_flag = renewal r.most_cell r.p2.flag r.p3.flag r.p2.w r.turns.first r.turns.renews.renewed
       ∙ ap (λ m. renewed_flag r.most_cell m r.p2.flag) (r.begins.sized.w ∙ sym r.st.laid.sized.w)
       ∙ ap (renewed_flag r.most_cell (length p.w)) flag_before
 
   most_now : v.most ≡ max r.p3.most (r.total - r.gone)
-  most_now = ap (λ (w : Workspace). w.most) ended.same ∙ merges.most_is
+  most_now = ap (λ (w : Workspace). w.most) ended.same ∙ ap (λ (w : Workspace). w.most) merges.same
 
   merged_flag : raises.flag ≡ compared_flag r.most_cell p v
   merged_flag = renewal r.most_cell (r.p3.flag + max r.p3.most (r.total - r.gone)) raises.flag r.p3.w raises.first raises.renewed

@@ -108,10 +108,10 @@ module _ {g : Graph} {dense : ℕ → Bool} {nzaat : ℕ} {aggressive : Bool} {p
         (filter_gives (λ i. into r p4 merges i == i) (rest r p4 merges) i h).1)
 
     start4 : word p4.pe i ≡ word r.p3.pe i
-    start4 = merges.merged.links i ∙ cond-false (merged i) (flip_of (into r p4 merges i)) (word r.p3.pe i) alone
+    start4 = merges.list.merged.links i ∙ cond-false (merged i) (flip_of (into r p4 merges i)) (word r.p3.pe i) alone
 
     count4 : word p4.e_len i ≡ word r.p3.e_len i
-    count4 = merges.merged.lists i ∙ cond-false (merged i) (negsuc 0) (word r.p3.e_len i) alone
+    count4 = merges.list.merged.lists i ∙ cond-false (merged i) (negsuc 0) (word r.p3.e_len i) alone
 
     length4 : num p4.len i ≡ num r.p3.len i
     length4 = ap (λ (w : Workspace). num w.len i) merges.same

@@ -98,8 +98,9 @@ module _ {g : Graph} {dense : ℕ → Bool} {nzaat : ℕ} {aggressive : Bool} {p
         × (ends_by r j ≡ false) × ((has r.begins.front j && done j) ≡ false)
     place_after j h =
         let at : word v.pe j ≡ word p4.pe j = ap (λ l. word l j) starts_stay in
-        let alone = no_mark (merged j) (into j) (word r.p3.pe j) (ap is_place (sym (merges.merged.links j) ∙ sym at) ∙ h) in
-        let stay : word v.pe j ≡ word r.p3.pe j = at ∙ merges.merged.links j ∙ cond-false _ (flip_of (into j)) (word r.p3.pe j) alone in
+        let alone = no_mark (merged j) (into j) (word r.p3.pe j) (ap is_place (sym (merges.list.merged.links j) ∙ sym at) ∙ h) in
+        let stay : word v.pe j ≡ word r.p3.pe j = at ∙ merges.list.merged.links j
+        ∙ cond-false _ (flip_of (into j)) (word r.p3.pe j) alone in
         let half = half_place j (ap is_place (sym stay) ∙ h) in
         (stay ∙ half.0, alone, half.1, half.2)
 
@@ -136,8 +137,8 @@ module _ {g : Graph} {dense : ℕ → Bool} {nzaat : ℕ} {aggressive : Bool} {p
         let listed3 : has_list r.p3.pe r.p3.len j ≡ true = has_same left r.p3.pe r.p3.len r.p3.len j start3 refl
         ∙ all.renewed.listed j ∙ listed in
         let alone : merged j ≡ false = ap (λ b. b && not (into j == j)) (merging.not_rest r p4 merges j out) in
-        let start4 : word p4.pe j ≡ word r.p3.pe j = merges.merged.links j ∙ cond-false _ (flip_of (into j)) (word r.p3.pe j) alone in
-        let count4 : word p4.e_len j ≡ word r.p3.e_len j = merges.merged.lists j
+        let start4 : word p4.pe j ≡ word r.p3.pe j = merges.list.merged.links j ∙ cond-false _ (flip_of (into j)) (word r.p3.pe j) alone in
+        let count4 : word p4.e_len j ≡ word r.p3.e_len j = merges.list.merged.lists j
         ∙ cond-false _ (negsuc 0) (word r.p3.e_len j) alone in
         let length4 : num p4.len j ≡ num r.p3.len j = ap (λ l. num l j) lengths_stay in
         let listed4 : has_list p4.pe p4.len j ≡ true = has_same r.p3.pe p4.pe r.p3.len p4.len j start4 length4 ∙ listed3 in
@@ -175,7 +176,7 @@ module _ {g : Graph} {dense : ℕ → Bool} {nzaat : ℕ} {aggressive : Bool} {p
         (ap (λ l. has l j) (front_after r) ∙ h) (lt-ltb 0 (size_of r.p3.nv j) rows3) in
         let own : (into j == j) ≡ true = own_is (into j == j) (sym (ap (λ b. b && not (into j == j)) named) ∙ after.1) in
         let all : ℕ = sum_by (size_of r.p3.nv) (filter (λ x. into x == j) rest) in
-        let size : size_of v.nv j ≡ all = ended.restores.sizes j ∙ merges.merged.sizes j
+        let size : size_of v.nv j ≡ all = ended.restores.sizes j ∙ merges.list.merged.sizes j
         ∙ cond-true (has rest j) (cond (into j == j) all 0) (size_of r.p3.nv j) named ∙ cond-true (into j == j) all 0 own in
         let part = named_sum (size_of r.p3.nv) (filter (λ x. into x == j) rest) j (filter_has (λ x. into x == j) rest j named own) in
         omega (arith, rows3, size, part)

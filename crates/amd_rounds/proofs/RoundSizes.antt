@@ -72,7 +72,7 @@ module _ {g : Graph} {dense : ℕ → Bool} {nzaat : ℕ} {aggressive : Bool} {p
     joined_is x =
         let rs : List ℕ = rest r p4 merges in let to : ℕ → ℕ = into r p4 merges in
         let part : List ℕ = filter (λ j. to j == x) rs in
-        merges.merged.sizes x ∙ elim (cases_Bool (has rs x)) [
+        merges.list.merged.sizes x ∙ elim (cases_Bool (has rs x)) [
           | inl h ↦ ap (λ b. cond b (cond (to x == x) (sum_by (size_of r.p3.nv) part) 0) (size_of r.p3.nv x)) h
               ∙ ap (λ m. cond (to x == x) m 0) (sum_named (size_of r.p3.nv) retired part
               (λ j k. retired_is j ∙ ap (λ b. cond b 0 (retired j)) (other j (filter_gives (λ j. to j == x) rs j k).0)))
@@ -91,7 +91,7 @@ module _ {g : Graph} {dense : ℕ → Bool} {nzaat : ℕ} {aggressive : Bool} {p
     block_is = let a = gone_is r in let b = block_here r in let e = total_here r in omega (arith, a, b, e)
 
     pub live_is : p4.live ≡ p.live - (r.block + r.gone)
-    live_is = merges.live_is ∙ ap (λ m. m - (r.block + r.gone)) (live_stays r)
+    live_is = ap (λ (w : Workspace). w.live) merges.same ∙ ap (λ m. m - (r.block + r.gone)) (live_stays r)
 
     abbrev beyond : ℕ → ℕ
     beyond e = num r.p3.w e - r.p3.flag

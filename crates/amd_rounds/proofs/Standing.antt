@@ -25,7 +25,7 @@ use Rattle.amd_words.specs.Words.{num, word, place, is_place, size_of, flip_of}
 use Rattle.amd_lists.specs.Layout.{rows_met}
 use Rattle.amd_elements.specs.Pivots.{built_front}
 use Rattle.amd_lists.specs.Layout.{elements_in, variables_in}
-use Rattle.amd_elements.specs.Making.{IsTouched}
+use Rattle.amd_elements.proofs.Made.{IsTouched}
 use Rattle.amd_rounds.proofs.FrontLink.{front_gathered}
 use Rattle.amd_lists.specs.Workspaces.{Workspace}
 use Rattle.amd_rounds.specs.Views.{owner_of, is_flip, is_over, flipped, view_of}

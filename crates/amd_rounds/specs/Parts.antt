@@ -1,21 +1,22 @@
 -- What the parts of a round do to a workspace, each between the workspace before and after it.
 use Rattle.std.specs.Prelude.{ℕ, Bool, true, false, List, ◌≡◌, ◌<◌, ◌≤◌, ◌+◌, ◌-◌, ◌==◌, ◌&&◌, cond, max, nat_lt}
-use Rattle.std.specs.Prelude.{length, filter}
+use Rattle.std.specs.Prelude.{length}
 use Rattle.std.specs.Prelude.{sum_by, slice_set}
 use Rattle.amd_model.specs.Figures.{cut, front_sum, entries, ldl_steps, lu_steps}
 use Rattle.amd_model.specs.Quotient.{has}
-use Rattle.amd_words.specs.Words.{num, word, place, start, size_of, in_front, classes, flip_of}
-use Rattle.amd_elements.specs.Pivots.{built_front}
+use Rattle.amd_words.specs.Words.{num, word, place, start, size_of, in_front, flip_of}
+use Rattle.amd_elements.specs.Pivots.{built_front, IsBehind}
 use Rattle.amd_elements.specs.Room.{Rooms}
-use Rattle.amd_lists.specs.Layout.{has_list, end_of, elements_in, Layout}
+use Rattle.amd_lists.specs.Layout.{end_of, elements_in, Layout}
 use Rattle.amd_lists.specs.Chains.{DegreeLists, Chooses, without}
 use Rattle.amd_elements.specs.Beginning.{Begins}
-use Rattle.amd_fronts.specs.Effects.{KeepsOrResets}
+use Rattle.amd_fronts.specs.Effects.{KeepsOrResets, RenewsFlag}
+use Rattle.amd_fronts.specs.Fronts.{renewed_in}
 use Rattle.amd_fronts.specs.Tallies.{front_at, LeavesLists}
 use Rattle.amd_fronts.specs.Turning.{TurnsFront}
 use Rattle.amd_lists.specs.Sizes.{bucket_count}
 use Rattle.amd_merging.specs.Classes.{classes_in, lists_in}
-use Rattle.amd_merging.specs.Merging.{MergesAll, represents_in, bucket_of}
+use Rattle.amd_merging.specs.FrontLists.{AreOutside, MergesList}
 use Rattle.amd_merging.specs.Restoring.{marked_in, bound_in, put_all, Restores}
 use Rattle.amd_merging.specs.Closing.{Closes}
 use Rattle.amd_lists.specs.Workspaces.{Workspace}
@@ -49,49 +50,23 @@ pub record BeginsElement (n me block total : ℕ) (is_built : Bool) (p v : Works
   pub begins : Begins n me (elements_in p.iw p.pe p.e_len me) front total p v
   pub counters : (e : ℕ) → num v.w e ≡ cond (has (elements_in p.iw p.pe p.e_len me) e) 0 (num p.w e)
   pub built_is : is_built ≡ nat_lt 0 (place (word p.e_len me))
-  pub before : is_built ≡ true → (j : ℕ) → (j ≡ me → ⊥) → has_list v.pe v.len j ≡ true →
-      end_of v.pe v.len j ≤ start v.pe me
+  pub before : is_built ≡ true → IsBehind v.pe v.len me
   pub total_is : total ≡ sum_by (size_of p.nv) front
   pub block_is : block ≡ size_of p.nv me
   pub end : v.free ≤ length v.iw
   pub packed : v.n_cmp_a ≡ p.n_cmp_a + cond (is_built && nat_lt (length p.iw) (p.free + length front)) 1 0
   pub sized : IsSized n v
-  pub same : v ≡ record p {
-    iw = v.iw;
-    nv = v.nv;
-    pe = v.pe;
-    e_len = v.e_len;
-    len = v.len;
-    w = v.w;
-    free = v.free;
-    n_cmp_a = v.n_cmp_a;
-  }
+  pub same : v ≡ record p { iw = v.iw; nv = v.nv; pe = v.pe; e_len = v.e_len; len = v.len; w = v.w; free = v.free; n_cmp_a = v.n_cmp_a }
 
 -- the classes of the front of me were turned over to it, with counters that first may have been set anew; all counters
 -- come to at most most_cell
 pub record TurnsOver (aggressive : Bool) (n me gone most_cell : ℕ) (p v : Workspace) : Type 0 where
   pub first : List ℕ
-  pub renewed : KeepsOrResets most_cell p.flag p.w first v.flag
-  pub zeros : (e : ℕ) → (num first e == 0) ≡ (num p.w e == 0)
-  pub under : (e : ℕ) → num first e < v.flag
-  pub two : 2 ≤ v.flag
-  pub room : v.flag + n ≤ most_cell
+  pub renews : RenewsFlag most_cell p.flag p.w first v.flag
   pub turns : TurnsFront aggressive n me (record p { w = first; flag = v.flag }) v gone
   pub linked : LeavesLists n (front_at p me) p v
   pub sized : IsSized n v
-  pub same : v ≡ record p {
-    iw = v.iw;
-    pe = v.pe;
-    e_len = v.e_len;
-    nv = v.nv;
-    len = v.len;
-    degree = v.degree;
-    w = v.w;
-    head = v.head;
-    next = v.next;
-    last = v.last;
-    flag = v.flag;
-  }
+  pub same : v ≡ record (renewed_in p v) { w = v.w; head = v.head; next = v.next; flag = v.flag }
 
 -- the flag rose by the greatest border so far and was renewed, and then rose by 1 for each list that was spread: for no
 -- more of them than the list of the element me has words
@@ -103,21 +78,10 @@ pub record RaisesFlag (me border most_cell : ℕ) (p v : Workspace) : Type 0 whe
 
 -- the rows of the block are no longer live, and the classes of the front that are alike were merged
 pub record MergesFront (n me block border : ℕ) (p v : Workspace) : Type 0 where
-  pub merged : MergesAll (classes p.nv (front_at p me))
-      (represents_in p.iw p.pe p.e_len p.len (classes p.nv (front_at p me))) (classes_in p) (classes_in v)
-  pub made : classes v.nv (front_at p me) ≡ filter
-      (λ i. represents_in p.iw p.pe p.e_len p.len (classes p.nv (front_at p me)) i == i) (classes p.nv (front_at p me))
-  pub heads : (b : ℕ) → b < bucket_count n → num v.hash b < n → (1 < num p.len me) ×
-      (has (classes v.nv (front_at p me)) (num v.hash b) ≡ true)
-      × (bucket_of (num p.len me) p.last (num v.hash b) ≡ b)
-  pub linked : (lists : ℕ → List ℕ) → ((b x : ℕ) → b < n → has (lists b) x ≡ true →
-      has (classes p.nv (front_at p me)) x ≡ false) →
-      LinksByBound n p lists → LinksByBound n v lists
+  pub list : MergesList n (start p.pe me) (num p.len me) (classes_in p) (classes_in v)
   pub under : (x : ℕ) → num v.w x < v.flag
   pub two : 2 ≤ v.flag
   pub zeros : (x : ℕ) → (num v.w x == 0) ≡ (num p.w x == 0)
-  pub live_is : v.live ≡ p.live - block
-  pub most_is : v.most ≡ max p.most border
   pub sized : IsSized n v
   pub same : v ≡ record p {
     pe = v.pe;
@@ -127,8 +91,8 @@ pub record MergesFront (n me block border : ℕ) (p v : Workspace) : Type 0 wher
     hash = v.hash;
     next = v.next;
     flag = v.flag;
-    live = v.live;
-    most = v.most;
+    live = p.live - block;
+    most = max p.most border;
   }
 
 -- the classes that are left of the front are placed by their new bounds, and the element me is closed
@@ -142,25 +106,11 @@ pub record EndsFront (n me block border : ℕ) (is_built : Bool) (p v : Workspac
   pub free_is : v.free ≡ cond is_built (end_of v.pe v.len me) p.free
   pub laid : Layout n v.iw v.pe v.e_len v.len v.free
   pub empty : (b : ℕ) → b < bucket_count n → n ≤ num v.hash b
-  pub linked : (lists : ℕ → List ℕ) → ((b : ℕ) → b < n → has (lists b) me ≡ false) →
-      ((b x : ℕ) → b < n → has (lists b) x ≡ true → has (front_at p me) x ≡ false) → LinksByBound n p lists →
-      LinksByBound n v (put_all (bound_in border p.live p.nv p.degree) (marked_in p.nv (front_at p me)) lists)
+  pub linked : (lists : ℕ → List ℕ) → ((b : ℕ) → b < n → has (lists b) me ≡ false) → AreOutside n lists (front_at p me) →
+      LinksByBound n p lists → LinksByBound n v (put_all (bound_in border p.live p.nv p.degree) (marked_in p.nv (front_at p me)) lists)
   pub lnz : v.figures.lnz ≡ cut (p.figures.lnz + front_sum entries block (border + p.n_dense))
   pub ldl : v.figures.n_mult_subs_ldl ≡ cut (p.figures.n_mult_subs_ldl + front_sum ldl_steps block (border + p.n_dense))
   pub lu : v.figures.n_mult_subs_lu ≡ cut (p.figures.n_mult_subs_lu + front_sum lu_steps block (border + p.n_dense))
   pub greatest : v.figures.d_max ≡ max p.figures.d_max (block + (border + p.n_dense))
   pub sized : IsSized n v
-  pub same : v ≡ record p {
-    iw = v.iw;
-    e_len = v.e_len;
-    nv = v.nv;
-    len = v.len;
-    degree = v.degree;
-    head = v.head;
-    next = v.next;
-    last = v.last;
-    hash = v.hash;
-    free = v.free;
-    least = v.least;
-    figures = v.figures;
-  }
+  pub same : v ≡ record v { pe = p.pe; w = p.w; live = p.live; flag = p.flag; most = p.most; n_cmp_a = p.n_cmp_a; n_dense = p.n_dense }

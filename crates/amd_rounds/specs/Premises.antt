@@ -1,17 +1,17 @@
 -- What the parts of a round ask of the workspace before them, beside its lengths and the widths of its words.
-use Rattle.std.specs.Prelude.{ℕ, Bool, true, false, List, ◌≡◌, ◌<◌, ◌≤◌, ◌+◌, ◌^◌, max, length, sum_by}
+use Rattle.std.specs.Prelude.{ℕ, Bool, true, false, ◌≡◌, ◌<◌, ◌≤◌, ◌+◌, ◌^◌, max, length, sum_by}
 use Rattle.amd_model.specs.Quotient.{has, Once}
-use Rattle.amd_words.specs.Words.{num, word, is_place, start, size_of, in_front, classes}
-use Rattle.amd_elements.specs.Pivots.{built_front}
-use Rattle.amd_lists.specs.Layout.{has_list, end_of, elements_in, Layout}
+use Rattle.amd_words.specs.Words.{num, size_of, classes}
+use Rattle.amd_elements.specs.Pivots.{built_front, IsBehind}
+use Rattle.amd_lists.specs.Layout.{elements_in, Layout}
 use Rattle.amd_fronts.specs.Tallies.{front_at, IsPart}
-use Rattle.amd_fronts.specs.TurningLists.{AreTurning}
+use Rattle.amd_fronts.specs.TurningLists.{AreTurning, IsFrontList}
 use Rattle.amd_lists.specs.Sizes.{bucket_count}
 use Rattle.amd_merging.specs.Classes.{classes_in}
-use Rattle.amd_merging.specs.Merging.{AreRenewed, bucket_of}
-use Rattle.amd_merging.specs.Restoring.{marked_in, IsPlaceable}
+use Rattle.amd_merging.specs.Merging.{AreRenewed}
+use Rattle.amd_merging.specs.FrontLists.{AreHeads, CanPlace, HasListsByBound}
+use Rattle.amd_merging.specs.Restoring.{marked_in}
 use Rattle.amd_lists.specs.Workspaces.{Workspace}
-use Rattle.amd_rounds.specs.Parts.{LinksByBound}
 
 -- a class can become an element: it lists no element twice, and not itself
 pub record CanBegin (n me : ℕ) (p : Workspace) : Type 0 where
@@ -26,10 +26,7 @@ pub record HasFront (n me : ℕ) (p : Workspace) : Type 0 where
   pub row : me < n
   pub laid : Layout n p.iw p.pe p.e_len p.len p.free
   pub end : p.free ≤ length p.iw
-  pub starts : is_place (word p.pe me) ≡ true
-  pub within : end_of p.pe p.len me ≤ p.free
-  pub once : Once (front_at p me)
-  pub apart : has (front_at p me) me ≡ false
+  pub list : IsFrontList me p
 
 -- the classes of the front of me can be turned over to it
 pub record CanTurn (n me : ℕ) (p : Workspace) : Type 0 where
@@ -56,14 +53,9 @@ pub record CanMerge (n me block border most_cell : ℕ) (p : Workspace) : Type 0
 -- the classes that are left of the front of me can be placed, and the element can be closed
 pub record CanEnd (n me block border : ℕ) (is_built : Bool) (p : Workspace) : Type 0 where
   pub front : HasFront n me p
-  pub classes : (i : ℕ) → has (front_at p me) i ≡ true → in_front p.nv i ≡ true →
-      IsPlaceable n border p.nv p.degree p.last i
+  pub classes : CanPlace n border p.nv p.degree p.last (front_at p me)
   pub order : (border ≤ p.live) × (p.live + block ≤ n)
-  pub heads : (b : ℕ) → b < bucket_count n → num p.hash b < n → (1 < num p.len me) ×
-      (has (marked_in p.nv (front_at p me)) (num p.hash b) ≡ true)
-      × (bucket_of (num p.len me) p.last (num p.hash b) ≡ b)
-  pub linked : (lists : ℕ → List ℕ) × LinksByBound n p lists
-      × ((b x : ℕ) → b < n → has (lists b) x ≡ true → has (front_at p me) x ≡ false)
+  pub heads : AreHeads n (num p.len me) (marked_in p.nv (front_at p me)) p.hash p.last
+  pub linked : HasListsByBound n (front_at p me) p.head p.next p.last p.degree
   pub dense : block + (border + p.n_dense) < 2 ^ 64
-  pub before : is_built ≡ true → (j : ℕ) → (j ≡ me → ⊥) → has_list p.pe p.len j ≡ true →
-      end_of p.pe p.len j ≤ start p.pe me
+  pub before : is_built ≡ true → IsBehind p.pe p.len me

@@ -4,11 +4,11 @@
 ghost use Rattle.std.specs.Prelude.{ℕ, ◌≡◌, length};
 ghost use Rattle.amd_elements.specs.Compaction.{Compacts};
 ghost use Rattle.amd_rounds.specs.Compacting.{IsCompacted};
-ghost use Rattle.amd_lists.specs.Sizes.{IsNarrow};
+ghost use Rattle.amd_lists.specs.Sizes.{AreWideEnough};
 ghost use Rattle.amd_rounds.specs.Laid.{IsLaid};
 ghost use Rattle.amd_lists.specs.Workspaces.{KeepsLoans, workspace_of};
 
-use amd_elements::compaction::compact as pack;
+use amd_elements::compaction::pack_lists;
 use amd_lists::work::Work;
 use amd_words::{Signed, Unsigned};
 
@@ -16,7 +16,7 @@ use amd_words::{Signed, Unsigned};
 /// the lists of the classes and of the standing elements.
 #[cold]
 pub fn compact<S: Signed, P: Signed, U: Unsigned>(work: &mut Work<'_, '_, S, P, U>)
-    requires wide { IsNarrow S.MOST P.MOST U.MOST (length work.old.nv.now) (workspace_of work.old) }
+    requires wide { AreWideEnough S.MOST P.MOST U.MOST (length work.old.nv.now) (length work.old.iw.now) }
     requires laid { (nzaat : ℕ) × IsLaid (length work.old.nv.now) nzaat (workspace_of work.old) }
     ensures compacts { IsCompacted (workspace_of work.old) (workspace_of work.new) }
     ensures moves { Compacts work.old.iw.now work.old.pe.now work.old.len.now work.old.free work.new.iw.now
@@ -29,6 +29,6 @@ pub fn compact<S: Signed, P: Signed, U: Unsigned>(work: &mut Work<'_, '_, S, P, 
     ensures loans { KeepsLoans work.old work.new }
 {
     let free = work.free;
-    let end = pack(work.iw, work.pe, work.len, free);
+    let end = pack_lists(work.iw, work.pe, work.len, free);
     work.free = end;
 }

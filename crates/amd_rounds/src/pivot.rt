@@ -4,7 +4,7 @@
 ghost use Rattle.std.specs.Prelude.{ℕ, ◌<◌, ◌≡◌, pos, length};
 ghost use Rattle.amd_words.specs.Words.{place, word};
 ghost use Rattle.amd_lists.specs.Chains.{SomeFrom};
-ghost use Rattle.amd_lists.specs.Sizes.{IsNarrow, IsSized};
+ghost use Rattle.amd_lists.specs.Sizes.{AreWideEnough, IsSized};
 ghost use Rattle.amd_rounds.specs.Laid.{IsLaid};
 ghost use Rattle.amd_rounds.specs.Parts.{BeginsElement, MakesRoom, Picks};
 ghost use Rattle.amd_rounds.specs.Premises.{CanBegin};
@@ -47,7 +47,7 @@ fn begin_in_place<S: Signed, P: Signed, U: Unsigned>(
     work: &mut Work<'_, '_, S, P, U>,
     me: usize,
 ) -> Element
-    requires wide { IsNarrow S.MOST P.MOST U.MOST (length work.old.nv.now) (workspace_of work.old) }
+    requires wide { AreWideEnough S.MOST P.MOST U.MOST (length work.old.nv.now) (length work.old.iw.now) }
     requires laid { (nzaat : ℕ) × IsLaid (length work.old.nv.now) nzaat (workspace_of work.old) }
     requires pivot { CanBegin (length work.old.nv.now) me (workspace_of work.old) }
     requires count { word work.old.e_len.now me ≡ pos 0 }
@@ -66,7 +66,7 @@ fn begin_in_place<S: Signed, P: Signed, U: Unsigned>(
 /// Makes room behind all lists for the new element of the pivot `me`: where it would pass the end, the lists are
 /// packed.
 fn make_room<S: Signed, P: Signed, U: Unsigned>(work: &mut Work<'_, '_, S, P, U>, me: usize)
-    requires wide { IsNarrow S.MOST P.MOST U.MOST (length work.old.nv.now) (workspace_of work.old) }
+    requires wide { AreWideEnough S.MOST P.MOST U.MOST (length work.old.nv.now) (length work.old.iw.now) }
     requires laid { (nzaat : ℕ) × IsLaid (length work.old.nv.now) nzaat (workspace_of work.old) }
     requires pivot { CanBegin (length work.old.nv.now) me (workspace_of work.old) }
     requires left { 0 < work.old.live }
@@ -85,7 +85,7 @@ fn begin_behind<S: Signed, P: Signed, U: Unsigned>(
     work: &mut Work<'_, '_, S, P, U>,
     me: usize,
 ) -> Element
-    requires wide { IsNarrow S.MOST P.MOST U.MOST (length work.old.nv.now) (workspace_of work.old) }
+    requires wide { AreWideEnough S.MOST P.MOST U.MOST (length work.old.nv.now) (length work.old.iw.now) }
     requires laid { (nzaat : ℕ) × IsLaid (length work.old.nv.now) nzaat (workspace_of work.old) }
     requires pivot { CanBegin (length work.old.nv.now) me (workspace_of work.old) }
     requires count { 0 < place (word work.old.e_len.now me) }
@@ -104,11 +104,11 @@ fn begin_behind<S: Signed, P: Signed, U: Unsigned>(
 }
 
 /// Makes the pivot `me` an element.
-pub fn begin<S: Signed, P: Signed, U: Unsigned>(
+pub fn begin_element<S: Signed, P: Signed, U: Unsigned>(
     work: &mut Work<'_, '_, S, P, U>,
     me: usize,
 ) -> Element
-    requires wide { IsNarrow S.MOST P.MOST U.MOST (length work.old.nv.now) (workspace_of work.old) }
+    requires wide { AreWideEnough S.MOST P.MOST U.MOST (length work.old.nv.now) (length work.old.iw.now) }
     requires laid { (nzaat : ℕ) × IsLaid (length work.old.nv.now) nzaat (workspace_of work.old) }
     requires pivot { CanBegin (length work.old.nv.now) me (workspace_of work.old) }
     requires left { 0 < work.old.live }

@@ -7,20 +7,19 @@ ghost use Rattle.std.specs.Prelude.{ℕ, ◌<◌, ◌≡◌, ◌≤◌, ◌+◌,
 ghost use Rattle.amd_model.specs.Graph.{Graph};
 ghost use Rattle.amd_model.specs.Quotient.{QuotientGraph};
 ghost use Rattle.amd_model.specs.State.{State};
-ghost use Rattle.amd_words.specs.Words.{is_place, num, start, word};
 ghost use Rattle.amd_rounds.specs.Keeps.{AreRounds, AreRoundsWithin, IsRound, NoRowIsLive, RaisesFlagInRound, Stands};
-ghost use Rattle.amd_lists.specs.Sizes.{IsNarrow, IsSized};
+ghost use Rattle.amd_lists.specs.Sizes.{AreWideEnough, IsSized};
 ghost use Rattle.amd_rounds.specs.Parts.{EndsFront, MergesFront, RaisesFlag, TurnsOver};
 ghost use Rattle.amd_rounds.specs.Premises.{CanEnd, CanMerge, CanTurn};
 ghost use Rattle.amd_lists.specs.Workspaces.{KeepsLoans, workspace_of};
 
-use crate::pivot::{begin, pick};
+use crate::pivot::{begin_element, pick};
 use amd_fronts::outside::renew_flag;
 use amd_fronts::turning::turn;
 use amd_lists::lent::list_lent;
 use amd_lists::work::Work;
 use amd_merging::closing::close;
-use amd_merging::merging::{Counts, Members, merge_front};
+use amd_merging::merging::{ClassCounts, Members, merge_front};
 use amd_merging::restoring::{Front, restore};
 use amd_types::amd::Control;
 use amd_words::{Signed, Unsigned};
@@ -31,7 +30,7 @@ pub fn turn_over<S: Signed, P: Signed, U: Unsigned>(
     me: usize,
     aggressive: bool,
 ) -> usize
-    requires wide { IsNarrow S.MOST P.MOST U.MOST (length work.old.nv.now) (workspace_of work.old) }
+    requires wide { AreWideEnough S.MOST P.MOST U.MOST (length work.old.nv.now) (length work.old.iw.now) }
     requires sized { IsSized (length work.old.nv.now) (workspace_of work.old) }
     requires front { CanTurn (length work.old.nv.now) me (workspace_of work.old) }
     ensures turns { TurnsOver aggressive (length work.old.nv.now) me result U.MOST (workspace_of work.old)
@@ -51,7 +50,7 @@ pub fn merge_alike<S: Signed, P: Signed, U: Unsigned>(
     block: usize,
     border: usize,
 )
-    requires wide { IsNarrow S.MOST P.MOST U.MOST (length work.old.nv.now) (workspace_of work.old) }
+    requires wide { AreWideEnough S.MOST P.MOST U.MOST (length work.old.nv.now) (length work.old.iw.now) }
     requires sized { IsSized (length work.old.nv.now) (workspace_of work.old) }
     requires front { CanMerge (length work.old.nv.now) me block border U.MOST (workspace_of work.old) }
     ensures merges { MergesFront (length work.old.nv.now) me block border (workspace_of work.old)
@@ -65,7 +64,7 @@ pub fn merge_alike<S: Signed, P: Signed, U: Unsigned>(
     let flag = renew_flag(work.w, risen);
     let (from, count) = list_lent(work.pe, work.len, me);
     let front = Members { from, count, flag };
-    let mut counts = Counts {
+    let mut counts = ClassCounts {
         nv: work.nv,
         w: work.w,
     };
@@ -90,7 +89,7 @@ pub fn end_front<S: Signed, P: Signed, U: Unsigned>(
     border: usize,
     is_built: bool,
 )
-    requires wide { IsNarrow S.MOST P.MOST U.MOST (length work.old.nv.now) (workspace_of work.old) }
+    requires wide { AreWideEnough S.MOST P.MOST U.MOST (length work.old.nv.now) (length work.old.iw.now) }
     requires sized { IsSized (length work.old.nv.now) (workspace_of work.old) }
     requires front { CanEnd (length work.old.nv.now) me block border is_built (workspace_of work.old) }
     ensures ends { EndsFront (length work.old.nv.now) me block border is_built (workspace_of work.old)
@@ -137,7 +136,7 @@ pub fn end_front<S: Signed, P: Signed, U: Unsigned>(
 /// than before the first round, and when they are packed; what stands in words of no list, and in the places of rows
 /// that are neither class nor element, is left open. Where as many words as rows are live are free, no list is packed.
 pub fn round<S: Signed, P: Signed, U: Unsigned>(work: &mut Work<'_, '_, S, P, U>, control: &Control)
-    requires wide { IsNarrow S.MOST P.MOST U.MOST (length work.old.nv.now) (workspace_of work.old) }
+    requires wide { AreWideEnough S.MOST P.MOST U.MOST (length work.old.nv.now) (length work.old.iw.now) }
     requires stands { (g : Graph) × (dense : ℕ → Bool) × (nzaat : ℕ) × (t : QuotientGraph) × (s : State) ×
         Stands g dense nzaat (workspace_of work.old) t s }
     requires left { 0 < work.old.live }
@@ -150,7 +149,7 @@ pub fn round<S: Signed, P: Signed, U: Unsigned>(work: &mut Work<'_, '_, S, P, U>
     ensures loans { KeepsLoans work.old work.new }
 {
     let me = pick(work);
-    let element = begin(work, me);
+    let element = begin_element(work, me);
     let gone = turn_over(work, me, control.aggressive);
     let block = element.block + gone;
     let border = element.total - gone;
@@ -178,7 +177,7 @@ pub fn eliminate_within<S: Signed, P: Signed, U: Unsigned>(
     control: &Control,
     room: usize,
 )
-    requires wide { IsNarrow S.MOST P.MOST U.MOST (length work.old.nv.now) (workspace_of work.old) }
+    requires wide { AreWideEnough S.MOST P.MOST U.MOST (length work.old.nv.now) (length work.old.iw.now) }
     requires stands { (g : Graph) × (dense : ℕ → Bool) × (nzaat : ℕ) × (t : QuotientGraph) × (s : State) ×
         Stands g dense nzaat (workspace_of work.old) t s }
     ensures rounds { AreRoundsWithin control.now.aggressive room (workspace_of work.old) (workspace_of work.new) }
@@ -196,7 +195,7 @@ pub fn eliminate<S: Signed, P: Signed, U: Unsigned>(
     work: &mut Work<'_, '_, S, P, U>,
     control: &Control,
 )
-    requires wide { IsNarrow S.MOST P.MOST U.MOST (length work.old.nv.now) (workspace_of work.old) }
+    requires wide { AreWideEnough S.MOST P.MOST U.MOST (length work.old.nv.now) (length work.old.iw.now) }
     requires stands { (g : Graph) × (dense : ℕ → Bool) × (nzaat : ℕ) × (t : QuotientGraph) × (s : State) ×
         Stands g dense nzaat (workspace_of work.old) t s }
     ensures rounds { AreRounds control.now.aggressive (workspace_of work.old) (workspace_of work.new) }

@@ -1,9 +1,9 @@
+use Rattle.amd_lists.specs.Layout.{list_in}
 use Rattle.std.proofs.Common.{ℕ, ◌+◌, ◌-◌, refl, sym, ap, subst, ◌∙◌, flat_map}
 use Rattle.std.proofs.Common.{lt_of_lt_of_le, le_of_eq, le_trans, le-add_right}
 use Rattle.amd_words.specs.Words.{start, rows, Names}
 use Rattle.amd_words.proofs.RowLists.{rows_none}
 use Rattle.amd_words.proofs.WordCounts.{all_passed, none_passed}
-use Rattle.amd_elements.specs.Element.{members_at}
 use Rattle.amd_elements.specs.Room.{named_around}
 use Rattle.amd_elements.specs.Visiting.{visited}
 use Rattle.amd_elements.proofs.ListsAround.{element_one, element_small, element_laid, list_before, list_names, list_visit, list_visited}
@@ -13,7 +13,7 @@ use Rattle.amd_elements.proofs.around.visit_around.Goals as goal
 pub loop-p-init : goal.loop-p-init
 loop-p-init g c = let s : ℕ = start c.args.pe.now c.args.pivot in record {
   held = subst (λ xs. g.V.ListVisitor.holds c.args.end (named_around c.args.iw.now c.args.pe.now c.args.len.now c.args.pivot
-      c.args.n_elements) (flat_map (members_at c.args.iw.now c.args.pe.now c.args.len.now) xs)
+      c.args.n_elements) (flat_map (list_in c.args.iw.now c.args.pe.now c.args.len.now) xs)
       (visited c.args.iw.now c.args.nv.now c.args.visitor.now) (visited c.args.iw.now c.args.nv.now c.args.visitor.now))
       (sym (ap (rows c.args.iw.now s) (none_passed c.named-from.result) ∙ rows_none c.args.iw.now s)) c.requires.held;
   words = λ k l. refl;
@@ -83,7 +83,7 @@ pub take-requires-2-clause-held : goal.take-requires-2-clause-held
 take-requires-2-clause-held g c = rest_visit c.requires.lists c.loop-p.iw c.loop-p.invariant.words c.named-from.ensures
     c.cell_at-2.ensures.is g.V.ListVisitor.holds (visited c.args.iw.now c.args.nv.now c.args.visitor.now)
     (subst (λ k. g.V.ListVisitor.holds c.args.end (named_around c.args.iw.now c.args.pe.now c.args.len.now c.args.pivot
-    c.args.n_elements) (flat_map (members_at c.args.iw.now c.args.pe.now c.args.len.now) (rows c.args.iw.now
+    c.args.n_elements) (flat_map (list_in c.args.iw.now c.args.pe.now c.args.len.now) (rows c.args.iw.now
     (start c.args.pe.now c.args.pivot) k)) (visited c.args.iw.now c.args.nv.now c.args.visitor.now)
     (visited c.loop-p.iw c.loop-p.nv c.loop-p.visitor))
     (all_passed _ _ _ c.loop-p.auto.p (c.loop-p.auto.p-end (le-add_right _ _)) c.loop-p-test.false) c.loop-p.invariant.held)
@@ -92,7 +92,7 @@ pub returns-clause-held : goal.returns-clause-held
 returns-clause-held g c = rest_visited c.requires.lists c.loop-p.iw c.loop-p.invariant.words c.named-from.ensures
     c.cell_at-2.ensures.is g.V.ListVisitor.holds (visited c.args.iw.now c.args.nv.now c.args.visitor.now)
     (subst (λ k. g.V.ListVisitor.holds c.args.end (named_around c.args.iw.now c.args.pe.now c.args.len.now c.args.pivot
-    c.args.n_elements) (flat_map (members_at c.args.iw.now c.args.pe.now c.args.len.now) (rows c.args.iw.now
+    c.args.n_elements) (flat_map (list_in c.args.iw.now c.args.pe.now c.args.len.now) (rows c.args.iw.now
     (start c.args.pe.now c.args.pivot) k)) (visited c.args.iw.now c.args.nv.now c.args.visitor.now)
     (visited c.loop-p.iw c.loop-p.nv c.loop-p.visitor))
     (all_passed _ _ _ c.loop-p.auto.p (c.loop-p.auto.p-end (le-add_right _ _)) c.loop-p-test.false) c.loop-p.invariant.held)

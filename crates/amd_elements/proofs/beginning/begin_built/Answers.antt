@@ -10,7 +10,7 @@ use Rattle.amd_elements.proofs.Settling.{lists_laid, own_names, own_read, start_
 use Rattle.std.proofs.Common.{lt_of_le_of_lt, le-add_right, lt_of_lt_of_le, le_of_eq, le_trans, le_of_lt}
 use Rattle.amd_words.specs.Words.{size_of}
 use Rattle.std.specs.Prelude.{sum_by}
-use Rattle.amd_elements.specs.Making.{Makes}
+use Rattle.amd_elements.proofs.Made.{Makes}
 use Rattle.amd_elements.specs.Pivots.{built_front}
 use Rattle.amd_elements.proofs.Touching.{front_apart}
 use Rattle.amd_elements.proofs.Beginnings.{begins, built_inside}

@@ -16,15 +16,6 @@ returns-clause-builds g c =
     c.args.free
     c.enter.ensures.sizes c.enter.ensures.front c.requires.around.clear c.enter.ensures.long c.visit_around.ensures.held
 
-pub enter-requires-clause-inside : goal.enter-requires-clause-inside
-enter-requires-clause-inside g c = c.requires.around.pivot.0
-
-pub enter-requires-clause-class : goal.enter-requires-clause-class
-enter-requires-clause-class g c = c.requires.around.pivot.1
-
-pub enter-requires-clause-fresh : goal.enter-requires-clause-fresh
-enter-requires-clause-fresh g c = c.requires.around.clear c.args.pivot
-
 pub visit_around-requires-clause-pivot : goal.visit_around-requires-clause-pivot
 visit_around-requires-clause-pivot g c = lt_of_lt_of_le c.requires.around.pivot.0 (le_of_eq (sym c.enter.ensures.long))
 
@@ -33,3 +24,6 @@ visit_around-requires-clause-end g c = c.requires.end
 
 pub returns-clause-same : goal.returns-clause-same
 returns-clause-same g c = (refl, refl)
+
+pub enter-requires : goal.enter-requires
+enter-requires g c = let a = c.requires.around in record { inside = a.pivot.0; class = a.pivot.1; fresh = a.clear c.args.pivot }

@@ -46,14 +46,8 @@ returns-clause-same g c = let h = c.visit_around.ensures.held.meets in (
       c.args.n_elements) c.visit_around-2.new.nv) c.visit_around.ensures.held.same c.visit_around-2.ensures.held.unmarks)),
 )
 
-pub enter-requires-clause-inside : goal.enter-requires-clause-inside
-enter-requires-clause-inside g c = c.requires.around.pivot.0
-
-pub enter-requires-clause-class : goal.enter-requires-clause-class
-enter-requires-clause-class g c = c.requires.around.pivot.1
-
-pub enter-requires-clause-fresh : goal.enter-requires-clause-fresh
-enter-requires-clause-fresh g c = c.requires.around.clear c.args.pivot
+pub enter-requires : goal.enter-requires
+enter-requires g c = let a = c.requires.around in record { inside = a.pivot.0; class = a.pivot.1; fresh = a.clear c.args.pivot }
 
 pub visit_around-requires-clause-pivot : goal.visit_around-requires-clause-pivot
 visit_around-requires-clause-pivot g c = lt_of_lt_of_le c.requires.around.pivot.0 (le_of_eq (sym c.enter.ensures.long))

@@ -7,7 +7,7 @@ use Rattle.amd_lists.proofs.Frames.{has_parts}
 use Rattle.amd_words.proofs.RowLists.{names_at}
 use Rattle.amd_elements.proofs.Settling.{list_laid}
 use Rattle.amd_elements.proofs.Gathering.{gathers_end}
-use Rattle.amd_elements.proofs.OwnPlace.{gathers_at, own_few, own_gather, own_builds, own_makes}
+use Rattle.amd_elements.proofs.OwnPlace.{gathers_at, own_few, own_gather, own_builds}
 use Rattle.amd_elements.proofs.own_place.make_own.Goals as goal
 
 pub list_lent-from-requires : goal.list_lent-from-requires
@@ -57,15 +57,17 @@ returns-clause-builds g c = let p = c.args.work.now in let at = c.list_lent-from
     own_builds p.iw.now p.nv.now c.enter.new.nv p.pe.now p.len.now c.args.me c.enter.ensures.sizes c.enter.ensures.front
     c.requires.pivot.clear c.enter.ensures.long (gathers_at at.0 at.1 c.gather-end.ensures)
 
-pub returns-clause-makes : goal.returns-clause-makes
-returns-clause-makes g c =
-    let p = c.args.work.now in let at = c.list_lent-from.ensures.list in let lent = c.list_lent-from.ensures.same in
-    let me : ℕ = c.args.me in let h = gathers_at at.0 at.1 c.gather-end.ensures in
-    let b = own_builds p.iw.now p.nv.now c.enter.new.nv p.pe.now p.len.now me c.enter.ensures.sizes c.enter.ensures.front
-    c.requires.pivot.clear c.enter.ensures.long h in
-    rw lent.0 (own_makes c.requires.pivot b (gathers_end (start p.pe.now me) (num p.len.now me) h) c.put_flip.ensures
-    (c.put_cell.ensures ∙ ap (λ xs. set xs me (c.gather-end.result.0 - c.list_lent-from.result.0)) lent.1
-    ∙ ap (λ s. set p.len.now me (c.gather-end.result.0 - s)) at.0))
+pub returns-clause-inside : goal.returns-clause-inside
+returns-clause-inside g c = let p = c.args.work.now in let at = c.list_lent-from.ensures.list in
+    gathers_end (start p.pe.now c.args.me) (num p.len.now c.args.me) (gathers_at at.0 at.1 c.gather-end.ensures)
+
+pub returns-clause-counts : goal.returns-clause-counts
+returns-clause-counts g c = c.put_flip.ensures
+
+pub returns-clause-lengths : goal.returns-clause-lengths
+returns-clause-lengths g c = let p = c.args.work.now in let me : ℕ = c.args.me in
+    c.put_cell.ensures ∙ ap (λ xs. set xs me (c.gather-end.result.0 - c.list_lent-from.result.0)) c.list_lent-from.ensures.same.1
+    ∙ ap (λ s. set p.len.now me (c.gather-end.result.0 - s)) c.list_lent-from.ensures.list.0
 
 pub put_cell-requires-clause-inside : goal.put_cell-requires-clause-inside
 put_cell-requires-clause-inside g c = lt_of_lt_of_le c.requires.pivot.row.0

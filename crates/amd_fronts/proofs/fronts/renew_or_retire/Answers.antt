@@ -1,5 +1,5 @@
 -- The goals of fronts::renew_or_retire.
-use Rattle.std.proofs.Common.{ℕ, List, sym, ap, subst, ◌∙◌, ◌%◌, arith, length, set, length-set, negsuc, pos}
+use Rattle.std.proofs.Common.{ℕ, List, sym, ap, subst, ◌∙◌, arith, length, set, length-set, negsuc, pos}
 use Rattle.std.proofs.Common.{lt_of_lt_of_le, le_of_eq}
 use Rattle.std.specs.Prelude.{bit_and, min}
 use Rattle.amd_words.specs.Words.{num, size_of, flip_of}
@@ -14,26 +14,19 @@ use Rattle.amd_fronts.proofs.Retiring.{one_ends, one_stays, class_in, changed_in
 use Rattle.amd_fronts.proofs.fronts.renew_or_retire.Goals as goal
 
 pub renew_class-count-requires : goal.renew_class-count-requires
-renew_class-count-requires g c = let r = c.requires.class in record {
-  lengths = r.lengths;
-  narrow = r.narrow.0;
-  row = (r.row.0, r.row.2);
-  placed = r.placed;
-  loses = r.loses;
-  met = r.met;
-}
+renew_class-count-requires g c = c.requires.class.list
 
 pub retire-requires : goal.retire-requires
 retire-requires g c =
     let p = workspace_of c.args.work.now in let m = workspace_of c.renew_class-count.new.work in
-    let r = c.requires.class in let told = c.renew_class-count.ensures.renews in let row = r.placed.row in let l = r.lengths in
+    let r = c.requires.class in let told = c.renew_class-count.ensures.renews in let row = r.list.placed.row in let l = r.list.lengths in
     let ready : CanRetire g.P.Signed.MOST c.args.i c.args.me p.pe m.e_len p.nv = record {
       inside = (
         lt_of_lt_of_le row (le_of_eq (sym l.0)),
         lt_of_lt_of_le row (le_of_eq (sym (told.renews.e_long ∙ l.1))),
         lt_of_lt_of_le row (le_of_eq (sym l.3)),
       );
-      small = r.row.1;
+      small = r.small.0;
       marked = r.marked;
     } in
     rw (ap (λ x. x.pe) told.same, ap (λ x. x.nv) told.same) ready
@@ -41,7 +34,7 @@ retire-requires g c =
 pub returns-then-count-eq1 : goal.returns-then-count-eq1
 returns-then-count-eq1 g c =
     let p = workspace_of c.args.work.now in let m = workspace_of c.renew_class-count.new.work in let i = c.args.i in let me = c.args.me in
-    let told = c.renew_class-count.ensures.renews in let l = c.requires.class.lengths in let row = c.requires.class.placed.row in
+    let told = c.renew_class-count.ensures.renews in let l = c.requires.class.list.lengths in let row = c.requires.class.list.placed.row in
     let e = told.renews.e_long in let out = c.retire.ensures in let same = told.same in
     let gone : ℕ = c.retire.result in
     let ends : RenewsOrEnds (length p.w) me i p (record m {
@@ -56,7 +49,7 @@ returns-then-count-eq1 g c =
       len = m.len;
     }) gone) (sym same) (one_ends told.renews gone (sym told.count_is ∙ c.if-count-eq1.true) (lt_of_lt_of_le row (le_of_eq (sym l.0)))
     (lt_of_lt_of_le row (le_of_eq (sym (e ∙ l.1)))) (lt_of_lt_of_le row (le_of_eq (sym l.3)))
-    (out.gone_is ∙ ap (λ x. size_of x.nv i) same)) in
+    (out.gone ∙ ap (λ x. size_of x.nv i) same)) in
     record {
       renews = rw (out.starts, out.lists, out.sizes) record {
         renews = ends;
@@ -74,19 +67,19 @@ returns-then-count-eq1 g c =
 
 pub lower_bound-requires : goal.lower_bound-requires
 lower_bound-requires g c = let r = c.requires.class in record {
-  inside = lt_of_lt_of_le r.placed.row
+  inside = lt_of_lt_of_le r.list.placed.row
       (le_of_eq (sym (ap (λ x. length x.degree) c.renew_class-count.ensures.renews.same ∙ r.more_lengths.0)));
 }
 
 pub put_last-requires-clause-inside : goal.put_last-requires-clause-inside
 put_last-requires-clause-inside g c = let r = c.requires.class in let m = c.renew_class-count.new.work in
-    lt_of_lt_of_le r.placed.row (le_of_eq (sym (ap (λ x. length x.last) c.renew_class-count.ensures.renews.same ∙ r.more_lengths.1)
+    lt_of_lt_of_le r.list.placed.row (le_of_eq (sym (ap (λ x. length x.last) c.renew_class-count.ensures.renews.same ∙ r.more_lengths.1)
     ∙ both_long m.sides.now))
 
 pub returns : goal.returns
 returns g c =
     let p = workspace_of c.args.work.now in let m = workspace_of c.renew_class-count.new.work in let i = c.args.i in let me = c.args.me in
-    let told = c.renew_class-count.ensures.renews in let same = told.same in let r = c.requires.class in let row = r.placed.row in
+    let told = c.renew_class-count.ensures.renews in let same = told.same in let r = c.requires.class in let row = r.list.placed.row in
     let wide = r.more_lengths in let degree : List ℕ = c.lower_bound.new.degree in let reach : ℕ = c.renew_class-count.result.1 in
     let hash : ℕ = c.renew_class-count.result.2 in let out = c.put_last.ensures in let low = c.lower_bound.ensures in
     let last : List ℕ = set m.last i (bit_and hash (key_mask (length p.w))) in
@@ -118,6 +111,6 @@ returns g c =
 
 pub put_last-requires-clause-fits : goal.put_last-requires-clause-fits
 put_last-requires-clause-fits g c =
-    let p = workspace_of c.args.work.now in let r = c.requires.class in let row = r.placed.row in let mask = c.requires.mask in
-    let low = and_le_r c.renew_class-count.result.2 c.args.mask in let few = r.narrow in
+    let p = workspace_of c.args.work.now in let r = c.requires.class in let row = r.list.placed.row in let mask = c.requires.mask in
+    let low = and_le_r c.renew_class-count.result.2 c.args.mask in let few = r.small in
     let small = mask_small (length p.w) (omega (arith, row)) in omega (arith, low, mask, small, few)

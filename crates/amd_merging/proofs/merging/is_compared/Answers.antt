@@ -7,25 +7,19 @@ use Rattle.amd_merging.proofs.BucketWalk.{links_is}
 use Rattle.amd_merging.proofs.merging.is_compared.Goals as goal
 
 pub last_at-key-requires : goal.last_at-key-requires
-last_at-key-requires g c = c.requires.here.0
+last_at-key-requires g c = c.requires.class.0
 
 pub cell_at-count-requires : goal.cell_at-count-requires
-cell_at-count-requires g c = let a = c.requires.here.0 in let n = c.requires.lengths.1 in omega (arith, a, n)
+cell_at-count-requires g c = let a = c.requires.class.0 in let n = c.requires.bucket.lengths.1 in omega (arith, a, n)
 
 pub named-few-requires-clause-inside : goal.named-few-requires-clause-inside
-named-few-requires-clause-inside g c = let a = c.requires.here.0 in let n = c.requires.lengths.0 in omega (arith, a, n)
+named-few-requires-clause-inside g c = let a = c.requires.class.0 in let n = c.requires.bucket.lengths.0 in omega (arith, a, n)
 
 pub named-few-requires-clause-is_one : goal.named-few-requires-clause-is_one
-named-few-requires-clause-is_one g c = c.requires.here.1
+named-few-requires-clause-is_one g c = c.requires.class.1
 
-pub any_as_long-requires-clause-lengths : goal.any_as_long-requires-clause-lengths
-any_as_long-requires-clause-lengths g c = c.requires.lengths
-
-pub any_as_long-requires-clause-chain : goal.any_as_long-requires-clause-chain
-any_as_long-requires-clause-chain g c = c.requires.chain
-
-pub any_as_long-requires-clause-members : goal.any_as_long-requires-clause-members
-any_as_long-requires-clause-members g c j h = c.requires.members j h
+pub any_as_long-requires : goal.any_as_long-requires
+any_as_long-requires g c = c.requires.bucket
 
 -- a bucket without a head has no members
 pub returns-then-head-row_count-clause-none : goal.returns-then-head-row_count-clause-none

@@ -93,11 +93,13 @@ pub is_compared-requires : goal.is_compared-requires
 is_compared-requires g c =
     let head_is = c.cell_at-head.ensures.is ∙ ap (num c.args.hash.now) c.bucket_at-key.ensures in
     let next = nexts c.args.sides.now in record {
-      lengths = (let l = c.requires.lengths in (l.1, l.3));
-      chain = subst (λ k. Chain (length next) next k (bucket next k)) (sym head_is) c.requires.ready.chain;
-      members = λ j h.
-          (c.requires.ready.members j (subst (λ k. has (bucket next k) j ≡ true) head_is h)).renewed.counts;
-      here = (c.requires.ready.here.row, c.requires.ready.here.counts);
+      bucket = record {
+        lengths = (let l = c.requires.lengths in (l.1, l.3));
+        chain = subst (λ k. Chain (length next) next k (bucket next k)) (sym head_is) c.requires.ready.chain;
+        members = λ j h.
+            (c.requires.ready.members j (subst (λ k. has (bucket next k) j ≡ true) head_is h)).renewed.counts;
+      };
+      class = (c.requires.ready.here.row, c.requires.ready.here.counts);
     }
 
 -- a class that is not near is not alike

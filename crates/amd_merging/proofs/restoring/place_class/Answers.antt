@@ -17,7 +17,7 @@ pub empty_bucket-requires-clause-long : goal.empty_bucket-requires-clause-long
 empty_bucket-requires-clause-long g c = c.requires.lengths.3
 
 pub empty_bucket-requires-clause-short : goal.empty_bucket-requires-clause-short
-empty_bucket-requires-clause-short g c = c.requires.short.1
+empty_bucket-requires-clause-short g c = c.requires.short.2
 
 pub cell_at-requires : goal.cell_at-requires
 cell_at-requires g c = lt_of_lt_of_le c.requires.row (le_of_eq (sym c.requires.lengths.1))
@@ -25,7 +25,7 @@ cell_at-requires g c = lt_of_lt_of_le c.requires.row (le_of_eq (sym c.requires.l
 pub put_head-requires : goal.put_head-requires
 put_head-requires g c = record {
   lengths = (let l = c.requires.lengths in (l.2, l.1));
-  short = (c.requires.short.1);
+  short = (c.requires.short.2);
   row = search rules;
 }
 

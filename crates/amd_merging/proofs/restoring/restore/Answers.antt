@@ -138,7 +138,7 @@ place_class-bound-requires g c =
     let old = c.requires.classes_are i named (sym mark_same ∙ here) in let s = was.restores.sizes i in let order = c.requires.order in
     let short = c.requires.short in let n = sym next in record {
       lengths = (long.0 ∙ n, long.1 ∙ n, long.2 ∙ n, long.5 ∙ ap bucket_count n);
-      short = (subst (λ q. q + 2 ≤ g.S.Signed.MOST) n short.0, le_trans (le_of_eq next) short.1);
+      short = (let low = subst (λ q. q + 2 ≤ g.S.Signed.MOST) n short.0 in (low, low, le_trans (le_of_eq next) short.2));
       row = lt_of_le_of_lt (le_of_eq is) (lt_of_lt_of_le small (le_of_eq n));
       marked = here;
       class = record {

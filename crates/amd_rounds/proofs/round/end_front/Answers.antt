@@ -15,6 +15,7 @@ use Rattle.amd_lists.specs.Sizes.{bucket_count}
 use Rattle.amd_merging.specs.Restoring.{marked_in, bound_in, put_all, IsPlaceable}
 use Rattle.amd_fronts.specs.Tallies.{front_at}
 use Rattle.amd_lists.specs.Workspaces.{workspace_of}
+use Rattle.amd_merging.proofs.Closings.{closes_at, lowers}
 use Rattle.amd_rounds.proofs.Fronts.{other_degree, not_placed, ends_before}
 use Rattle.amd_rounds.proofs.round.end_front.Goals.{then-is_built, else-is_built}
 use Rattle.amd_rounds.proofs.round.end_front.Goals as goal
@@ -42,14 +43,15 @@ returns g c =
     told.filters)) in
     let closes : Closes n me (in_front nv) free (lists_of iw pe e_len len) (lists_of v.iw pe e_len' len') =
     subst (λ l. Closes n me (in_front nv) free (lists_of iw pe e_len l) (lists_of v.iw pe e_len' len')) same_len
-    (c.close.ensures.closes n (in_front nv) (λ j. 0) 0 0 iw v.iw pe free (sym from_is) h.front.starts filters
-    (subst (λ l. Layout n iw pe e_len l free) (sym same_len) h.front.laid)) in
+    (closes_at me (c.args.block + border) pe e_len mid_len (let a = s.e_len in let d = h.front.row in omega (arith, a, d))
+    (let a = ap length same_len in let b = s.len in let d = h.front.row in omega (arith, a, b, d)) (sym from_is) h.front.list.starts
+    c.close.ensures.counts c.close.ensures.lengths filters (subst (λ l. Layout n iw pe e_len l free) (sym same_len) h.front.laid)) in
     let count : num len' me ≡ end - from = ap (λ l. num l me) c.close.ensures.lengths ∙ get_or-set_same mid_len me (end - from) 0
     (let a = ap length same_len in let b = s.len in let d = h.front.row in omega (arith, a, b, d)) in
     let ends : end_of pe len' me ≡ end = (let a = from_is in let b = filters.low in omega (arith, a, b, count)) in
     let lowered : (c.args.is_built ≡ true) → Layout n v.iw pe e_len' len' end = λ built.
-    c.close.ensures.lowers n v.iw pe free (sym from_is)
-    (let a = closes.shorter in let b = h.front.within in omega (arith, a, b))
+    lowers me from end filters.low (sym from_is) count
+    (let a = closes.shorter in let b = h.front.list.within in omega (arith, a, b))
     (λ j ne l. ends_before pe len len' from j (closes.lengths j ne)
     (λ k. let a = h.before built j ne k in let b = from_is in omega (arith, a, b)) l) closes.laid in
     let laid : Layout n v.iw pe e_len' len' c.if-is_built.free = elim c.if-is_built.branch [
@@ -79,7 +81,7 @@ returns g c =
             (put_all (bound_in border p.live nv p.degree.now) (marked_in nv front) lists)) (sym c.close.ensures.borders)
             (other_degree n me border v.head (nexts v.sides) (lasts v.sides) v.degree
             (put_all (bound_in border p.live nv p.degree.now) (marked_in nv front) lists)
-            (λ d k. not_placed me front nv (bound_in border p.live nv p.degree.now) lists d h.front.apart (none d k))
+            (λ d k. not_placed me front nv (bound_in border p.live nv p.degree.now) lists d h.front.list.apart (none d k))
             (subst (λ k. DegreeLists k v.head (nexts v.sides) (lasts v.sides) v.degree
             (put_all (bound_in border p.live nv p.degree.now) (marked_in nv front) lists)) s.next
             (told.linked lists (λ b x k. other b x (let a = s.next in omega (arith, a, k)))
@@ -107,21 +109,21 @@ returns g c =
 
 pub list_lent-from-requires : goal.list_lent-from-requires
 list_lent-from-requires g c = let f = c.requires.front.front in let a = f.row in let s = c.requires.sized in let x = s.pe in
-    let y = s.len in record { inside = ((omega (arith, a, x)), (omega (arith, a, y))); place = f.starts }
+    let y = s.len in record { inside = ((omega (arith, a, x)), (omega (arith, a, y))); place = f.list.starts }
 
 pub restore-end-requires : goal.restore-end-requires
 restore-end-requires g c =
     let s = c.requires.sized in let h = c.requires.front in let w = c.requires.wide in let f = h.front in let p = c.args.work.now in
-    let n = sym s.next in let k = s.next in let q = f.within in let at = c.list_lent-from.ensures.list in
+    let n = sym s.next in let k = s.next in let q = f.list.within in let at = c.list_lent-from.ensures.list in
     let ready : CanRestore g.S.Signed.MOST g.U.Unsigned.MOST
     (record { from = start p.pe.now c.args.me; count = num p.len.now c.args.me; border = c.args.border; left = p.live }) p.iw.now
     (placing_of p.nv.now p.degree.now p.head.now p.sides.now p.hash.now) = record {
       lengths = (s.nv ∙ n, s.degree ∙ n, s.head ∙ n, refl, s.last ∙ n, s.hash ∙ ap bucket_count n);
-      short = (let a = w.2 in let b = w.3 in ((omega (arith, a, k)), (omega (arith, b, k))));
+      short = (let a = w.2 in let b = w.3 in (omega (arith, a, k), omega (arith, a, k), omega (arith, b, k)));
       front_is = (
         (let b = f.end in omega (arith, q, b)),
         rw s.next (λ m l. f.laid.words (start p.pe.now c.args.me + m) (omega (arith, q, l))),
-        f.once,
+        f.list.once,
       );
       classes_are = λ i a b. subst (λ z. IsPlaceable z c.args.border p.nv.now p.degree.now (lasts p.sides.now) i) n
           (h.classes i a b);
@@ -160,7 +162,7 @@ close-requires g c =
       order = (omega (arith, low, from_is));
       few = (let a = h.order.0 in let b = h.order.1 in omega (arith, a, b, w));
       fits = (
-        (let a = told.filters.high in let b = ap (λ l. num l c.args.me) same.1 in let d = h.front.within in let e = h.front.end in
+        (let a = told.filters.high in let b = ap (λ l. num l c.args.me) same.1 in let d = h.front.list.within in let e = h.front.end in
             let f = w.1 in omega (arith, a, b, d, e, f, from_is)),
         (let a = h.order.0 in let b = h.order.1 in let d = w.3 in omega (arith, a, b, d)),
       );

@@ -18,7 +18,7 @@ use Rattle.amd_rounds.proofs.round.merge_alike.Goals as goal
 
 pub list_lent-from-requires : goal.list_lent-from-requires
 list_lent-from-requires g c = let f = c.requires.front.front in let a = f.row in let s = c.requires.sized in let x = s.pe in
-    let y = s.len in record { inside = ((omega (arith, a, x)), (omega (arith, a, y))); place = f.starts }
+    let y = s.len in record { inside = ((omega (arith, a, x)), (omega (arith, a, y))); place = f.list.starts }
 
 pub merge_front-work-requires : goal.merge_front-work-requires
 merge_front-work-requires g c =
@@ -31,9 +31,9 @@ merge_front-work-requires g c =
       lengths = (s.pe ∙ n, s.e_len ∙ n, s.nv ∙ n, s.len ∙ n, flag.long ∙ s.w ∙ n, s.hash ∙ ap bucket_count n, refl, s.last ∙ n);
       short = (omega (arith, w, k), omega (arith, w, k), omega (arith, w, k));
       front = (
-        (let x = f.within in let y = f.end in omega (arith, x, y)),
-        rw s.next (λ m l. f.laid.words (start p.pe.now c.args.me + m) (let x = f.within in omega (arith, x, l))),
-        f.once,
+        (let x = f.list.within in let y = f.end in omega (arith, x, y)),
+        rw s.next (λ m l. f.laid.words (start p.pe.now c.args.me + m) (let x = f.list.within in omega (arith, x, l))),
+        f.list.once,
       );
       few = omega (arith, a, k);
       classes_are = subst (λ n. AreRenewed n
@@ -63,20 +63,18 @@ returns g c =
     let l = told.lengths in let m = told.merges.merged in
     record {
       merges = record {
-        merged = record { sizes = m.sizes; links = m.links; lists = m.lists; front = m.front; nexts = m.nexts };
-        made = told.merges.made;
-        heads = λ b k m. let n = s.next in
-            told.merges.heads b (lt_of_lt_of_le k (le_of_eq (ap bucket_count (sym n)))) (omega (arith, n, m));
-        linked = λ lists other h.
-            subst (λ n. DegreeLists n p.head.now (nexts v.sides) (lasts v.sides) p.degree.now lists) s.next
-            (subst (λ l. DegreeLists (length (nexts p.sides.now)) p.head.now (nexts v.sides) l p.degree.now lists) (sym told.keys)
-            (told.merges.linked p.head.now p.degree.now lists (λ b x k m. other b x (let n = s.next in omega (arith, n, k)) m)
-            (subst (λ n. DegreeLists n p.head.now (nexts p.sides.now) (lasts p.sides.now) p.degree.now lists) (sym s.next) h)));
+        list = record {
+          merged = record { sizes = m.sizes; links = m.links; lists = m.lists; front = m.front; nexts = m.nexts };
+          made = told.merges.made;
+          heads = λ b k m. let n = s.next in
+              told.merges.heads b (lt_of_lt_of_le k (le_of_eq (ap bucket_count (sym n)))) (omega (arith, n, m));
+          linked = λ head degree lists other h. subst (λ n. DegreeLists n head (nexts v.sides) (lasts p.sides.now) degree lists) s.next
+              (told.merges.linked head degree lists (λ b x k m. other b x (let n = s.next in omega (arith, n, k)) m)
+              (subst (λ n. DegreeLists n head (nexts p.sides.now) (lasts p.sides.now) degree lists) (sym s.next) h));
+        };
         under = told.under;
         two = (let a = told.rises.0 in let b = c.renew_flag-flag.ensures.two in omega (arith, a, b));
         zeros = λ x. told.zeros x ∙ c.renew_flag-flag.ensures.zeros x;
-        live_is = refl;
-        most_is = c.max-work.ensures;
         sized = record {
           pe = l.0 ∙ s.next;
           e_len = l.1 ∙ s.next;
@@ -89,7 +87,7 @@ returns g c =
           last = ap length told.keys ∙ s.last;
           hash = l.5 ∙ ap bucket_count s.next;
         };
-        same = rw (same.0, same.1, told.keys) refl;
+        same = rw (same.0, same.1, told.keys, c.max-work.ensures) refl;
       };
       flag = record {
         first = c.renew_flag-flag.new.w;

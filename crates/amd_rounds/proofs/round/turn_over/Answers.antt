@@ -4,6 +4,7 @@ use Rattle.amd_lists.specs.Layout.{Layout}
 use Rattle.amd_lists.specs.Sizes.{IsSized}
 use Rattle.amd_lists.specs.Workspaces.{Workspace, workspace_of}
 use Rattle.amd_fronts.specs.Effects.{RenewsFlag, Turns}
+use Rattle.amd_fronts.specs.Fronts.{renewed_in}
 use Rattle.amd_fronts.specs.Tallies.{front_at, LeavesLists}
 use Rattle.amd_fronts.specs.Turning.{IsTurning, TurnsFront}
 use Rattle.amd_rounds.specs.Parts.{TurnsOver}
@@ -24,7 +25,7 @@ turn-requires g c =
       end = f.end;
       laid = subst (λ n. Layout n p.iw p.pe p.e_len p.len p.free) w f.laid;
       row = (let a = f.row in (omega (arith, a, long), omega (arith, a, wide), omega (arith, a, wide)));
-      list = record { starts = f.starts; within = f.within; apart = f.apart; once = f.once };
+      list = record { starts = f.list.starts; within = f.list.within; apart = f.list.apart; once = f.list.once };
       front = λ i m. subst (λ n. IsTurning n c.args.me counting i) w (turning_zeros flag.zeros (h.classes i m));
       few = (let a = h.few in let b = wide.2 in omega (arith, a, b));
       two = (flag.two, flag.under);
@@ -40,29 +41,14 @@ module _ {n most_cell flag : ℕ} {p : Workspace} {w : List ℕ} (s : IsSized n 
   counting = record p { w = w; flag = flag }
 
   abbrev now : Workspace
-  now = record counting {
-    iw = v.iw;
-    pe = v.pe;
-    e_len = v.e_len;
-    nv = v.nv;
-    len = v.len;
-    degree = v.degree;
-    w = v.w;
-    head = v.head;
-    next = v.next;
-    last = v.last;
-  }
+  now = record (renewed_in counting v) { w = v.w; head = v.head; next = v.next }
 
   turned_now : Turns aggressive me counting now gone → TurnsOver aggressive n me gone most_cell p now
   turned_now told =
       let long : length w ≡ n = renewed.long ∙ s.w in let a = told.lengths in let b = told.more_lengths in
       let r = told.turns.renewed in let l = r.lengths in record {
         first = w;
-        renewed = renewed.renewed;
-        zeros = renewed.zeros;
-        under = renewed.under;
-        two = renewed.two;
-        room = (let r = renewed.room in let q = s.w in omega (arith, r, q));
+        renews = renewed;
         turns = subst (λ n. TurnsFront aggressive n me counting now gone) long told.turns;
         linked = subst (λ n. LeavesLists n (front_at p me) counting now) long told.linked;
         sized = record {

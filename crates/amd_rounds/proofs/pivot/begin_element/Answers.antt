@@ -2,7 +2,7 @@ use Rattle.std.proofs.Common.{sym, ap, ◌∙◌}
 use Rattle.std.proofs.Common.{pos}
 use Rattle.amd_words.specs.Words.{word}
 use Rattle.amd_words.proofs.Signs.{place_is}
-use Rattle.amd_rounds.proofs.pivot.begin.Goals as goal
+use Rattle.amd_rounds.proofs.pivot.begin_element.Goals as goal
 
 pub begin_in_place-requires-clause-count : goal.begin_in_place-requires-clause-count
 begin_in_place-requires-clause-count g c =

@@ -1,4 +1,4 @@
--- The proof of compaction::compact.
+-- The proof of compaction::pack_lists.
 use Rattle.std.proofs.Common.{◌≡◌, ◌≤◌, length, arith, le_of_eq, le_refl, le_trans, lt_of_lt_of_le, add-le-add}
 use Rattle.std.proofs.Common.{sym, ◌∙◌, subst, set, unsigned_abs}
 use borrow.Author.Count.{falls}
@@ -8,10 +8,10 @@ use Rattle.amd_elements.proofs.MarkedLists.{Marked, start_below, start_inside, m
 use Rattle.amd_elements.proofs.Moves.{has_not_place, has_no_words, swept_none, swept_skip}
 use Rattle.amd_elements.proofs.Moves.{swept_move, swept_all, row_of, list_words, place_fits, not_empty}
 use Rattle.amd_elements.proofs.MoveSigns.{owner_form}
-use Rattle.amd_elements.proofs.compaction.compact.Goals as goal
-use Rattle.amd_elements.proofs.compaction.compact.Goals.{then-cell_at-gt0+then-names_one, else-cell_at-gt0}
-use Rattle.amd_elements.proofs.compaction.compact.Goals.{else-cell_at-gt0-via-then-cell_at-gt0+else-names_one}
-use Rattle.amd_elements.proofs.compaction.compact.Goals.{else-cell_at-gt0-via-else-cell_at-gt0}
+use Rattle.amd_elements.proofs.compaction.pack_lists.Goals as goal
+use Rattle.amd_elements.proofs.compaction.pack_lists.Goals.{then-cell_at-gt0+then-names_one, else-cell_at-gt0}
+use Rattle.amd_elements.proofs.compaction.pack_lists.Goals.{else-cell_at-gt0-via-then-cell_at-gt0+else-names_one}
+use Rattle.amd_elements.proofs.compaction.pack_lists.Goals.{else-cell_at-gt0-via-else-cell_at-gt0}
 
 pub loop-j-init : goal.loop-j-init
 loop-j-init g c = marked_none c.args.iw.now c.args.pe.now c.args.len.now

@@ -1,8 +1,8 @@
--- The proof of compaction::compact.
+-- The proof of compaction::pack_lists.
 use Rattle.std.proofs.Common.{◌-◌}
 use Rattle.amd_elements.proofs.MarkedLists.{Marked}
 use Rattle.amd_elements.proofs.Moves.{Swept}
-use Rattle.amd_elements.proofs.compaction.compact.Given as goal
+use Rattle.amd_elements.proofs.compaction.pack_lists.Given as goal
 
 abbrev pub invariant-loop-j : goal.invariant-loop-j
 invariant-loop-j g l = Marked l.fn.iw l.fn.pe l.len l.iw l.pe l.j
