@@ -114,8 +114,7 @@ fn list_order<I: Index, S: Signed, P: Signed, U: Unsigned>(
 )
     requires over { AreOver (length rows.old.pe.now) rows.old }
     requires room { (length p.old ≡ length rows.old.pe.now) × (length p_inv.old ≡ length rows.old.pe.now) }
-    requires narrow { (length rows.old.pe.now + 2 ≤ S.MOST) × (S.MOST ≤ P.MOST) ×
-        (length rows.old.pe.now + 2 ≤ U.MOST) }
+    requires narrow { AreWideEnough S.MOST P.MOST U.MOST (length rows.old.pe.now) 0 }
     requires fits { (k : ℕ) → k < length rows.old.pe.now → I.fits (pos k) }
 {
     list_rows(rows);

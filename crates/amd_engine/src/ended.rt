@@ -1,9 +1,10 @@
 // The end of an elimination: what its rounds left is made into links and numbers of rows, and listed. It is handed no
 // allocator, and so can ask for no memory. Source: Amestoy, Davis and Duff 2004.
 
-ghost use Rattle.std.specs.Prelude.{◌≡◌, ◌<◌, ◌≤◌, ◌+◌, ℕ, pos, map, length};
+ghost use Rattle.std.specs.Prelude.{◌≡◌, ◌<◌, ℕ, pos, map, length};
 ghost use Rattle.amd_types.specs.Permutations.{AreInverse};
 ghost use Rattle.amd_words.specs.Words.{num};
+ghost use Rattle.amd_lists.specs.Sizes.{AreWideEnough};
 ghost use Rattle.amd_workspace.specs.Starting.{KeepsRows};
 ghost use Rattle.amd_engine.specs.InPlace.{AreListed, AreOver, told_info};
 
@@ -40,8 +41,7 @@ fn write_numbers<I: Index, U: Unsigned>(figures: &[Cell<U>], numbers: &mut [I])
 /// Source: Amestoy, Davis and Duff 2004.
 pub fn list_rows<S: Signed, P: Signed, U: Unsigned>(rows: &mut RowLists<'_, '_, '_, S, P, U>)
     requires over { AreOver (length rows.old.pe.now) rows.old }
-    requires narrow { (length rows.old.pe.now + 2 ≤ S.MOST) × (S.MOST ≤ P.MOST) ×
-        (length rows.old.pe.now + 2 ≤ U.MOST) }
+    requires narrow { AreWideEnough S.MOST P.MOST U.MOST (length rows.old.pe.now) 0 }
     ensures listed { AreListed (length rows.old.pe.now) rows.old rows.new }
     ensures loans { KeepsRows rows.old rows.new }
 {

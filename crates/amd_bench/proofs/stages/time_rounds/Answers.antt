@@ -45,7 +45,7 @@ list_order-requires-clause-room g c = let rows = long g (goal.at.list_order-requ
 
 pub list_order-requires-clause-narrow : goal.list_order-requires-clause-narrow
 list_order-requires-clause-narrow g c = let n = c.requires.narrow in
-    rw (long g (goal.at.list_order-requires-clause-narrow g c).After-run_growing-told) (n.2, n.4, n.3)
+    rw (long g (goal.at.list_order-requires-clause-narrow g c).After-run_growing-told) (omega arith, omega arith, n.2, n.3, n.4)
 
 pub list_order-requires-clause-fits : goal.list_order-requires-clause-fits
 list_order-requires-clause-fits g c = λ k l.

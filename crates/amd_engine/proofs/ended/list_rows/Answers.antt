@@ -12,7 +12,7 @@ pub end_rows-requires-clause-narrow : goal.end_rows-requires-clause-narrow
 end_rows-requires-clause-narrow g c = let most = c.requires.narrow in omega (arith, most)
 
 pub end_rows-requires-clause-blocks : goal.end_rows-requires-clause-blocks
-end_rows-requires-clause-blocks g c = λ i l. let over = c.requires.over in let rows = over.words.3 in let most = c.requires.narrow.0 in
+end_rows-requires-clause-blocks g c = λ i l. let over = c.requires.over in let rows = over.words.3 in let most = c.requires.narrow.2 in
     let few = block_few over i (omega (arith, l, rows)) in omega (arith, few, most)
 
 pub listing-requires : goal.listing-requires
