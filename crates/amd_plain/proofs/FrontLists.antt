@@ -6,7 +6,7 @@ use Rattle.amd_model.specs.Quotient.{has, Once}
 use Rattle.amd_model.proofs.Quotient.Lists.{flat_gives, once_firsts}
 use Rattle.amd_model.proofs.Listings.Words.{has_filter as filter_gives, has_append as append_gives, has_right, has_head}
 use Rattle.amd_plain.specs.Views.{num, list_at, plain_live, Below, ListsBelow}
-use Rattle.amd_plain.specs.Buckets.{Popped}
+use Rattle.amd_plain.specs.ListsByBound.{Popped}
 use Rattle.amd_plain.specs.Rounds.{firsts}
 use Rattle.amd_round_laws.proofs.Lists.Named.{below_from, below_gives}
 use Rattle.amd_plain.proofs.ListPlaces.{list_below}

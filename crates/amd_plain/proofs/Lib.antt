@@ -4,8 +4,8 @@ pub mod StartLists
 pub mod Begun
 pub mod StartLaw
 pub mod MarkLists
-pub mod BucketLists
-pub mod BucketsLaw
+pub mod ListsByBound
+pub mod ListsByBoundLaw
 pub mod Kept
 pub mod KeptParts
 pub mod Taken

@@ -16,7 +16,7 @@ use Rattle.amd_model.proofs.Counting.Below.{clash}
 use Rattle.amd_round_laws.specs.Views.{View}
 use Rattle.amd_round_laws.specs.Rounds as views
 use Rattle.amd_plain.specs.Views.{num, some_at, list_at, Below, lists_of, plain_view}
-use Rattle.amd_plain.specs.Buckets.{live_in, last_buckets}
+use Rattle.amd_plain.specs.ListsByBound.{live_in, last_places}
 use Rattle.amd_plain.specs.Rounds.{counts_of, plain_counts, plain_mass, plain_bound}
 use Rattle.amd_plain.specs.Keeps.{IsPlainSized, PlainStands, IsPlainRound}
 use Rattle.amd_plain.specs.Parts.{MakesPlainElement, MergesPlainClasses, RenewsClasses}
@@ -30,7 +30,7 @@ use Rattle.amd_round_laws.proofs.Round.NextRound.{as_next, one_round}
 use Rattle.amd_round_laws.proofs.Round.Finding as finding
 use Rattle.amd_round_laws.proofs.Merging.Made.{made_once}
 use Rattle.amd_plain.proofs.FrontLists.{pivot_below, front_below, front_once}
-use Rattle.amd_plain.proofs.BucketsLaw.{has_lasts, popped_live, chosen_pivot, least_low, bucket_step}
+use Rattle.amd_plain.proofs.ListsByBoundLaw.{has_lasts, popped_live, chosen_pivot, least_low, by_bound_step}
 
 module _ {A : Type 0} (g : Graph) (dense : ℕ → Bool) (aggressive : Bool) (w : PlainWork A) (t : QuotientGraph) (s : State)
     (st : PlainStands g dense w t s)
@@ -342,11 +342,11 @@ module _ {A : Type 0} (g : Graph) (dense : ℕ → Bool) (aggressive : Bool) (w 
           ]
 
           -- the lists of the bounds stand for the next order of placing
-          buckets : g.size < 2 ^ 64 → (b : ℕ) → last_buckets (live_in v.size.items v.bound.items b (list_at v.placed.items b))
+          by_bound : g.size < 2 ^ 64 → (b : ℕ) → last_places (live_in v.size.items v.bound.items b (list_at v.placed.items b))
               ≡ filter (λ i. (round aggressive t c L).bound i == b) (round aggressive t c L).placed
           unfolding round rounding turn
-          buckets few = bucket_step w.size.items w.bound.items w.placed.items w1.placed.items w.least w1.least c t.placed t.bound m.chosen
-              st.placed st.view.keeps.least
+          by_bound few = by_bound_step w.size.items w.bound.items w.placed.items w1.placed.items w.least w1.least c t.placed t.bound
+              m.chosen st.placed st.view.keeps.least
               v.placed.items v.size.items v.bound.items L M (round aggressive t c L).bound
               (λ b. placed_are b ∙ ap (λ l. list_at w1.placed.items b ++ filter (λ i. num v.bound.items i == b) l) made_same)
               (made_once g st.view.graph s st.view.sound t st.view.fits c placed aggressive) named_front stay
@@ -370,9 +370,9 @@ module _ {A : Type 0} (g : Graph) (dense : ℕ → Bool) (aggressive : Bool) (w 
                   record {
                     view = done.1.2;
                     sized = sized_after;
-                    placed = subst (λ u. (b : ℕ) → last_buckets (live_in v.size.items v.bound.items b (list_at v.placed.items b))
+                    placed = subst (λ u. (b : ℕ) → last_places (live_in v.size.items v.bound.items b (list_at v.placed.items b))
                         ≡ filter (λ i. u.bound i == b) u.placed)
-                        (as_next turn) (buckets small);
+                        (as_next turn) (by_bound small);
                   },
                 ),
               )

@@ -15,12 +15,12 @@ use Rattle.amd_round_laws.specs.Starts.{IsBegun}
 use Rattle.amd_round_laws.proofs.Lists.Rising.{list_same, filter_below}
 use Rattle.amd_round_laws.proofs.Starting as starting
 use Rattle.amd_plain.specs.Views.{num, some_at, list_at, plain_view, Below, ListsBelow}
-use Rattle.amd_plain.specs.Buckets.{live_in, last_buckets}
+use Rattle.amd_plain.specs.ListsByBound.{live_in, last_places}
 use Rattle.amd_plain.specs.Keeps.{IsPlainSized, PlainStands}
 use Rattle.amd_plain.specs.Starts.{StandsAtStart}
 use Rattle.amd_plain.specs.declared.work.PlainWork.{PlainWork}
 use Rattle.amd_plain.proofs.ListPlaces.{empty_below}
-use Rattle.amd_plain.proofs.BucketsLaw.{lasts_once}
+use Rattle.amd_plain.proofs.ListsByBoundLaw.{lasts_once}
 use Rattle.amd_plain.proofs.Begun.{Begun, none_at, past}
 
 module _ {A : Type 0} (rows : List (Vec ℕ A)) (degrees : List ℕ) (last : ℕ → Bool) (w : PlainWork A) (begun : Begun rows degrees last w)
@@ -87,12 +87,12 @@ module _ {A : Type 0} (rows : List (Vec ℕ A)) (degrees : List ℕ) (last : ℕ
   bound_at i l = ap (λ xs. num xs i) begun.bound ∙ degree_is i l
 
   -- the classes of a bound stand in its list, rising
-  placed_kept : (b : ℕ) → last_buckets (live_in w.size.items w.bound.items b (list_at w.placed.items b)) ≡ filter (λ i. degree g i == b)
+  placed_kept : (b : ℕ) → last_places (live_in w.size.items w.bound.items b (list_at w.placed.items b)) ≡ filter (λ i. degree g i == b)
       classes
   placed_kept b =
       let p : ℕ → Bool = λ i. nat_lt 0 (num w.size.items i) && num degrees i == b in
       let q : ℕ → Bool = λ i. nat_lt 0 (num w.size.items i) && num w.bound.items i == b in
-      ap (λ xs. last_buckets (filter q xs)) (begun.placed b) ∙ ap last_buckets (filter_below (length degrees) p q)
+      ap (λ xs. last_places (filter q xs)) (begun.placed b) ∙ ap last_places (filter_below (length degrees) p q)
       ∙ lasts_once (list_below (length degrees) (λ i. p i && q i)) (once_below (length degrees) (λ i. p i && q i))
       ∙ ap (λ n. list_below n (λ i. p i && q i)) (sym size_is)
       ∙ list_same g.size (λ i. p i && q i) (λ i. is_class_row i && degree g i == b) (λ i l. same_row i l)

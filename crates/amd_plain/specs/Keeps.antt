@@ -8,7 +8,7 @@ use Rattle.amd_model.specs.Ordering.{Follows}
 use Rattle.amd_model.specs.Quotient.{QuotientGraph, has, is_empty, pivot, next}
 use Rattle.amd_round_laws.specs.Keeps as views
 use Rattle.amd_plain.specs.Views.{mark_at, some_at, list_at, plain_view, ListsBelow, Clear}
-use Rattle.amd_plain.specs.Buckets.{live_in, last_buckets}
+use Rattle.amd_plain.specs.ListsByBound.{live_in, last_places}
 use Rattle.amd_plain.specs.declared.work.PlainLists.{PlainLists}
 use Rattle.amd_plain.specs.declared.work.PlainWork.{PlainWork}
 use Rattle.amd_plain.specs.declared.work.Scratch.{Scratch}
@@ -59,7 +59,7 @@ pub record PlainStands {A : Type 0} (g : Graph) (dense : ℕ → Bool) (w : Plai
     pub view : views.ViewStands g dense (plain_view w) t s
     pub sized : IsPlainSized g.size w
     -- the classes of each bound, each at its last place
-    pub placed : (b : ℕ) → last_buckets (live_in w.size.items w.bound.items b (list_at w.placed.items b)) ≡ filter
+    pub placed : (b : ℕ) → last_places (live_in w.size.items w.bound.items b (list_at w.placed.items b)) ≡ filter
         (λ i. t.bound i == b) t.placed
 
 -- whatever lists and state the old record stands for, the new one stands for the lists of the next round, and for a

@@ -1,6 +1,6 @@
 -- The record of the plain engine, what its rounds promise, and the record before the first round.
 pub mod Views
-pub mod Buckets
+pub mod ListsByBound
 pub mod Rounds
 pub mod Keeps
 pub mod Starts

@@ -5,7 +5,7 @@ use Rattle.std.specs.Prelude.{flat_map, sum_by}
 use Rattle.amd_model.specs.Figures.{cut, front_sum, entries, ldl_steps, lu_steps}
 use Rattle.amd_model.specs.Quotient.{has, last_that, turned}
 use Rattle.amd_plain.specs.Views.{num, some_at, list_at, plain_live}
-use Rattle.amd_plain.specs.Buckets.{Chosen}
+use Rattle.amd_plain.specs.ListsByBound.{Chosen}
 use Rattle.amd_plain.specs.Rounds.{firsts, plain_mass, plain_alike, plain_counts, PlainAbsorbed, plain_bound}
 use Rattle.amd_plain.specs.Keeps.{IsPlainSized}
 use Rattle.amd_plain.specs.declared.work.PlainWork.{PlainWork}

@@ -5,7 +5,7 @@
 ghost use Rattle.std.specs.Prelude.{◌≡◌, ◌<◌, ◌≤◌, ◌⊎◌, ◌++◌, ◌==◌, ℕ, true, filter, length, OnOk};
 ghost use Rattle.amd_model.specs.Quotient.{has};
 ghost use Rattle.amd_plain.specs.Views.{num, list_at, Below, ListsBelow};
-ghost use Rattle.amd_plain.specs.Buckets.{live_in, Popped, Chosen};
+ghost use Rattle.amd_plain.specs.ListsByBound.{live_in, Popped, Chosen};
 
 use std::alloc::{AllocError, Allocator};
 

@@ -1,7 +1,8 @@
 // Merging: classes of a new element that keep the same elements and the same variables become one, which the last of
 // them represents. Only classes of one group are compared: groups are made by the sum of the two lists modulo the
 // number of rows. Of two lists the lengths are compared before the entries. A *group* is a hash bucket; the lists of
-// `buckets` are the degree lists. Source: Amestoy, Davis and Duff 1996 (supervariables, found by a hash function).
+// `by_bound` are the lists by bound (degree lists). Source: Amestoy, Davis and Duff 1996 (supervariables, found by a
+// hash function).
 
 ghost use Rattle.std.specs.Prelude.{[], ◌≡◌, ◌≢◌, ◌<◌, ◌^◌, ◌&&◌, ◌==◌, not, cond, ℕ, Some, true, filter, length};
 ghost use Rattle.std.specs.Prelude.{sum_by, OnOk, IfOk};

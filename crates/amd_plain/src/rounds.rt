@@ -8,7 +8,7 @@ ghost use Rattle.amd_model.specs.Graph.{Graph};
 ghost use Rattle.amd_model.specs.State.{State};
 ghost use Rattle.amd_model.specs.Quotient.{QuotientGraph, has, Once};
 ghost use Rattle.amd_plain.specs.Views.{num, list_at, Below};
-ghost use Rattle.amd_plain.specs.Buckets.{live_in};
+ghost use Rattle.amd_plain.specs.ListsByBound.{live_in};
 ghost use Rattle.amd_plain.specs.Parts.{MakesPlainElement, MergesPlainClasses, RenewsClasses};
 ghost use Rattle.amd_plain.specs.Keeps.{IsPlainSized, PlainStands, IsPlainRound, ArePlainRounds, NoPlainRowIsLive};
 

@@ -1,9 +1,9 @@
 use Rattle.std.proofs.Common.{ℕ, [], ◌≡◌, ◌<◌, ◌∙◌, inl, inr, sym, ap, arith, subst, length, set}
 use Rattle.std.proofs.lemmas.Bool.{cases_eq}
 use Rattle.amd_plain.specs.Views.{list_at, Below}
-use Rattle.amd_plain.specs.Buckets.{live_in}
+use Rattle.amd_plain.specs.ListsByBound.{live_in}
 use Rattle.amd_plain.proofs.ListPlaces.{list_read, list_below, list_set_same, list_set_other, lists_set}
-use Rattle.amd_plain.proofs.BucketLists.{least_place, popped_below, popped_same, next_some}
+use Rattle.amd_plain.proofs.ListsByBound.{least_place, popped_below, popped_same, next_some}
 use Rattle.amd_plain.proofs.by_bound.choose.Goals as goal
 
 pub index_mut-requires : goal.index_mut-requires

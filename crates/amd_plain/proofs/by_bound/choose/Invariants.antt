@@ -1,7 +1,7 @@
 use Rattle.std.proofs.Common.{ℕ, true, [], ◌≡◌, ◌<◌, ◌≤◌, ◌-◌, ◌⊎◌, length}
 use Rattle.amd_model.specs.Quotient.{has}
 use Rattle.amd_plain.specs.Views.{list_at, ListsBelow}
-use Rattle.amd_plain.specs.Buckets.{live_in}
+use Rattle.amd_plain.specs.ListsByBound.{live_in}
 use Rattle.amd_plain.proofs.by_bound.choose.Given as goal
 
 abbrev pub invariant-bounds : goal.invariant-bounds

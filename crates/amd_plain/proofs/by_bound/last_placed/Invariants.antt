@@ -1,6 +1,6 @@
 use Rattle.std.proofs.Common.{ℕ, List, [], ◌≡◌, ◌++◌, length}
 use Rattle.amd_plain.specs.Views.{Below}
-use Rattle.amd_plain.specs.Buckets.{live_in}
+use Rattle.amd_plain.specs.ListsByBound.{live_in}
 use Rattle.amd_plain.proofs.by_bound.last_placed.Given as goal
 
 abbrev pub invariant-loop-i : goal.invariant-loop-i

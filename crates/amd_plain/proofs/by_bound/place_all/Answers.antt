@@ -8,7 +8,7 @@ use Rattle.amd_model.specs.Quotient.{has}
 use Rattle.amd_plain.specs.Views.{num, list_at, Below}
 use Rattle.amd_round_laws.proofs.Lists.Named.{has_at}
 use Rattle.amd_plain.proofs.ListPlaces.{list_read, list_below, lists_set}
-use Rattle.amd_plain.proofs.BucketLists.{pushed, least_next, least_lower, least_end}
+use Rattle.amd_plain.proofs.ListsByBound.{pushed, least_next, least_lower, least_end}
 use Rattle.std.proofs.Common.{append-nil}
 use Rattle.std.proofs.lemmas.List.{at_drop_all}
 use Rattle.std.proofs.Common.{inl, refl}

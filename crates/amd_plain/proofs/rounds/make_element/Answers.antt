@@ -2,7 +2,7 @@
 use Rattle.std.proofs.Common.{ℕ, List, ◌≡◌, ◌<◌, ◌∙◌, ap, length, refl, subst}
 use Rattle.std.specs.Prelude.{flat_map, ◌++◌, ◌==◌}
 use Rattle.amd_plain.specs.Views.{list_at, plain_live, ListsBelow}
-use Rattle.amd_plain.specs.Buckets.{Chosen}
+use Rattle.amd_plain.specs.ListsByBound.{Chosen}
 use Rattle.amd_plain.specs.Rounds.{firsts, plain_counts, PlainAbsorbed}
 use Rattle.amd_plain.specs.Keeps.{IsIdle}
 use Rattle.amd_plain.specs.declared.work.PlainLists.{PlainLists}

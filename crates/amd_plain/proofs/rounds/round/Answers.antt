@@ -4,7 +4,7 @@ use Rattle.std.specs.Prelude.{◌^◌}
 use Rattle.std.proofs.lemmas.Result.{on_ok_weaker}
 use Rattle.amd_plain.specs.Parts.{MergesPlainClasses}
 use Rattle.amd_plain.specs.Keeps.{IsPlainSized}
-use Rattle.amd_plain.proofs.BucketsLaw.{some_class}
+use Rattle.amd_plain.proofs.ListsByBoundLaw.{some_class}
 use Rattle.amd_plain.proofs.RoundParts.{merge_sized, merge_pivot, merge_range, merge_once, merge_lists_once, merge_live}
 use Rattle.amd_plain.proofs.RoundParts.{renew_sized, renew_pivot, renew_range, renew_once, renew_sizes, renew_small, renew_live}
 use Rattle.amd_plain.proofs.RoundParts.{renew_border, renew_dense, fewer, is_round}

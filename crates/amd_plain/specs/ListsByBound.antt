@@ -9,9 +9,9 @@ abbrev pub live_in : List ℕ → List ℕ → ℕ → List ℕ → List ℕ
 live_in size bound b xs = filter (λ x. nat_lt 0 (num size x) && num bound x == b) xs
 
 -- each number of a list at its last place alone
-unfoldable pub last_buckets : List ℕ → List ℕ
-last_buckets [] = []
-last_buckets (x ∷ xs) = cond (has xs x) (last_buckets xs) (x ∷ last_buckets xs)
+unfoldable pub last_places : List ℕ → List ℕ
+last_places [] = []
+last_places (x ∷ xs) = cond (has xs x) (last_places xs) (x ∷ last_places xs)
 
 -- the last class of the bound b was taken from the end of a list, with all that stood behind it; if it has none,
 -- everything was

@@ -8,7 +8,7 @@ use Rattle.std.proofs.lemmas.List.Elements.{All-nil, All-take}
 use Rattle.amd_model.specs.Quotient.{has}
 use Rattle.amd_model.proofs.Quotient.Lists.{filter_yes, filter_no}
 use Rattle.amd_plain.specs.Views.{list_at, Below}
-use Rattle.amd_plain.specs.Buckets.{live_in, Popped}
+use Rattle.amd_plain.specs.ListsByBound.{live_in, Popped}
 use Rattle.amd_plain.proofs.ListPlaces.{list_set_same, list_set_other, list_past}
 
 -- a number is pushed to the list of its bound
