@@ -72,7 +72,7 @@ fn add_column<N: Index, A: Allocator>(
 }
 
 /// Sets the lists as they are before the first column, and returns what the marks then tell: no column.
-fn begin(ptr: &mut [usize], mark: &mut [usize], link: &mut [Option<usize>]) -> Marked
+fn clear_lists(ptr: &mut [usize], mark: &mut [usize], link: &mut [Option<usize>]) -> Marked
     ghost o: { Order }
     requires pointers { length ptr.old ≡ length o.rows + 1 }
     requires marks { length mark.old ≡ length o.rows }
@@ -124,7 +124,7 @@ pub fn fill<N: Index, A: Allocator>(
     ensures within { length rows.new.items ≤ room }
     ensures capacity { vec_capacity rows.new ≡ vec_capacity rows.old }
 {
-    let mut marked = begin(ptr, mark, link);
+    let mut marked = clear_lists(ptr, mark, link);
     let mut lists = ColumnLists { ptr, parent, link };
     'columns: for k in 0..lists.parent.len() {
         let neighbours = &later.places[later.starts[k]..later.starts[k + 1]];
@@ -195,7 +195,7 @@ pub fn fill_into<N: Index>(
         (map N.value rows.new ≡ map pos entries ++ drop total (map N.value rows.old)) ×
         HoldFactor o.graph o.rows ptr.new entries parent.new) }
 {
-    let mut marked = begin(ptr, mark, link);
+    let mut marked = clear_lists(ptr, mark, link);
     let mut lists = ColumnLists { ptr, parent, link };
     'columns: for k in 0..lists.parent.len() {
         let neighbours = &later.places[later.starts[k]..later.starts[k + 1]];

@@ -4,8 +4,8 @@ use Rattle.std.specs.Vec.{vec_capacity}
 use Rattle.amd_factor.specs.Numbers.{FillsFront, KeepsLoans}
 use Rattle.amd_factor.proofs.fill.fill.Given as goal
 
-abbrev pub ghost-begin : goal.ghost-begin
-ghost-begin g a = g.o
+abbrev pub ghost-clear_lists : goal.ghost-clear_lists
+ghost-clear_lists g a = g.o
 
 abbrev pub ghost-add_column : goal.ghost-add_column
 ghost-add_column g a = g.o

@@ -3,8 +3,8 @@ use Rattle.std.specs.Prelude.{slice_index}
 use Rattle.amd_factor.specs.Numbers.{FillsFront, KeepsLoans}
 use Rattle.amd_factor.proofs.fill.fill_into.Given as goal
 
-abbrev pub ghost-begin : goal.ghost-begin
-ghost-begin g a = g.o
+abbrev pub ghost-clear_lists : goal.ghost-clear_lists
+ghost-clear_lists g a = g.o
 
 abbrev pub ghost-add_column_into : goal.ghost-add_column_into
 ghost-add_column_into g a = g.o
