@@ -34,8 +34,8 @@ pub record IsPosed (o : Order) (n : ℕ) (ap ai p : List ℤ) : Type 0 where
   pub graph : o.graph ≡ graph_of n ap ai
   pub rows : o.rows ≡ naturals p
 
--- the factor has more entries than there is room for, and needs that many; cut at the greatest number of 128 bits
-pub record Needs (g : Graph) (p : List ℕ) (room needs : ℕ) : Type 0 where
+-- the room is too small: the factor has more entries, and needs that many; cut at the greatest number of 128 bits
+pub record IsTooSmall (g : Graph) (p : List ℕ) (room needs : ℕ) : Type 0 where
   pub columns : List (List ℕ)
   pub factor : IsFactor g p columns
   pub more : room < needed entries columns
@@ -47,7 +47,7 @@ IsUnwritten n ap ai p room NotColumnForm = ⊥
 IsUnwritten n ap ai p room TooLarge = ⊥
 IsUnwritten n ap ai p room NotPermutation = (order : List ℕ) → ¬ (Permutes n p order)
 IsUnwritten n ap ai p room (TooSmall needs) =
-    (order : List ℕ) × Permutes n p order × Needs (graph_of n ap ai) order room needs
+    (order : List ℕ) × Permutes n p order × IsTooSmall (graph_of n ap ai) order room needs
 
 -- there is a place for each of n rows in both lists
 abbrev pub HasPlaces : ℤ → List ℕ → List (Option ℕ) → Type 0
@@ -70,7 +70,7 @@ IsRefusal n ap ai p rows most room TooLarge = (n ≢ pos 0) × IsInput n n ap ai
 IsRefusal n ap ai p rows most room NotPermutation = (n ≢ pos 0 → IsInput n n ap ai) × FitsIn n ap rows most ×
     ((order : List ℕ) → ¬ (Permutes (unsigned_abs n) p order))
 IsRefusal n ap ai p rows most room (TooSmall needs) = (n ≢ pos 0 → IsInput n n ap ai) × FitsIn n ap rows most ×
-    (order : List ℕ) × Permutes (unsigned_abs n) p order × Needs (graph_of (unsigned_abs n) ap ai) order room needs
+    (order : List ℕ) × Permutes (unsigned_abs n) p order × IsTooSmall (graph_of (unsigned_abs n) ap ai) order room needs
 
 -- and one of a call that writes no entries
 abbrev pub IsCountsRefusal : ℤ → List ℤ → List ℤ → List ℤ → ℕ → ℕ → Refusal → Type 0

@@ -13,7 +13,7 @@ use Rattle.amd_factor.specs.Factors.{WritesFactor}
 use Rattle.amd_factor.specs.Orders.{Order, Permutes}
 use Rattle.amd_factor.specs.Sizes.{HoldSizes}
 use Rattle.amd_factor.specs.Unfit.{IsUnfit}
-use Rattle.amd_factor.specs.Within.{FitsIn, HasPlaces, HasPointers, IsCountsRefusal, IsPosed, IsRefusal, IsUnwritten, Needs}
+use Rattle.amd_factor.specs.Within.{FitsIn, HasPlaces, HasPointers, IsCountsRefusal, IsPosed, IsRefusal, IsTooSmall, IsUnwritten}
 use Rattle.amd_factor.specs.Within.{refusal_of, words}
 use Rattle.amd_factor.specs.declared.needs.Need.{Need}
 use Rattle.amd_factor.specs.declared.entrance.Unfit.{Unfit}
@@ -25,9 +25,9 @@ use Rattle.amd_factor.proofs.Calls.CountParts.{no_counts}
 use Rattle.amd_factor.proofs.Trees.FactorOnce.{needs_once}
 
 -- where the columns pass the room, the counts tell how much they need
-needs_of : (g : Graph) (p : List ℕ) (room : ℕ) (sizes : List ℕ) (parent : List (Option ℕ)) (need : Need) → PassesRoom g p room →
-    (h : HoldSizes g p sizes parent) → IsCutNeed h.columns need → Needs g p room need.lnz
-needs_of g p room sizes parent need passes h told =
+is_too_small : (g : Graph) (p : List ℕ) (room : ℕ) (sizes : List ℕ) (parent : List (Option ℕ)) (need : Need) → PassesRoom g p room →
+    (h : HoldSizes g p sizes parent) → IsCutNeed h.columns need → IsTooSmall g p room need.lnz
+is_too_small g p room sizes parent need passes h told =
     let once = needs_once g p entries passes.columns h.columns passes.factor h.factor in
     let more = passes.more in
     record {
@@ -101,7 +101,7 @@ unwritten_refused z size ap' ai p rows most room NotPermutation is form fits h =
 )
 unwritten_refused z size ap' ai p rows most room (TooSmall needs) is form fits h =
     let moved = subst (λ z. (order : List ℕ) × Permutes (unsigned_abs z) p order ×
-    Needs (graph_of (unsigned_abs z) ap' ai) order room needs) is h in
+    IsTooSmall (graph_of (unsigned_abs z) ap' ai) order room needs) is h in
     ((λ some. subst (λ z. IsInput z z ap' ai) is form), fits, moved.0, moved.1, moved.2)
 
 -- after what is not written only a want of room has changed the lists
@@ -128,6 +128,6 @@ module _ (o : Order) (n : ℕ) (ap' ai p : List ℤ) (h : IsPosed o n ap' ai p) 
   too_small permutes room sizes parent need passes held told = (
     naturals p,
     permutes,
-    subst (λ g. Needs g (naturals p) room need.lnz) h.graph (subst (λ r. Needs o.graph r room need.lnz) h.rows
-        (needs_of o.graph o.rows room sizes parent need passes held (told held.columns held.sizes_are))),
+    subst (λ g. IsTooSmall g (naturals p) room need.lnz) h.graph (subst (λ r. IsTooSmall o.graph r room need.lnz) h.rows
+        (is_too_small o.graph o.rows room sizes parent need passes held (told held.columns held.sizes_are))),
   )
