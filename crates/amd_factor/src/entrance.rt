@@ -8,13 +8,16 @@ ghost use Rattle.amd_factor.specs.Unfit.{IsUnfit};
 use crate::forms::is_form;
 use amd_types::index::Index;
 use amd_types::internal::to_count;
+use thiserror::Error;
 
 /// Why a matrix and an order are not fit for a factor.
-#[derive(Clone, Copy, Drop)]
+#[derive(Clone, Copy, PartialEq, Debug, Drop, Error)]
 pub enum Unfit {
     /// The input is no column form.
+    #[error("the input is no column form")]
     NotColumnForm,
     /// The order does not list each row, once.
+    #[error("the order does not list each row, once")]
     NotPermutation,
 }
 
