@@ -8,7 +8,6 @@ use Rattle.amd_types.specs.declared.amd.Info.{Info}
 use Rattle.amd_factor.specs.Counted.{IsCountsOf}
 use Rattle.amd_factor.specs.declared.needs.Need.{Need}
 use Rattle.amd_market.specs.declared.sources.Source.{Source}
-use Rattle.amd_report.specs.declared.compare.Needs.{Needs}
 use Rattle.amd_report.specs.declared.compare.Comparison.{Comparison}
 use Rattle.amd_report.specs.declared.facts.Facts.{Facts}
 use Rattle.amd_report.specs.Comparisons.{comparison_lines}
@@ -22,7 +21,7 @@ use Rattle.amd_cli.specs.declared.inputs.Task.{Task}
 use Rattle.amd_cli.specs.declared.request.Options.{Options}
 use Rattle.amd_command.specs.declared.answers.Texts.{Texts}
 use Rattle.amd_command.specs.Lists.{ArePlacesIn, number_lines}
-use Rattle.amd_command.specs.Needs.{IsNeedUnder, TellsNeed, standing_rows}
+use Rattle.amd_command.specs.Needs.{IsNeedUnder, standing_rows}
 
 -- the order is one of the task's matrix, with its control and its marks
 pub record IsOrderingOf (task : Task) (p : List ℕ) (info : Info) : Type 0 where
@@ -31,13 +30,9 @@ pub record IsOrderingOf (task : Task) (p : List ℕ) (info : Info) : Type 0 wher
       task.control.aggressive (map pos task.matrix.a_p.items) (map pos task.matrix.a_i.items) (map pos p) q info
 
 -- the first needs are those of the rows as they stand, the second those of the order p
-pub record AreTwoNeeds (n : ℕ) (ap ai p : List ℕ) (stands ordered : Needs) : Type 0 where
-  pub first : Need
-  pub as_they_stand : IsNeedUnder n ap ai (standing_rows n) first
-  pub first_told : TellsNeed first stands
-  pub second : Need
-  pub in_order : IsNeedUnder n ap ai p second
-  pub second_told : TellsNeed second ordered
+pub record AreTwoNeeds (n : ℕ) (ap ai p : List ℕ) (stands ordered : Need) : Type 0 where
+  pub as_they_stand : IsNeedUnder n ap ai (standing_rows n) stands
+  pub in_order : IsNeedUnder n ap ai p ordered
 
 -- the numbers of the lines: the row at each place, or the place of each row
 abbrev pub AreNumbers : Bool → List ℕ → List ℕ → Type 0
@@ -61,15 +56,13 @@ AreCountsIn task p sizes parents need = IsCountsOf (pos task.matrix.n) (map pos 
 
 -- what is written first of an analysis: one object, or a line for each column
 abbrev pub TellsColumns : Bool → ℕ → Info → List ℕ → List ℕ → List (Option ℕ) → Need → List ℕ → Type 0
-TellsColumns true repeats info p sizes parents need text =
-    (told : Needs) × TellsNeed need told × (text ≡ analysis_json info repeats told p parents sizes)
+TellsColumns true repeats info p sizes parents need text = text ≡ analysis_json info repeats need p parents sizes
 TellsColumns false repeats info p sizes parents need text = text ≡ column_lines p sizes parents (length p)
 
 -- the figures that are told of an analysis: each beside its bound; none where it is told as one object
 abbrev pub TellsBounds : Bool → ℕ → Info → Need → List ℕ → Type 0
 TellsBounds true repeats info need figures = figures ≡ []
-TellsBounds false repeats info need figures =
-    (told : Needs) × TellsNeed need told × (figures ≡ utf8_lossy (comparison_text told info repeats))
+TellsBounds false repeats info need figures = figures ≡ utf8_lossy (comparison_text need info repeats)
 
 -- the texts are those of an ordering of the task's matrix, and of the factor under it
 pub record TellsAnalysis (task : Task) (json : Bool) (t : Texts) : Type 0 where

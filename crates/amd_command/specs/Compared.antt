@@ -5,12 +5,11 @@ use Rattle.amd_types.specs.declared.amd.Control.{Control}
 use Rattle.amd_types.specs.declared.amd.Info.{Info}
 use Rattle.amd_factor.specs.declared.needs.Need.{Need}
 use Rattle.amd_market.specs.declared.sources.Source.{Source}
-use Rattle.amd_report.specs.declared.compare.Needs.{Needs}
 use Rattle.amd_report.specs.declared.compare.Comparison.{Comparison}
 use Rattle.amd_cli.specs.declared.request.Options.{Options}
 use Rattle.amd_command.specs.Answers.{AreTwoNeeds, TellsFacts}
 use Rattle.amd_command.specs.Lists.{AreRowsListed}
-use Rattle.amd_command.specs.Needs.{IsNeedUnder, TellsNeed}
+use Rattle.amd_command.specs.Needs.{IsNeedUnder}
 
 -- where needs are compared they are those of the rows as they stand and of the order p, each in its place, with the
 -- rows and the edges that the ordering tells
@@ -22,18 +21,16 @@ Compares true n ap ai p info (Some c) =
 
 -- the needs that are told are those under an order that numbers tell: the row at each place, or the place of each row,
 -- as which they are taken where that is asked for
-pub record TellsListed (n : ℕ) (ap ai : List ℕ) (inverse : Bool) (told : Needs) : Type 0 where
+pub record TellsListed (n : ℕ) (ap ai : List ℕ) (inverse : Bool) (need : Need) : Type 0 where
   pub numbers : List ℕ
   pub are_places : Bool
   pub as_asked : inverse ≡ true → are_places ≡ true
   pub rows : List ℕ
   pub listed : AreRowsListed n are_places numbers rows
-  pub need : Need
   pub under : IsNeedUnder n ap ai rows need
-  pub tells : TellsNeed need told
 
 -- the needs under the order of a file, exactly where one is named
-abbrev pub TellsOther : Options → ℕ → List ℕ → List ℕ → Option Needs → Type 0
+abbrev pub TellsOther : Options → ℕ → List ℕ → List ℕ → Option Need → Type 0
 TellsOther o n ap ai other = MatchOption o.with
     (MatchOption o.with_inverse (other ≡ None) (λ path. MatchOption other ⊥ (TellsListed n ap ai true)))
     (λ path. MatchOption other ⊥ (TellsListed n ap ai false))

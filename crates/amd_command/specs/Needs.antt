@@ -1,6 +1,5 @@
 -- What the factor needs under an order.
-use Rattle.std.specs.Prelude.{◌≡◌, ℕ, zero, suc, Option, List, [], ◌∷◌, ◌++◌, map, pos}
-use Rattle.amd_report.specs.declared.compare.Needs.{Needs}
+use Rattle.std.specs.Prelude.{ℕ, zero, suc, Option, List, [], ◌∷◌, ◌++◌, map, pos}
 use Rattle.amd_factor.specs.Counted.{IsCountsOf}
 use Rattle.amd_factor.specs.declared.needs.Need.{Need}
 
@@ -14,10 +13,3 @@ pub record IsNeedUnder (n : ℕ) (ap ai p : List ℕ) (need : Need) : Type 0 whe
 abbrev pub standing_rows : ℕ → List ℕ
 standing_rows zero = []
 standing_rows (suc k) = standing_rows k ++ k ∷ []
-
--- the numbers that are told are those of the factor
-pub record TellsNeed (need : Need) (told : Needs) : Type 0 where
-  pub entries : told.lnz ≡ need.lnz
-  pub steps_ldl : told.n_mult_subs_ldl ≡ need.n_mult_subs_ldl
-  pub steps_lu : told.n_mult_subs_lu ≡ need.n_mult_subs_lu
-  pub largest : told.d_max ≡ need.d_max

@@ -18,7 +18,7 @@ ghost use Rattle.amd_command.specs.Written.{AreTextsOf};
 use crate::analysis::{Analysis, analyze_matrix};
 use crate::faults::cause_of;
 use crate::lists::{places_in, write_numbers};
-use crate::needs::{need_under, standing_order, told};
+use crate::needs::{need_under, standing_order};
 use crate::ordering::order_matrix;
 use crate::permuted::{pattern_text, valued_text};
 use crate::postorder::postorder_under;
@@ -28,7 +28,7 @@ use amd_cli::inputs::Task;
 use amd_cli::request::Options;
 use amd_factor::needs::Need;
 use amd_market::reader::Matrix;
-use amd_report::compare::{Comparison, Needs, write_comparison_lines};
+use amd_report::compare::{Comparison, write_comparison_lines};
 use amd_report::description::write_facts;
 use amd_report::factor_json::write_analysis_json;
 use amd_report::factor_text::{write_columns, write_comparison};
@@ -82,17 +82,13 @@ fn need_in(alloc: Global, matrix: &Matrix<Global>, p: &[usize]) -> Result<Need, 
 }
 
 /// What the factor needs as the rows stand, and in an order of them.
-pub fn two_needs(
-    alloc: Global,
-    matrix: &Matrix<Global>,
-    p: &[usize],
-) -> Result<(Needs, Needs), Cause>
+pub fn two_needs(alloc: Global, matrix: &Matrix<Global>, p: &[usize]) -> Result<(Need, Need), Cause>
     ensures { IfOk result (λ r. AreTwoNeeds matrix.now.n matrix.now.a_p.items matrix.now.a_i.items p.now r.0 r.1) }
 {
     let standing = standing_order(alloc, matrix.n)?;
     let stands = need_in(alloc, matrix, &standing)?;
     let ordered = need_in(alloc, matrix, p)?;
-    Ok((told(&stands), told(&ordered)))
+    Ok((stands, ordered))
 }
 
 /// Orders what a task has.
@@ -363,13 +359,12 @@ fn column_texts(
         analysis.now.counts.sizes.items analysis.now.counts.parent.items analysis.now.counts.need text.items) }
 {
     let Analysis { p, info, counts } = analysis;
-    let need = told(&counts.need);
     let mut text = Vec::new(alloc);
     if json {
         write_analysis_json(
             info,
             repeats,
-            &need,
+            &counts.need,
             p,
             &counts.parent,
             &counts.sizes,
@@ -391,8 +386,7 @@ fn comparison_figures(
         (string_bytes s)) }
 {
     let mut figures = Vec::new(alloc);
-    let need = told(&analysis.counts.need);
-    write_comparison(&need, &analysis.info, repeats, &mut figures)?;
+    write_comparison(&analysis.counts.need, &analysis.info, repeats, &mut figures)?;
     Ok(String::from_utf8_lossy(alloc, &figures)?)
 }
 

@@ -3,11 +3,10 @@
 
 ghost use Rattle.std.specs.Prelude.{◌≡◌, pos, map, IfOk, IfErr};
 ghost use Rattle.amd_factor.specs.Counted.{IsCountsFault};
-ghost use Rattle.amd_command.specs.Needs.{IsNeedUnder, TellsNeed, standing_rows};
+ghost use Rattle.amd_command.specs.Needs.{IsNeedUnder, standing_rows};
 
 use amd_factor::needs::Need;
 use amd_market::reader::Matrix;
-use amd_report::compare::Needs;
 use amd_symbolic::{Fault, counts};
 use std::alloc::{AllocError, Allocator};
 
@@ -38,16 +37,4 @@ pub fn standing_order<A: Allocator>(alloc: A, n: usize) -> Result<Vec<usize, A>,
         order.push(row)?;
     }
     Ok(order)
-}
-
-/// What a factor needs, as it is told.
-pub fn told(need: &Need) -> Needs
-    ensures { TellsNeed need.now result }
-{
-    Needs {
-        lnz: need.lnz,
-        n_mult_subs_ldl: need.n_mult_subs_ldl,
-        n_mult_subs_lu: need.n_mult_subs_lu,
-        d_max: need.d_max,
-    }
 }

@@ -13,7 +13,7 @@ use crate::answers::{
 };
 use crate::faults::cause_of;
 use crate::listed::rows_listed;
-use crate::needs::{need_under, told};
+use crate::needs::need_under;
 use crate::ordering::order_matrix;
 use crate::picture::{Drawn, MOST_ROWS, Source, write_picture};
 use amd::{Control, Info};
@@ -29,8 +29,9 @@ use amd_cli::putting::put_file;
 use amd_cli::request::{Options, Request, request_of};
 use amd_cli::sizes::Work;
 use amd_cli::unreadable::word_at_fault;
+use amd_factor::needs::Need;
 use amd_market::reader::Matrix;
-use amd_report::compare::{Comparison, Needs};
+use amd_report::compare::Comparison;
 use amd_report::tree_picture::write_tree_picture;
 use amd_symbolic::{Fault, supernodes};
 use clap::Error;
@@ -58,14 +59,14 @@ fn other_need<R: Files + Input + Clock + Eprint + AllocGlobal>(
     matrix: &Matrix<Global>,
     path: &str,
     inverse: bool,
-) -> Result<Needs, Cause>
+) -> Result<Need, Cause>
     ensures { IfOk result (TellsListed matrix.now.n matrix.now.a_p.items matrix.now.a_i.items inverse) }
 {
     let listing = read_listing(rt, progress, matrix.n, path)?;
     let are_places = inverse || listing.paired;
     let rows = rows_listed(rt.alloc(), matrix.n, listing.numbers, are_places)?;
     match need_under(rt.alloc(), matrix, &rows) {
-        Ok(need) => Ok(told(&need)),
+        Ok(need) => Ok(need),
         Err(fault) => Err(cause_of(fault)),
     }
 }
@@ -76,7 +77,7 @@ fn named_need<'a, R: Files + Input + Clock + Eprint + AllocGlobal>(
     progress: &Progress,
     options: &Options<'a>,
     matrix: &Matrix<Global>,
-) -> Result<Option<Needs>, Complaint<'a>>
+) -> Result<Option<Need>, Complaint<'a>>
     ensures { IfOk result (TellsOther options.now matrix.now.n matrix.now.a_p.items matrix.now.a_i.items) }
 {
     let (path, inverse) = match (options.with, options.with_inverse) {

@@ -1,7 +1,7 @@
 -- The text of what the factor needs under several orders.
 use Rattle.std.specs.Prelude.{◌+◌, ◌-◌, ◌*◌, ◌^◌, ℕ, Bool, true, false, Some, None, Option, List, ◌++◌, codes, decimal, min}
 use Rattle.amd_texts.specs.Texts.{labelled}
-use Rattle.amd_report.specs.declared.compare.Needs.{Needs}
+use Rattle.amd_factor.specs.declared.needs.Need.{Need}
 use Rattle.amd_report.specs.declared.compare.Comparison.{Comparison}
 use Rattle.amd_report.specs.declared.compare.Figure.{Figure}
 use Rattle.amd_report.specs.declared.compare.Figure.TheVariants.{Entries, Fill, StepsLdl, StepsLu}
@@ -13,7 +13,7 @@ greatest = 2 ^ 128 - 1
 
 -- a figure of what the factor needs of a matrix with so many rows and edges: the flops are a division for each entry and
 -- two for each multiply-subtract step, the bytes eight for each entry and each row
-abbrev pub figure_of : Figure → ℕ → ℕ → Needs → ℕ
+abbrev pub figure_of : Figure → ℕ → ℕ → Need → ℕ
 figure_of Entries rows edges need = need.lnz
 figure_of Fill rows edges need = need.lnz - edges
 figure_of StepsLdl rows edges need = need.n_mult_subs_ldl
@@ -37,7 +37,7 @@ three_figures stands ordered other option =
     ++ (codes " by " ++ option)))))
 
 -- a figure under each order
-abbrev pub figures_under : Figure → ℕ → ℕ → Needs → Needs → Option Needs → Bool → List ℕ
+abbrev pub figures_under : Figure → ℕ → ℕ → Need → Need → Option Need → Bool → List ℕ
 figures_under f rows edges stands ordered None inverse =
     two_figures (figure_of f rows edges stands) (figure_of f rows edges ordered)
 figures_under f rows edges stands ordered (Some other) inverse =

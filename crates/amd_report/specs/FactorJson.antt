@@ -2,7 +2,7 @@
 use Rattle.std.specs.Prelude.{◌+◌, ◌/◌, ◌==◌, ℕ, zero, suc, Option, None, List, [], ◌++◌}
 use Rattle.std.specs.Prelude.{codes, decimal, length, slice_index, slice_index_or, if◌then◌else◌}
 use Rattle.amd_types.specs.declared.amd.Info.{Info}
-use Rattle.amd_report.specs.declared.compare.Needs.{Needs}
+use Rattle.amd_factor.specs.declared.needs.Need.{Need}
 use Rattle.amd_report.specs.FactorTexts.{row_at_parent}
 use Rattle.amd_report.specs.Json.{bound_members, matrix_members, need_members}
 
@@ -28,7 +28,7 @@ column_items p parents sizes (suc k) =
     ++ column_item k (slice_index p k) (row_of_parent p parents k) (slice_index sizes k)
 
 -- an ordering, what the factor needs, and its columns
-abbrev pub analysis_json : Info → ℕ → Needs → List ℕ → List (Option ℕ) → List ℕ → List ℕ
+abbrev pub analysis_json : Info → ℕ → Need → List ℕ → List (Option ℕ) → List ℕ → List ℕ
 analysis_json i d need p parents sizes =
     matrix_members i d ++ bound_members i ++ need_members (codes "ordered") i.n (i.nz_a_plus_at / 2) need
     ++ codes ",\"columns\":[" ++ column_items p parents sizes (length p) ++ codes "]}\n"

@@ -3,7 +3,7 @@ use Rattle.std.specs.Prelude.{ℕ, zero, suc, ◌+◌, List, [], ◌++◌, Optio
 use Rattle.std.specs.Prelude.{slice_index_or}
 use Rattle.amd_types.specs.declared.amd.Info.{Info}
 use Rattle.amd_texts.specs.Texts.{labelled}
-use Rattle.amd_report.specs.declared.compare.Needs.{Needs}
+use Rattle.amd_factor.specs.declared.needs.Need.{Need}
 use Rattle.amd_report.specs.Texts.{matrix_figures}
 
 -- the number of the row of a parent under the rows p, from 1 on; 0 where there is none
@@ -27,7 +27,7 @@ abbrev pub bound_line : List ℕ → ℕ → ℕ → List ℕ
 bound_line label exact bound = labelled label (decimal exact ++ codes ", at most " ++ decimal bound)
 
 -- the lines on the factor
-abbrev pub need_figures : Needs → Info → List ℕ
+abbrev pub need_figures : Need → Info → List ℕ
 need_figures need i =
     bound_line (codes "entries of L below the diagonal") need.lnz i.lnz
     ++ bound_line (codes "divisions") need.lnz i.n_div
@@ -36,5 +36,5 @@ need_figures need i =
     ++ bound_line (codes "largest column, with its diagonal") need.d_max i.d_max
 
 -- the table of what an ordering tells, how many duplicates were dropped, and what the factor needs beside each bound
-abbrev pub comparison_text : Needs → Info → ℕ → List ℕ
+abbrev pub comparison_text : Need → Info → ℕ → List ℕ
 comparison_text need i d = matrix_figures i d ++ need_figures need i

@@ -2,7 +2,7 @@
 use Rattle.std.specs.Prelude.{◌+◌, ◌-◌, ◌/◌, ℕ, Bool, Option, None, Some, List, [], ◌∷◌, ◌++◌}
 use Rattle.std.specs.Prelude.{codes, decimal, flat_map, if◌then◌else◌}
 use Rattle.amd_types.specs.declared.amd.Info.{Info}
-use Rattle.amd_report.specs.declared.compare.Needs.{Needs}
+use Rattle.amd_factor.specs.declared.needs.Need.{Need}
 use Rattle.amd_report.specs.declared.compare.Comparison.{Comparison}
 use Rattle.amd_report.specs.declared.facts.Facts.{Facts}
 use Rattle.amd_report.specs.declared.compare.Figure.TheVariants.{FlopsLdl, Bytes}
@@ -58,7 +58,7 @@ row_list [] = codes "[]"
 row_list (row ∷ rows) = codes "[" ++ decimal (row + 1) ++ more_rows rows ++ codes "]"
 
 -- what the factor needs under an order, of a matrix with so many rows and edges
-abbrev pub need_members : List ℕ → ℕ → ℕ → Needs → List ℕ
+abbrev pub need_members : List ℕ → ℕ → ℕ → Need → List ℕ
 need_members name rows edges need =
     (codes ",\"" ++ (name ++ codes "\":")) ++ member (codes "{") (codes "entries_of_l") (decimal need.lnz)
     ++ member (codes ",") (codes "fill") (decimal (need.lnz - edges))
@@ -71,7 +71,7 @@ need_members name rows edges need =
     ++ codes "}"
 
 -- what it needs under the order of a file, where there is one
-abbrev pub other_members : ℕ → ℕ → Option Needs → List ℕ
+abbrev pub other_members : ℕ → ℕ → Option Need → List ℕ
 other_members rows edges None = []
 other_members rows edges (Some need) = need_members (codes "with") rows edges need
 

@@ -9,21 +9,9 @@ ghost use Rattle.amd_texts.specs.Texts.{labelled};
 ghost use Rattle.amd_report.specs.Comparisons.{compared_line, comparison_lines, figure_of, option_name, three_figures};
 ghost use Rattle.amd_report.specs.Comparisons.{two_figures};
 
+use amd_factor::needs::Need;
 use std::io;
 use std::io::Write;
-
-/// What the factor needs under an order: sums over its columns, and the largest of them.
-#[derive(Clone, Copy)]
-pub struct Needs {
-    /// The entries below the diagonal.
-    pub lnz: u128,
-    /// The multiply-subtract steps of a factorization `LDL'`.
-    pub n_mult_subs_ldl: u128,
-    /// The multiply-subtract steps of a factorization `LU`.
-    pub n_mult_subs_lu: u128,
-    /// The entries of the largest column, with that on the diagonal; 0 where there are no columns.
-    pub d_max: u128,
-}
 
 /// What the factor needs under each order.
 #[derive(Clone, Copy)]
@@ -33,11 +21,11 @@ pub struct Comparison {
     /// The edges of the matrix, which are entries under every order.
     pub edges: usize,
     /// As the rows stand in the file.
-    pub stands: Needs,
+    pub stands: Need,
     /// As they were ordered.
-    pub ordered: Needs,
+    pub ordered: Need,
     /// As another file lists them, where there is one.
-    pub other: Option<Needs>,
+    pub other: Option<Need>,
     /// Whether `--with-inverse` names that file, and not `--with`.
     pub inverse: bool,
 }
@@ -63,7 +51,7 @@ pub enum Figure {
 }
 
 /// A figure of what the factor of a matrix needs that has so many rows and edges, cut at the greatest `u128`.
-pub fn figure_of(figure: Figure, rows: usize, edges: usize, need: &Needs) -> u128
+pub fn figure_of(figure: Figure, rows: usize, edges: usize, need: &Need) -> u128
     ensures { result ≡ figure_of figure rows edges need.now }
 {
     match figure {

@@ -5,8 +5,8 @@ ghost use Rattle.std.specs.Prelude.{◌≡◌, length, slice_index, OnOk};
 ghost use Rattle.std.specs.Io.KnownBytes.{Appends};
 ghost use Rattle.amd_report.specs.FactorJson.{analysis_json, column_item, column_items, comma, row_of_parent};
 
-use crate::compare::Needs;
 use crate::json::{write_bounds, write_matrix_members, write_need};
+use amd_factor::needs::Need;
 use amd_types::amd::Info;
 use std::io;
 use std::io::Write;
@@ -80,7 +80,7 @@ fn write_items<W: Write>(
 pub fn write_analysis_json<W: Write>(
     info: &Info,
     duplicates: usize,
-    need: &Needs,
+    need: &Need,
     p: &[usize],
     parents: &[Option<usize>],
     sizes: &[usize],

@@ -6,8 +6,8 @@ ghost use Rattle.std.specs.List.{list_all};
 ghost use Rattle.std.specs.Io.KnownBytes.{Appends};
 ghost use Rattle.amd_report.specs.FactorTexts.{bound_line, column_lines, comparison_text, need_figures, row_at_parent};
 
-use crate::compare::Needs;
 use crate::figures::write_matrix_figures;
+use amd_factor::needs::Need;
 use amd_types::amd::Info;
 use std::io;
 use std::io::Write;
@@ -78,7 +78,7 @@ fn write_beside<W: Write>(label: &str, exact: u128, bound: usize, out: &mut W) -
 }
 
 /// Writes the lines on the factor.
-fn write_need<W: Write>(need: &Needs, info: &Info, out: &mut W) -> io::Result<()>
+fn write_need<W: Write>(need: &Need, info: &Info, out: &mut W) -> io::Result<()>
     ensures { OnOk result (Appends (W.contents out.old) (W.contents out.new) (need_figures need.now info.now)) }
 {
     write_beside("entries of L below the diagonal", need.lnz, info.lnz, out)?;
@@ -111,7 +111,7 @@ fn write_need<W: Write>(need: &Needs, info: &Info, out: &mut W) -> io::Result<()
 ///
 /// The writer's, of the first write that fails. What was written before stays written.
 pub fn write_comparison<W: Write>(
-    need: &Needs,
+    need: &Need,
     info: &Info,
     duplicates: usize,
     out: &mut W,

@@ -9,11 +9,12 @@ ghost use Rattle.amd_report.specs.Json.{matrix_members, member, more_rows, need_
 ghost use Rattle.amd_report.specs.Json.{pattern_members, quoted, row_list, shape_members, source_members};
 ghost use Rattle.amd_report.specs.Descriptions.{hundredths, tenths};
 
-use crate::compare::{Comparison, Figure, Needs, figure_of};
+use crate::compare::{Comparison, Figure, figure_of};
 use crate::facts::{Facts, mean_degree};
 use crate::figures::status_phrase;
 use crate::sources::{field_name, format_name, symmetry_name};
 use crate::symmetry::symmetry_tenths;
+use amd_factor::needs::Need;
 use amd_market::sources::Source;
 use amd_types::amd::Info;
 use std::fmt::Display;
@@ -104,7 +105,7 @@ pub fn write_need<W: Write>(
     name: &str,
     rows: usize,
     edges: usize,
-    need: &Needs,
+    need: &Need,
     out: &mut W,
 ) -> io::Result<()>
     ensures { OnOk result (Appends (W.contents out.old) (W.contents out.new)
@@ -130,7 +131,7 @@ pub fn write_need<W: Write>(
 fn write_other_need<W: Write>(
     rows: usize,
     edges: usize,
-    other: Option<Needs>,
+    other: Option<Need>,
     out: &mut W,
 ) -> io::Result<()>
     ensures { OnOk result (Appends (W.contents out.old) (W.contents out.new) (other_members rows edges other)) }

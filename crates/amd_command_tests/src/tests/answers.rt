@@ -3,7 +3,7 @@
 // reader. The matrix is the path of three rows, the orders and what they need were worked by hand.
 
 use crate::tests::outputs::PATH;
-use amd_command::needs::{need_under, standing_order, told};
+use amd_command::needs::{need_under, standing_order};
 use amd_command::ordering::order_matrix;
 use amd_command::permuted::permuted;
 use amd_command::picture::{MOST_ROWS, Source, write_picture};
@@ -100,9 +100,9 @@ fn three_needs(alloc: Global, matrix: &Matrix<Global>) -> Result<Comparison, Fau
     Ok(Comparison {
         rows: 3,
         edges: 2,
-        stands: told(&need_under(alloc, matrix, &standing)?),
-        ordered: told(&need_under(alloc, matrix, &ORDER)?),
-        other: Some(told(&need_under(alloc, matrix, &[2, 0, 1])?)),
+        stands: need_under(alloc, matrix, &standing)?,
+        ordered: need_under(alloc, matrix, &ORDER)?,
+        other: Some(need_under(alloc, matrix, &[2, 0, 1])?),
         inverse: false,
     })
 }

@@ -4,7 +4,6 @@
 
 use amd::Control;
 use amd_command::analysis::analyze_matrix;
-use amd_command::needs::told;
 use amd_command::ordering::order_matrix;
 use amd_market::headers::{Field, Format, Header, Symmetry};
 use amd_market::reader::Matrix;
@@ -94,12 +93,7 @@ fn a_dense_row_by_choice(rt: HostRuntime) -> Result<(), Fail> {
     check!(&rt; p.as_slice() == ORDER.as_slice() && analysis.p.as_slice() == ORDER.as_slice());
     let mut out = Vec::new(heap);
     let is_written = write_figures(&info, 0, &mut out).is_ok();
-    let is_compared = write_comparison(
-        &told(&analysis.counts.need),
-        &analysis.info,
-        3,
-        &mut out,
-    ).is_ok();
+    let is_compared = write_comparison(&analysis.counts.need, &analysis.info, 3, &mut out).is_ok();
     check!(&rt; is_written && is_compared);
     check!(&rt; out.as_slice() == FIGURES.as_bytes());
     Ok(())

@@ -5,7 +5,6 @@ use amd_cli::causes::Cause;
 use amd_cli::held::read_held;
 use amd_command::analysis::analyze_matrix;
 use amd_command::faults::cause_of;
-use amd_command::needs::told;
 use amd_command::ordering::order_matrix;
 use amd_command::permuted::permuted;
 use amd_command::picture::{MOST_ROWS, Source, write_picture};
@@ -104,7 +103,7 @@ fn write_all_of<W: Write, A: Allocator + Copy>(alloc: A, out: &mut W) -> Result<
     let analysis = analyze_matrix(alloc, &matrix, &control, Some(&marks)).map_err(cause_of)?;
     let counts = &analysis.counts;
     write_columns(&analysis.p, &counts.parent, &counts.sizes, out)?;
-    write_comparison(&told(&counts.need), &analysis.info, matrix.repeats, out)?;
+    write_comparison(&counts.need, &analysis.info, matrix.repeats, out)?;
     write_matrix(&permuted(alloc, &matrix, &p)?, out)?;
     write_tree(&counts.parent, out)?;
     let made = supernodes(alloc, matrix.n, &matrix.a_p, &matrix.a_i, &p).map_err(cause_of)?;
@@ -149,8 +148,7 @@ fn columns_worked_by_hand(rt: HostRuntime) -> Result<(), Fail> {
     let mut figures = Vec::new(rt.alloc());
     let counts = &analysis.counts;
     check!(&rt; write_columns(&analysis.p, &counts.parent, &counts.sizes, &mut columns).is_ok());
-    let need = told(&counts.need);
-    check!(&rt; write_comparison(&need, &analysis.info, 0, &mut figures).is_ok());
+    check!(&rt; write_comparison(&counts.need, &analysis.info, 0, &mut figures).is_ok());
     let columns = String::from_utf8_lossy(rt.alloc(), &columns)?;
     let figures = String::from_utf8_lossy(rt.alloc(), &figures)?;
     check!(&rt; columns.as_str() == FIVE_COLUMNS && figures.as_str() == FIVE_FIGURES);
