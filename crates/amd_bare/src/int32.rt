@@ -12,7 +12,7 @@ use amd_calls::bytes;
 use amd_calls::factor_within::{columns_within, counts_within};
 use amd_calls::factors::number_of_end;
 use amd_calls::matrix::Matrix;
-use amd_calls::records::{Needs, Parameters, Statistics};
+use amd_calls::records::{Parameters, SaturatedNeed, Statistics};
 use amd_calls::within::{bytes_or_most, order_within};
 use amd_lent::Piece;
 
@@ -168,7 +168,7 @@ pub extern "C" fn rimopaku_counts_within_i32(
     p: &[i32],
     sizes: &mut [i32],
     parent: &mut [i32],
-    needs: &mut Needs,
+    needs: &mut SaturatedNeed,
 ) -> i32
     ensures { CountsWithin n a_p.now a_i.now p.now lent.size (tallies sizes.old parent.old needs.old)
         (tallies sizes.new parent.new needs.new) result }

@@ -22,7 +22,7 @@ use amd::valid::valid;
 use amd_calls::counting::counts_into;
 use amd_calls::factors::{columns_into, number_of_end};
 use amd_calls::matrix::Matrix;
-use amd_calls::records::{Needs, Parameters, Statistics, SupernodeSizes, number_of};
+use amd_calls::records::{Parameters, SaturatedNeed, Statistics, SupernodeSizes, number_of};
 use amd_calls::writing::order_into;
 use std::alloc::Global;
 
@@ -161,7 +161,7 @@ pub extern "C" fn rimopaku_counts_i64(
     p: &[i64],
     sizes: &mut [i64],
     parent: &mut [i64],
-    needs: &mut Needs,
+    needs: &mut SaturatedNeed,
 ) -> i32
     ensures { CountsInto n a_p.now a_i.now p.now (tallies sizes.old parent.old needs.old)
         (tallies sizes.new parent.new needs.new) result }

@@ -11,7 +11,7 @@ use crate::int64::{
 };
 use crate::rimopaku_defaults;
 use amd::Info;
-use amd_calls::records::{Needs, Parameters, Statistics, statistics_of};
+use amd_calls::records::{Parameters, SaturatedNeed, Statistics, statistics_of};
 
 /// The parameters of a caller who chooses nothing.
 fn defaults() -> Parameters {
@@ -45,9 +45,9 @@ fn blank() -> Statistics {
     statistics_of(&Info::new(77))
 }
 
-/// Needs in which no call has written.
-fn no_needs() -> Needs {
-    Needs {
+/// A record of needs in which no call has written.
+fn no_needs() -> SaturatedNeed {
+    SaturatedNeed {
         lnz: 77,
         n_mult_subs_ldl: 77,
         n_mult_subs_lu: 77,
@@ -56,7 +56,7 @@ fn no_needs() -> Needs {
 }
 
 /// The needs, in the order of the fields.
-fn figures_of(needs: &Needs) -> [usize; 4] {
+fn figures_of(needs: &SaturatedNeed) -> [usize; 4] {
     [
         needs.lnz,
         needs.n_mult_subs_ldl,

@@ -17,10 +17,10 @@ use Rattle.amd_factor.proofs.Calls.ColumnParts.{no_rows as no_factor}
 use Rattle.amd_factor.proofs.Calls.WithinParts.{no_rows}
 use Rattle.amd_calls.specs.Calls.{HasPlaces}
 use Rattle.amd_calls.specs.Columns.{Arrays, HasColumnPlaces, HoldsColumns, arrays, number_of_end}
-use Rattle.amd_calls.specs.Counting.{HoldsCounts, LeavesCounts, needs_of, tallies}
+use Rattle.amd_calls.specs.Counting.{HoldsCounts, LeavesCounts, saturated_need, tallies}
 use Rattle.amd_calls.specs.Within.{ColumnsWithin, CountsWithin, KeepsWithin, LeavesWithin, RefusesWithin, Suffice, TellsWhether}
 use Rattle.amd_calls.specs.Within.{columns_bytes, counts_bytes}
-use Rattle.amd_calls.specs.declared.records.Needs.{Needs}
+use Rattle.amd_calls.specs.declared.records.SaturatedNeed.{SaturatedNeed}
 use Rattle.amd_calls.proofs.ColumnsLeft.{arrays_of_values, end_is}
 use Rattle.amd_calls.proofs.CountsLeft.{left_counts}
 use Rattle.amd_calls.proofs.Fits.{needed-are}
@@ -28,8 +28,8 @@ use Rattle.amd_calls.proofs.Leaving.{matrix_of_values, memory_renamed, order_of_
 use Rattle.amd_engine.specs.InPlace.{values}
 
 -- no rows, no counts
-pub no-counts : (z : ℤ) (ap' ai p xs ys : List ℤ) (need : Need) (told : Needs) → pos 0 ≡ z → p ≡ [] → HasPlaces z xs ys →
-    ((columns : List (List ℕ)) → [] ≡ map length columns → IsCutNeed columns need) → told ≡ needs_of need →
+pub no-counts : (z : ℤ) (ap' ai p xs ys : List ℤ) (need : Need) (told : SaturatedNeed) → pos 0 ≡ z → p ≡ [] → HasPlaces z xs ys →
+    ((columns : List (List ℕ)) → [] ≡ map length columns → IsCutNeed columns need) → told ≡ saturated_need need →
     HoldsCounts z ap' ai p (tallies xs ys told)
 no-counts z ap' ai p xs ys need told zero empty has cut is =
     let wide = has.0 in let long = has.1 in record {
@@ -119,7 +119,7 @@ module _ (most size : ℕ) (z : ℤ) (ap' ai p ptr rows parent : List ℤ) (is :
   )
 
 -- what a call leaves in the values is what it leaves in the integers
-pub counts_within : (m n : ℤ) (a_p a_i p : List ℤ) (size : ℕ) (xs ys us vs : List ℤ) (before after : Needs)
+pub counts_within : (m n : ℤ) (a_p a_i p : List ℤ) (size : ℕ) (xs ys us vs : List ℤ) (before after : SaturatedNeed)
     (outcome : Result (Unit {0}) Fault) (number : ℤ) →
     m ≡ n → LeavesCounts m (values a_p) (values a_i) (values p) (tallies (values xs) (values ys) before)
     (tallies (values us) (values vs) after) outcome → TellsWhether (Suffice counts_bytes m (values a_p) size) outcome →

@@ -8,20 +8,20 @@ use Rattle.amd_factor.specs.declared.factor.Fault.TheVariants.{NotColumnForm}
 use Rattle.amd_factor.specs.declared.needs.Need.{Need}
 use Rattle.amd_calls.specs.Calls.{HasPlaces}
 use Rattle.amd_calls.specs.Columns.{number_of_end, parent_number}
-use Rattle.amd_calls.specs.declared.records.Needs.{Needs}
+use Rattle.amd_calls.specs.declared.records.SaturatedNeed.{SaturatedNeed}
 
 -- what stands in a caller's arrays for the sizes and the parents, and in the record of needs
 pub record Tallies : Type 0 where
   pub sizes : List ℤ
   pub parent : List ℤ
-  pub needs : Needs
+  pub needs : SaturatedNeed
 
-abbrev pub tallies : List ℤ → List ℤ → Needs → Tallies
+abbrev pub tallies : List ℤ → List ℤ → SaturatedNeed → Tallies
 tallies sizes parent needs = record { sizes = sizes; parent = parent; needs = needs }
 
 -- the needs, each cut at the greatest number of its field
-abbrev pub needs_of : Need → Needs
-needs_of need = record {
+abbrev pub saturated_need : Need → SaturatedNeed
+saturated_need need = record {
   lnz = cut need.lnz;
   n_mult_subs_ldl = cut need.n_mult_subs_ldl;
   n_mult_subs_lu = cut need.n_mult_subs_lu;
@@ -36,7 +36,7 @@ pub record HoldsCounts (n : ℤ) (ap ai p : List ℤ) (m : Tallies) : Type 0 whe
   pub counts : IsCountsOf n ap ai p sizes parent need
   pub written : m.sizes ≡ map pos sizes
   pub parents : m.parent ≡ map parent_number parent
-  pub told : m.needs ≡ needs_of need
+  pub told : m.needs ≡ saturated_need need
 
 -- a fault: that of the counts, or `NotColumnForm` where an array has not n places
 abbrev pub RefusesCounts : ℤ → List ℤ → List ℤ → List ℤ → Tallies → Fault → Type 0

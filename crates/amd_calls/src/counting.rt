@@ -3,11 +3,11 @@
 
 ghost use Rattle.std.specs.Prelude.{◌≡◌, map};
 ghost use Rattle.amd_model.specs.Figures.{cut};
-ghost use Rattle.amd_calls.specs.Counting.{LeavesCounts, needs_of, tallies};
+ghost use Rattle.amd_calls.specs.Counting.{LeavesCounts, saturated_need, tallies};
 
 use crate::factors::{write_numbers, write_parents};
 use crate::matrix::Matrix;
-use crate::records::Needs;
+use crate::records::SaturatedNeed;
 use crate::signed::SignedIndex;
 use crate::writing::have_places;
 use amd_factor::needs::Need;
@@ -24,10 +24,10 @@ fn cut_to_count(figure: u128) -> usize
 }
 
 /// What a factor needs, each figure cut at the greatest count.
-pub fn needs_of(need: &Need) -> Needs
-    ensures { result ≡ needs_of need.now }
+pub fn saturated_need(need: &Need) -> SaturatedNeed
+    ensures { result ≡ saturated_need need.now }
 {
-    Needs {
+    SaturatedNeed {
         lnz: cut_to_count(need.lnz),
         n_mult_subs_ldl: cut_to_count(need.n_mult_subs_ldl),
         n_mult_subs_lu: cut_to_count(need.n_mult_subs_lu),
@@ -53,7 +53,7 @@ pub fn counts_into<I: PrimInt, A: Allocator + Copy>(
     p: &[I],
     sizes: &mut [I],
     parent: &mut [I],
-    needs: &mut Needs,
+    needs: &mut SaturatedNeed,
 ) -> Result<(), Fault>
     // A number of a primitive type is always in range.
     requires fits { I.fits (I.value matrix.n) }
@@ -72,6 +72,6 @@ pub fn counts_into<I: PrimInt, A: Allocator + Copy>(
     };
     write_numbers(&counted.sizes, sizes);
     write_parents(&counted.parent, parent);
-    *needs = needs_of(&counted.need);
+    *needs = saturated_need(&counted.need);
     Ok(())
 }

@@ -14,10 +14,10 @@ ghost use Rattle.amd_calls.specs.Counting.{LeavesCounts, tallies};
 ghost use Rattle.amd_calls.specs.Within.{LeavesWithin, Suffice, TellsWhether, columns_bytes, counts_bytes};
 
 use crate::bytes::{columns_lists, counts_lists};
-use crate::counting::needs_of;
+use crate::counting::saturated_need;
 use crate::factors::{have_column_places, write_numbers, write_parents};
 use crate::matrix::Matrix;
-use crate::records::Needs;
+use crate::records::SaturatedNeed;
 use crate::writing::have_places;
 use amd_factor::Fault;
 use amd_factor::counted::need_of_sizes;
@@ -60,7 +60,7 @@ pub fn counts_within<I: PrimInt>(
     p: &[I],
     sizes: &mut [I],
     parent: &mut [I],
-    needs: &mut Needs,
+    needs: &mut SaturatedNeed,
 ) -> Result<(), Fault>
     // A number of a primitive type is always in range.
     requires fits { I.fits (I.value matrix.n) }
@@ -81,7 +81,7 @@ pub fn counts_within<I: PrimInt>(
         Err(unfit) => return Err(fault_for(unfit)),
     };
     if size == 0 {
-        *needs = needs_of(&need_of_sizes(&[]));
+        *needs = saturated_need(&need_of_sizes(&[]));
         return Ok(());
     }
     let Some((mut numbers, mut links)) = counts_lists(block, size, count_at(a_p, size)) else {
@@ -94,7 +94,7 @@ pub fn counts_within<I: PrimInt>(
     };
     write_numbers(counts, sizes);
     write_parents(parents, parent);
-    *needs = needs_of(&need);
+    *needs = saturated_need(&need);
     Ok(())
 }
 

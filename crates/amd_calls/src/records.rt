@@ -66,7 +66,7 @@ pub struct Bounds {
 /// Source: AMD user guide (the figures of `Info`).
 #[derive(Drop)]
 #[repr(C)]
-pub struct Needs {
+pub struct SaturatedNeed {
     /// The entries below the diagonal, and so the divisions of a factorization.
     pub lnz: usize,
     /// The multiply-subtract steps of a factorization `LDL'`.

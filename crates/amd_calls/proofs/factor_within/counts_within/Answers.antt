@@ -7,9 +7,10 @@ use Rattle.amd_calls.proofs.WithinLeft.{no-counts}
 use Rattle.amd_calls.proofs.factor_within.counts_within.Goals as goal
 
 pub returns-then-size-eq0-clause-left : goal.returns-then-size-eq0-clause-left
-returns-then-size-eq0-clause-left g c = no-counts (g.I.Number.value c.args.matrix.n) _ _ _ _ _ c.need_of_sizes.result c.needs_of.result
+returns-then-size-eq0-clause-left g c = no-counts (g.I.Number.value c.args.matrix.n) _ _ _ _ _ c.need_of_sizes.result
+    c.saturated_need.result
     (sym (ap pos c.if-size-eq0.true) ∙ c.in-Ok.ensures.size) (c.in-Ok.ensures.none c.if-size-eq0.true)
-    (c.have_places.ensures.0 c.if-not-have_places.false) c.need_of_sizes.ensures c.needs_of.ensures
+    (c.have_places.ensures.0 c.if-not-have_places.false) c.need_of_sizes.ensures c.saturated_need.ensures
 
 pub count_at-requires-clause-fits : goal.count_at-requires-clause-fits
 count_at-requires-clause-fits g c = pointer_fits _ _ _ (c.in-Ok.ensures.form c.if-size-eq0.false) c.in-Ok.size (omega arith)
