@@ -38,26 +38,26 @@ pub fn have_column_places<I: Index>(n: I, ptr: &[I], parent: &[I]) -> bool
     }
 }
 
-/// Whether the caller's type has each of the counts.
-pub fn has_numbers<I: Index>(counts: &[usize]) -> bool
-    ensures { result ≡ true → (k : ℕ) → k < length counts.now → I.fits (pos (slice_index counts.now k)) }
+/// Whether the caller's type has each of these natural numbers.
+pub fn has_numbers<I: Index>(naturals: &[usize]) -> bool
+    ensures { result ≡ true → (k : ℕ) → k < length naturals.now → I.fits (pos (slice_index naturals.now k)) }
 {
-    'counts: for k in 0..counts.len() {
-        if from_count::<I>(counts[k]).is_none() {
+    'naturals: for k in 0..naturals.len() {
+        if from_count::<I>(naturals[k]).is_none() {
             return false;
         }
     }
     true
 }
 
-/// Writes counts, which the caller's type has, as numbers of it.
-pub fn write_numbers<I: Index>(counts: &[usize], numbers: &mut [I])
-    requires room { length numbers.old ≡ length counts.now }
-    requires fits { (k : ℕ) → k < length counts.now → I.fits (pos (slice_index counts.now k)) }
-    ensures { map I.value numbers.new ≡ map pos counts.now }
+/// Writes natural numbers, which the caller's type has, as numbers of it.
+pub fn write_numbers<I: Index>(naturals: &[usize], numbers: &mut [I])
+    requires room { length numbers.old ≡ length naturals.now }
+    requires fits { (k : ℕ) → k < length naturals.now → I.fits (pos (slice_index naturals.now k)) }
+    ensures { map I.value numbers.new ≡ map pos naturals.now }
 {
-    'counts: for k in 0..counts.len() {
-        let Some(number) = from_count(counts[k]) else {
+    'naturals: for k in 0..naturals.len() {
+        let Some(number) = from_count(naturals[k]) else {
             unreachable!()
         };
         numbers[k] = number;
@@ -87,13 +87,13 @@ pub fn has_parents<I: SignedIndex>(parents: &[Option<usize>]) -> bool
     true
 }
 
-/// Writes counts, which the caller's type has, as the first numbers of an array; those behind them stay.
-pub fn write_first_numbers<I: Index>(counts: &[usize], numbers: &mut [I])
-    requires room { length counts.now ≤ length numbers.old }
-    requires fits { (k : ℕ) → k < length counts.now → I.fits (pos (slice_index counts.now k)) }
-    ensures { map I.value numbers.new ≡ map pos counts.now ++ drop (length counts.now) (map I.value numbers.old) }
+/// Writes natural numbers, which the caller's type has, as the first numbers of an array; those behind them stay.
+pub fn write_first_numbers<I: Index>(naturals: &[usize], numbers: &mut [I])
+    requires room { length naturals.now ≤ length numbers.old }
+    requires fits { (k : ℕ) → k < length naturals.now → I.fits (pos (slice_index naturals.now k)) }
+    ensures { map I.value numbers.new ≡ map pos naturals.now ++ drop (length naturals.now) (map I.value numbers.old) }
 {
-    write_numbers(counts, &mut numbers[..counts.len()]);
+    write_numbers(naturals, &mut numbers[..naturals.len()]);
 }
 
 /// Writes the numbers of parents, which the caller's type has.

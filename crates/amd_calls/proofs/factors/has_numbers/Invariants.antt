@@ -2,5 +2,5 @@ use Rattle.std.proofs.Common.{ℕ, ◌<◌, pos}
 use Rattle.std.specs.Prelude.{slice_index}
 use Rattle.amd_calls.proofs.factors.has_numbers.Given as goal
 
-abbrev pub invariant-counts : goal.invariant-counts
-invariant-counts g l = (i : ℕ) → i < l.k → g.I.Index.fits (pos (slice_index l.counts i))
+abbrev pub invariant-naturals : goal.invariant-naturals
+invariant-naturals g l = (i : ℕ) → i < l.k → g.I.Index.fits (pos (slice_index l.naturals i))
