@@ -407,7 +407,7 @@ pub fn read_task<'a, R: Files + Input + Clock + Eprint + AllocGlobal>(
     let control = control_of(options)?;
     let budget = check_inputs(rt, options, work)?;
     check_outputs(rt, options)?;
-    let progress = Progress::begin(rt, options.progress, options.quiet);
+    let progress = Progress::from_now(rt, options.progress, options.quiet);
     let read = read_kept(rt, &progress, budget, options);
     let (matrix, text) = about(options.file, read)?;
     let hold = read_hold(rt, &progress, options, matrix.n)?;

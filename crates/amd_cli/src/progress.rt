@@ -59,7 +59,7 @@ fn is_terminal<R: Files + AllocGlobal>(rt: &R) -> bool {
 
 impl Progress {
     /// The progress of a run that begins now, with each stage told or not, unless nothing is to be told.
-    pub fn begin<R: Files + Clock + AllocGlobal>(rt: &R, each: bool, quiet: bool) -> Progress {
+    pub fn from_now<R: Files + Clock + AllocGlobal>(rt: &R, each: bool, quiet: bool) -> Progress {
         Progress {
             start: Instant::now(rt).ok(),
             each,

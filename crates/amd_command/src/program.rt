@@ -376,7 +376,7 @@ fn describe_file<'a, R: Runtime + AllocGlobal>(
         Work::Facts
     };
     let budget = check_inputs(rt, options, work)?;
-    let progress = Progress::begin(rt, options.progress, options.quiet);
+    let progress = Progress::from_now(rt, options.progress, options.quiet);
     let read = read_file(rt, &progress, budget, options.file);
     let matrix = about(options.file, read)?;
     let text = facts_made(rt, &progress, options, &matrix, &control)?;
