@@ -6,5 +6,4 @@ pub mod Classes
 pub mod WordMarks
 pub mod WordCounts
 pub mod EachRow
-pub mod Offsets
 pub mod SideLists

@@ -4,8 +4,8 @@ use Rattle.std.proofs.Common.{slice_index_or, slice_set}
 use Rattle.std.proofs.lemmas.List.{map-set, length-map}
 use Rattle.std.proofs.Math.ListN.{get_or-map}
 use Rattle.std.proofs.Math.Seq.{map-set_same}
+use borrow.Author.Rules.{scaled_Fits}
 use Rattle.amd_words.specs.Sides.{nexts, lasts}
-use Rattle.amd_words.proofs.Offsets.{offset_of}
 
 -- both lists have a number for each row
 pub nexts_long : (s : List (ℕ × ℕ)) → length (nexts s) ≡ length s
@@ -22,7 +22,7 @@ inside s i l = subst (λ n. i < n) (nexts_long s) l
 
 -- and its offset fits
 pub offset_fits : (s : List (ℕ × ℕ)) (i size : ℕ) → i < length (nexts s) → length s * size < 2 ^ 63 → Fits w64 (i * size)
-offset_fits s i size l small = offset_of i (length s) size (inside s i l) small
+offset_fits s i size l small = scaled_Fits i (length s) size (inside s i l) small
 
 pub both_long : (s : List (ℕ × ℕ)) → length (lasts s) ≡ length (nexts s)
 both_long s = lasts_long s ∙ sym (nexts_long s)

@@ -1,11 +1,11 @@
 use Rattle.std.proofs.Common.{◌≡◌, ◌≢◌, ◌+◌, ◌<◌, ◌≤◌, ℕ, map, length, get_or, arith, add-one}
 use Rattle.std.proofs.lemmas.List.{length-map}
 use Rattle.std.proofs.lemmas.Grind.{common_steps}
+use borrow.Author.Rules.{scaled_Fits}
 use Rattle.amd_types.specs.Naturals.{naturals}
 use Rattle.amd_edges.proofs.Forms.{pointer_fits, row_fits, place_within}
 use Rattle.amd_factor.proofs.Lists.Entries.{far_first, far_last}
 use Rattle.amd_factor.proofs.Lists.Steps.{pointers_rise, row_below, far_arc, far_same, next_arc}
-use Rattle.amd_types.proofs.Fitting.{offset_fits}
 use Rattle.amd_factor.proofs.arcs.column.Goals as goal
 use Rattle.amd_factor.proofs.arcs.column.Goals.{then-there-here, else-there-here}
 
@@ -53,7 +53,7 @@ offset_bounds-places-count_at g c =
     c.args.column c.entries.entry c.requires.column_in (omega arith) in
     let room = c.requires.places.1.room in
     let inside : c.count_at.result < length c.args.places.now = omega (arith, row, below, room) in
-    offset_fits _ (length c.args.places.now) _ inside (omega arith)
+    scaled_Fits _ (length c.args.places.now) _ inside (omega arith)
 
 pub arc-requires : goal.arc-requires
 arc-requires g c =

@@ -1,10 +1,10 @@
 use Rattle.std.proofs.Common.{ap, subst, sym, ◌∙◌, arith, length, map}
 use Rattle.std.specs.Prelude.{slice_index, slice_index_or, None, IsSome}
+use borrow.Author.Rules.{scaled_Fits}
 use Rattle.amd_types.specs.Naturals.{naturals}
 use Rattle.amd_factor.specs.Partitions.{Climbs}
 use Rattle.amd_factor.proofs.Partitions.RowClimbs.{climbs-on, higher, row-in, told}
 use Rattle.amd_factor.proofs.Partitions.TypedRows.{count-length, in-range, set-count, told-more}
-use Rattle.amd_types.proofs.Fitting.{offset_fits}
 use Rattle.amd_factor.proofs.below.put_row.Goals as goal
 
 pub offset_bounds-rows-next : goal.offset_bounds-rows-next
@@ -13,7 +13,7 @@ offset_bounds-rows-next g c =
     c.requires.1.row.laws
     c.requires.1.row.place c.requires.1.climbs c.requires.1.new in
     let n = count-length g.I.Index.value c.args.rows.now in
-    offset_fits _ (length c.args.rows.now) _ (in-range _ _ _ i n) (omega arith)
+    scaled_Fits _ (length c.args.rows.now) _ (in-range _ _ _ i n) (omega arith)
 
 pub bounds-rows-next : goal.bounds-rows-next
 bounds-rows-next g c =
