@@ -2,13 +2,12 @@
 -- answers.
 use Rattle.std.specs.Prelude.{◌≡◌, ◌≢◌, ◌≤◌, ◌<◌, ◌+◌, ◌*◌, ◌/◌, ◌^◌, ℕ, ℤ, pos, Bool, true, false, Option, None}
 use Rattle.std.specs.Prelude.{Some, List, length, map}
-use Rattle.std.specs.Prelude.{slice_index, unsigned_abs}
 use Rattle.std.specs.Option.{option_copied}
 use Rattle.amd_model.specs.Input.Columns.{IsColumnForm, IsSorted}
 use Rattle.amd_model.specs.Input.Held.{HasMarks}
 use Rattle.amd_model.specs.Input.Pattern.{is_pair}
 use Rattle.amd_lists.specs.Sizes.{AreWideEnough}
-use Rattle.amd_types.specs.Naturals.{naturals}
+use Rattle.amd_count_laws.specs.Within.{FitsIn}
 use Rattle.amd_input.specs.Degrees.{AreDegrees}
 use Rattle.amd_workspace.specs.Lists.{HasRoom}
 use Rattle.amd_workspace.specs.declared.lists.Memory.{Memory}
@@ -73,10 +72,6 @@ pub record IsSized {S P U A : Type 0} (word place cell rows entries : ℕ) (m : 
   pub columns : entries ≤ column_room
   pub narrow : AreWideEnough word place cell rows (list_words rows entries)
   pub few : 2 * entries + 2 * entries / 5 + rows < 2 ^ 63
-
--- a matrix with n rows and these pointers has at most so many rows and entries
-abbrev pub FitsIn : ℤ → List ℤ → ℕ → ℕ → Type 0
-FitsIn n ap rows entries = n ≢ pos 0 → (unsigned_abs n ≤ rows) × (slice_index (naturals ap) (unsigned_abs n) ≤ entries)
 
 -- a call is valid: n is 0 or the input is a column form, with a mark for each row where there are marks; and there are n
 -- places for the permutation and for its inverse

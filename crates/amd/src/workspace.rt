@@ -10,7 +10,8 @@ ghost use Rattle.amd_types.specs.Naturals.{naturals};
 ghost use Rattle.amd_types.specs.Statuses.{IsStatusOf};
 ghost use Rattle.amd.specs.Answers.{IsOrdering, IsOrderingHolding};
 ghost use Rattle.amd.specs.Blocks.{workspace_bytes, workspace_words};
-ghost use Rattle.amd.specs.Within.{FitsIn, IsCall, IsGivenBy, IsWithinRefusal, OrdersGiven};
+ghost use Rattle.amd_count_laws.specs.Within.{FitsIn};
+ghost use Rattle.amd.specs.Within.{IsCall, IsGivenBy, IsWithinRefusal, OrdersGiven};
 ghost use Rattle.amd.specs.Workspaces.{IsMadeFor, entries_of, rows_of, words_of};
 
 use crate::entrance::{class_of, jumbled_of};

@@ -5,6 +5,7 @@ use Rattle.amd_model.specs.Figures.{entries, ldl_steps, lu_steps}
 use Rattle.amd_model.specs.Graph.{Graph}
 use Rattle.amd_model.specs.Input.Columns.{IsInput}
 use Rattle.amd_model.specs.Input.Pattern.{graph_of}
+use Rattle.amd_count_laws.specs.Parts.{part_size}
 use Rattle.amd_factor.specs.Sizes.{HoldSizes}
 use Rattle.amd_factor.specs.Orders.{Permutes}
 use Rattle.amd_factor.specs.declared.counted.Sums.{Sums}
@@ -13,7 +14,6 @@ use Rattle.amd_factor.specs.declared.factor.Fault.TheVariants.{NotColumnForm, No
 use Rattle.amd_factor.specs.declared.factor.Fault.TheVariants.{OutOfMemory}
 use Rattle.amd_factor.specs.declared.needs.Need.{Need}
 use Rattle.amd_factor.specs.Factors.{IsFactorOf, IsFault}
-use Rattle.amd_factor.specs.Laws.{column_size}
 
 -- what a field of 128 bits holds of a figure: the lesser of it and the greatest such number
 abbrev pub wide_cut : ℕ → ℕ
@@ -67,4 +67,4 @@ abbrev pub CountsTellFactor : Type 0
 CountsTellFactor =
     (n : ℤ) (ap ai p : List ℤ) (sizes ptr rows : List ℕ) (parent other : List (Option ℕ)) (need : Need) →
     IsCountsOf n ap ai p sizes parent need → IsFactorOf n ap ai p ptr rows other →
-    (parent ≡ other) × ((k : ℕ) → k < unsigned_abs n → slice_index sizes k ≡ column_size ptr k)
+    (parent ≡ other) × ((k : ℕ) → k < unsigned_abs n → slice_index sizes k ≡ part_size ptr k)

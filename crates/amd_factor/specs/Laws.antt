@@ -1,20 +1,13 @@
 -- Laws of a factor in vectors: its parents are the elimination tree, its rows are subtrees, and there is one. Source:
 -- Liu 1986, 1990.
-use Rattle.std.specs.Prelude.{ℕ, ℤ, ◌≡◌, ◌<◌, ◌+◌, ◌-◌, ◌↔◌, List, Contains, Option, None, Some}
-use Rattle.std.specs.Prelude.{slice_index, slice_index_or, slice_range, unsigned_abs}
+use Rattle.std.specs.Prelude.{ℕ, ℤ, ◌≡◌, ◌<◌, ◌+◌, ◌↔◌, List, Contains, Option, None, Some}
+use Rattle.std.specs.Prelude.{slice_index, slice_index_or, unsigned_abs}
 use Rattle.amd_model.specs.Graph.{Graph}
 use Rattle.amd_model.specs.Input.Pattern.{graph_of}
+use Rattle.amd_count_laws.specs.Parts.{part_of}
 use Rattle.amd_factor.specs.Orders.{Permutes}
 use Rattle.amd_factor.specs.Trees.{IsParent, InSubtree}
 use Rattle.amd_factor.specs.Factors.{IsFactorOf}
-
--- the number of entries of column k
-abbrev pub column_size : List ℕ → ℕ → ℕ
-column_size ptr k = slice_index ptr (k + 1) - slice_index ptr k
-
--- the entries of column k
-abbrev pub column_of : List ℕ → List ℕ → ℕ → List ℕ
-column_of ptr rows k = slice_range rows (slice_index ptr k) (slice_index ptr (k + 1))
 
 -- what the parent of column k tells: none, that the column is empty; and some, that it is the first entry of the column
 -- and the parent in the elimination tree
@@ -37,7 +30,7 @@ RowsTellSubtrees =
     (n : ℤ) (ap ai p : List ℤ) (ptr rows order : List ℕ) (parent : List (Option ℕ)) →
     IsFactorOf n ap ai p ptr rows parent →
     Permutes (unsigned_abs n) p order → (k j : ℕ) → k < j → j < unsigned_abs n →
-    Contains (column_of ptr rows k) j ↔ InSubtree (graph_of (unsigned_abs n) ap ai) order j k
+    Contains (part_of ptr rows k) j ↔ InSubtree (graph_of (unsigned_abs n) ap ai) order j k
 
 -- two answers for one matrix and one order are one
 abbrev pub ThereIsOneFactor : Type 0

@@ -2,8 +2,9 @@
 -- Peyton 1994.
 use Rattle.std.specs.Prelude.{ℕ, zero, suc, Bool, true, ◌≡◌, ◌≢◌, ◌<◌, ◌≤◌, ◌+◌, ◌-◌, ◌⊎◌, List, length, slice_index}
 use Rattle.amd_model.specs.Below.{count_below, sum_below}
+use Rattle.amd_count_laws.specs.Rising.{GoesUp}
 use Rattle.amd_factor.specs.Orders.{Order}
-use Rattle.amd_factor.specs.Ranks.{Above, GoesUp, Measured, Ranked}
+use Rattle.amd_factor.specs.Ranks.{Above, Measured, Ranked}
 
 -- an order of rows, and its elimination tree: where each place goes up to, the sizes of the subtrees, and the ranks
 pub record Scene : Type 0 where

@@ -1,14 +1,7 @@
 -- Forests whose parents stand behind their children, the sizes of the subtrees, and ranks in postorder. A place that
 -- has no parent goes up to the number of places, which stands over all.
-use Rattle.std.specs.Prelude.{ℕ, ◌≡◌, ◌<◌, ◌≤◌, ◌+◌, ◌==◌, cond, List, Option, None, length, slice_index}
-use Rattle.std.specs.Prelude.{slice_index_or}
-use Rattle.std.specs.Prelude.{unwrap_or}
-use Rattle.amd_model.specs.Below.{sum_below}
-
--- each place goes up to one behind it
-pub record GoesUp (up : List ℕ) : Type 0 where
-  pub rises : (k : ℕ) → k < length up → k < slice_index up k
-  pub most : (k : ℕ) → k < length up → slice_index up k ≤ length up
+use Rattle.std.specs.Prelude.{ℕ, ◌≡◌, ◌<◌, ◌≤◌, ◌+◌, List, Option, None, length, slice_index, slice_index_or, unwrap_or}
+pub use Rattle.amd_count_laws.specs.Rising.{GoesUp, under}
 
 -- the place to which each goes up is its parent
 pub record GoesToParents (parent : List (Option ℕ)) (up : List ℕ) : Type 0 where
@@ -19,10 +12,6 @@ pub record GoesToParents (parent : List (Option ℕ)) (up : List ℕ) : Type 0 w
 pub data Above (up : List ℕ) : ℕ → ℕ → Type 0 where
   itself : {x : ℕ} → Above up x x
   step : {x q : ℕ} → x < length up → Above up (slice_index up x) q → Above up x q
-
--- how many places stand in the subtrees of those below m that go up to p
-abbrev pub under : List ℕ → List ℕ → ℕ → ℕ → ℕ
-under up size p m = sum_below m (λ c. cond (slice_index up c == p) (slice_index size c) 0)
 
 -- each subtree has its root, and the subtrees of those that go up to it
 pub record Measured (up size : List ℕ) : Type 0 where

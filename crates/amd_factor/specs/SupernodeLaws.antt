@@ -1,13 +1,14 @@
 -- Laws of the supernodes of a factor: how many there are, and what they tell of the needs of the factor. Source: Liu,
 -- Ng and Peyton 1993; AMD user guide.
 use Rattle.std.specs.Prelude.{ℕ, ℤ, true, pos, ◌≡◌, ◌≢◌, ◌≤◌, ◌<◌, ◌+◌, ◌-◌, ◌++◌, List, [], Option, length}
-use Rattle.std.specs.Prelude.{slice_index, slice_index_or, unsigned_abs}
+use Rattle.std.specs.Prelude.{slice_index_or, unsigned_abs}
 use Rattle.std.specs.List.{range_with_len}
 use Rattle.amd_model.specs.Below.{sum_below}
 use Rattle.amd_model.specs.Figures.{entries, front_sum, ldl_steps, lu_steps, max_below}
 use Rattle.amd_model.specs.Graph.{Graph}
 use Rattle.amd_model.specs.Input.Columns.{IsInput}
 use Rattle.amd_model.specs.Input.Pattern.{graph_of}
+use Rattle.amd_count_laws.specs.Parts.{part_size}
 use Rattle.amd_factor.specs.Counted.{IsCountsOf, wide_cut}
 use Rattle.amd_factor.specs.Orders.{Permutes}
 use Rattle.amd_factor.specs.Supernodes.{AreRuns, HoldRowsBelow, HoldSupernodes, IsSupernodesOf, Joined}
@@ -42,20 +43,16 @@ pub record AreSizesOf (n : ℤ) (ap ai p : List ℤ) (supernodes below : ℕ) : 
   pub permutes : Permutes (unsigned_abs n) p order
   pub tells : TellSizesOf (graph_of (unsigned_abs n) ap ai) order supernodes below
 
--- the number of places of supernode s, and that of the rows below its block
-abbrev pub width : List ℕ → ℕ → ℕ
-width first s = slice_index first (s + 1) - slice_index first s
-
 -- the sum of the shares of all supernodes, each as a front: its places, and the rows below
 abbrev pub block_sum : (ℕ → ℕ) → List ℕ → List ℕ → ℕ
-block_sum share first ptr = sum_below (length first - 1) (λ s. front_sum share (width first s) (width ptr s))
+block_sum share first ptr = sum_below (length first - 1) (λ s. front_sum share (part_size first s) (part_size ptr s))
 
 -- the needs of a factor, by its supernodes alone, each cut where it passes the greatest number of its field
 pub record BlocksNeed (first ptr : List ℕ) (need : Need) : Type 0 where
   pub lnz : need.lnz ≡ wide_cut (block_sum entries first ptr)
   pub ldl : need.n_mult_subs_ldl ≡ wide_cut (block_sum ldl_steps first ptr)
   pub lu : need.n_mult_subs_lu ≡ wide_cut (block_sum lu_steps first ptr)
-  pub greatest : need.d_max ≡ max_below (length first - 1) (λ s. true) (λ s. width first s + width ptr s) 0
+  pub greatest : need.d_max ≡ max_below (length first - 1) (λ s. true) (λ s. part_size first s + part_size ptr s) 0
 
 -- the supernodes tell what the factor needs
 abbrev pub SupernodesTellNeeds : Type 0

@@ -1,11 +1,13 @@
 -- The columns of a factor by supernodes. Source: Liu, Ng and Peyton 1993.
 use Rattle.std.specs.Prelude.{ℕ, ℤ, pos, ◌≡◌, ◌≢◌, ◌<◌, ◌≤◌, ◌+◌, ◌-◌, ◌++◌, List, [], Option, None, Some, length}
-use Rattle.std.specs.Prelude.{slice_index, slice_index_or, slice_range, unsigned_abs}
+use Rattle.std.specs.Prelude.{slice_index, slice_index_or, unsigned_abs}
 use Rattle.std.specs.List.{range_with_len}
 use Rattle.amd_model.specs.Factor.{IsFactor}
 use Rattle.amd_model.specs.Graph.{Graph}
 use Rattle.amd_model.specs.Input.Columns.{IsInput}
 use Rattle.amd_model.specs.Input.Pattern.{graph_of}
+-- the rows below the block of a supernode
+pub use Rattle.amd_count_laws.specs.Parts.{part_of as rows_below}
 use Rattle.amd_factor.specs.Columns.{first_of}
 use Rattle.amd_factor.specs.Orders.{Permutes}
 
@@ -23,10 +25,6 @@ pub record AreRuns (joined : ℕ → Type 0) (n : ℕ) (first : List ℕ) : Type
   pub rises : (s : ℕ) → s + 1 < length first → slice_index first s < slice_index first (s + 1)
   pub runs : (s k : ℕ) → s + 1 < length first → slice_index first s ≤ k → k + 1 < slice_index first (s + 1) → joined k
   pub longest : (s k : ℕ) → s + 1 < length first → k + 1 ≡ slice_index first (s + 1) → ¬ (joined k)
-
--- the rows below the block of supernode s
-abbrev pub rows_below : List ℕ → List ℕ → ℕ → List ℕ
-rows_below ptr rows s = slice_range rows (slice_index ptr s) (slice_index ptr (s + 1))
 
 -- what the parent of a supernode tells of its rows: none, that there is none; and some, that the first of them is a
 -- place of that supernode

@@ -1,11 +1,12 @@
 -- What `counts_within` and `columns_within` answer, over memory that was taken before.
-use Rattle.std.specs.Prelude.{ℕ, ℤ, pos, ◌≡◌, ◌≢◌, ◌≤◌, ◌<◌, ◌+◌, ◌*◌, List, Option, length, slice_index, unsigned_abs}
+use Rattle.std.specs.Prelude.{ℕ, ℤ, pos, ◌≡◌, ◌≢◌, ◌<◌, ◌+◌, ◌*◌, List, Option, length, unsigned_abs}
 use Rattle.amd_model.specs.Factor.{IsFactor, needed}
 use Rattle.amd_model.specs.Figures.{entries}
 use Rattle.amd_model.specs.Graph.{Graph}
 use Rattle.amd_model.specs.Input.Columns.{IsColumnForm, IsInput}
 use Rattle.amd_model.specs.Input.Pattern.{graph_of}
 use Rattle.amd_types.specs.Naturals.{naturals}
+pub use Rattle.amd_count_laws.specs.Within.{FitsIn}
 use Rattle.amd_factor.specs.Counted.{wide_cut}
 use Rattle.amd_factor.specs.Orders.{Order, Permutes}
 use Rattle.amd_factor.specs.Places.{ArePlaces}
@@ -17,10 +18,6 @@ use Rattle.amd_factor.specs.declared.refusal.Refusal.TheVariants.{NotColumnForm,
 -- how many numbers the lists take for a matrix with n rows and that many entries
 abbrev pub words : ℕ → ℕ → ℕ
 words n entries = 2 * entries + 11 * n + 7
-
--- a matrix with n rows and these pointers has at most so many rows and entries
-abbrev pub FitsIn : ℤ → List ℤ → ℕ → ℕ → Type 0
-FitsIn n ap rows room = n ≢ pos 0 → (unsigned_abs n ≤ rows) × (slice_index (naturals ap) (unsigned_abs n) ≤ room)
 
 -- the column form is that of the graph of an order, and the list has the place of each of its rows
 pub record IsPlaced (o : Order) (n : ℕ) (ap ai : List ℤ) (places : List ℕ) : Type 0 where

@@ -1,44 +1,13 @@
 -- How the blocks of a tree come to lie, supernode by supernode.
-use Rattle.std.proofs.Common.{ℕ, zero, suc, ◌≡◌, ◌≢◌, ◌<◌, ◌≤◌, ◌+◌, ◌-◌, ◌==◌, cond, inl, inr, refl, sym, ◌∙◌, ap}
+use Rattle.std.proofs.Common.{ℕ, ◌≡◌, ◌≢◌, ◌<◌, ◌≤◌, ◌+◌, inl, inr, refl, sym, ◌∙◌, ap}
 use Rattle.std.proofs.Common.{subst, arith, List, length, set}
 use Rattle.std.specs.Prelude.{slice_index, ◌⊎◌, Option}
-use Rattle.std.proofs.lemmas.Bool.{cases_eq, eq-eqb, ne_eqb}
+use Rattle.std.proofs.lemmas.Bool.{cases_eq}
 use Rattle.std.proofs.lemmas.List.{length-set, get_or-set_same, get_or-set_other}
-use Rattle.amd_model.proofs.Counting.Below.{sum_same}
-use Rattle.amd_report.specs.Layouts.{AddsUnder, AreApart, AreLaid, AreWidths, GoesToParents, GoesUp, IsLayout, own, under}
-use Rattle.amd_report.proofs.Summing.{sum-next, sum-none}
-
--- those that go up to q, with one more
-pub under-none : (up width : List ℕ) (q : ℕ) → under up width q 0 ≡ 0
-under-none up width q = sym (sum-none (λ s. cond (slice_index up s == q) (slice_index width s) 0))
-
-pub under-same : (up width : List ℕ) (q k : ℕ) → slice_index up k ≡ q →
-    under up width q (k + 1) ≡ slice_index width k + under up width q k
-under-same up width q k e = sum-next (λ s. cond (slice_index up s == q) (slice_index width s) 0) k
-    ∙ ap (λ b. cond b (slice_index width k) 0 + under up width q k) (eq-eqb (slice_index up k) q e)
-
-pub under-other : (up width : List ℕ) (q k : ℕ) → slice_index up k ≢ q → under up width q (k + 1) ≡ under up width q k
-under-other up width q k ne = sum-next (λ s. cond (slice_index up s == q) (slice_index width s) 0) k
-    ∙ ap (λ b. cond b (slice_index width k) 0 + under up width q k) (ne_eqb (slice_index up k) q ne) ∙ omega arith
-
--- other widths, the same below k
-pub under-of : (up width other : List ℕ) (q k : ℕ) → ((s : ℕ) → s < k → slice_index other s ≡ slice_index width s) →
-    under up other q k ≡ under up width q k
-under-of up width other q k same = sum_same k (λ s. cond (slice_index up s == q) (slice_index other s) 0)
-    (λ s. cond (slice_index up s == q) (slice_index width s) 0) (λ s l. ap (λ x. cond (slice_index up s == q) x 0) (same s l))
-
--- all that go up to q stand before it
-under-to : (up width : List ℕ) (q d : ℕ) → ((s : ℕ) → q ≤ s → s < q + d → slice_index up s ≢ q) →
-    under up width q (q + d) ≡ under up width q q
-under-to up width q zero none = ap (under up width q) (let e : q + 0 ≡ q = omega arith in e)
-under-to up width q (suc d) none = ap (under up width q) (let e : q + suc d ≡ q + d + 1 = omega arith in e)
-    ∙ under-other up width q (q + d) (none (q + d) (omega arith) (omega arith))
-    ∙ under-to up width q d (λ s l m. none s l (omega (arith, m)))
-
-pub under-all : (up width : List ℕ) (q : ℕ) → GoesUp up → q ≤ length up → under up width q (length up) ≡ under up width q q
-under-all up width q goes l =
-    ap (under up width q) (let e : length up ≡ q + (length up - q) = omega (arith, l) in e) ∙
-    under-to up width q (length up - q) (λ s a b e. let r = goes.rises s (omega (arith, l, b)) in omega (arith, r, e, a))
+use Rattle.amd_count_laws.specs.Parts.{part_size}
+use Rattle.amd_count_laws.specs.Rising.{GoesUp, under}
+use Rattle.amd_count_laws.proofs.Under.{under-all, under-none, under-of, under-other, under-same}
+use Rattle.amd_report.specs.Layouts.{AddsUnder, AreApart, AreLaid, AreWidths, GoesToParents, IsLayout}
 
 -- the widths when those below k were added to those that they go up to
 pub record Adding (up old new : List ℕ) (k : ℕ) : Type 0 where
@@ -95,7 +64,7 @@ laid-none first up width left level next goes widths lefts levels nexts =
       low = λ q a b. (let e : q ≡ length up = omega (arith, a, b) in
           subst (λ x. slice_index (set level (length up) 0) x + x ≤ length up) (sym e) (omega (arith, v)));
       nexts = λ q a b. (let e : q ≡ length up = omega (arith, a, b) in
-          subst (λ x. slice_index (set next (length up) 0) x + under up width x (length up) + own first x
+          subst (λ x. slice_index (set next (length up) 0) x + under up width x (length up) + part_size first x
           ≡ slice_index (set left (length up) 0) x + slice_index width x) (sym e)
           (let w = widths.each (length up) (omega arith) in omega (arith, w, n, l)));
       grown = λ q a b. (let e : q ≡ length up = omega (arith, a, b) in
@@ -157,7 +126,7 @@ module _ (first up width left level next : List ℕ) (k begin : ℕ) (goes : Goe
   next-other q a b = get_or-set_other (set next k begin) over q _ 0 b ∙ get_or-set_other next k q begin 0 a
 
   -- the room that is left over
-  next-is : begin + (slice_index width k + under up width over k) + own first over ≡ slice_index left over + slice_index width over
+  next-is : begin + (slice_index width k + under up width over k) + part_size first over ≡ slice_index left over + slice_index width over
   next-is = let a = laid.nexts over (let b = behind in omega (arith, b)) most in let u = under-same up width over k refl in
       omega (arith, a, u, is)
 
@@ -170,14 +139,15 @@ module _ (first up width left level next : List ℕ) (k begin : ℕ) (goes : Goe
   pub lay-low : slice_index level over + 1 ≤ length up
   lay-low = let a = laid.low over (let c = behind in omega (arith, c)) most in let b = behind in omega (arith, a, b)
 
-  nexts' : (q : ℕ) → k ≤ q → q ≤ length up → slice_index next' q + under up width q k + own first q
+  nexts' : (q : ℕ) → k ≤ q → q ≤ length up → slice_index next' q + under up width q k + part_size first q
       ≡ slice_index left' q + slice_index width q
   nexts' q a b = elim (cases_eq q k) [
-    | inl e ↦ subst (λ x. slice_index next' x + under up width x k + own first x ≡ slice_index left' x + slice_index width x) (sym e)
+    | inl e ↦ subst (λ x. slice_index next' x + under up width x k + part_size first x ≡ slice_index left' x + slice_index width x) (sym e)
         (let n = next-here in let l = left-here in let w = widths.each k (omega (arith, low)) in
         let u = under-all up width k goes (omega (arith, low)) in omega (arith, n, l, w, u))
     | inr ne ↦ elim (cases_eq q over) [
-      | inl e ↦ subst (λ x. slice_index next' x + under up width x k + own first x ≡ slice_index left' x + slice_index width x) (sym e)
+      | inl e ↦ subst (λ x. slice_index next' x + under up width x k + part_size first x ≡ slice_index left' x + slice_index width x)
+          (sym e)
           (let n = next-over in let l = left-other over not-over in let i = next-is in omega (arith, n, l, i))
       | inr not ↦ (let n = next-other q ne not in let l = left-other q ne in let i = laid.nexts q (omega (arith, a, ne)) b in
           let u = under-other up width q k (λ e. not (sym e)) in omega (arith, n, l, i, u))
@@ -344,7 +314,7 @@ laid-all first parent up width left level next goes room parents widths laid = r
 
 -- own widths, and those of the blocks that go up
 pub widths-from : (first up begun width : List ℕ) → length begun ≡ length up + 1
-    → ((q : ℕ) → q < length begun → slice_index begun q ≡ own first q) → AddsUnder up begun width → AreWidths first up width
+    → ((q : ℕ) → q < length begun → slice_index begun q ≡ part_size first q) → AddsUnder up begun width → AreWidths first up width
 widths-from first up begun width room own-are a = record {
   room = a.room ∙ room;
   each = λ q l. (let e = a.each q l in let o = own-are q (omega (arith, l, room)) in omega (arith, e, o));

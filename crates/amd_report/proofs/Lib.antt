@@ -1,7 +1,6 @@
 -- Texts: pieces, members, items and lines, and what a writer took.
 pub mod Pieces
 pub mod Mirrors
-pub mod Summing
 pub mod Passing
 pub mod Signing
 pub mod Widths

@@ -1,5 +1,5 @@
 -- A pass over the entries of a column form: one place more, one column more, and the entries that it met in the end.
-use Rattle.std.proofs.Common.{◌≡◌, ◌+◌, ◌<◌, ◌≤◌, inl, inr, ℕ, true, List, [], ◌∷◌, map, pos, get_or, refl, sym, subst, ap, ◌∙◌}
+use Rattle.std.proofs.Common.{◌≡◌, ◌+◌, ◌<◌, ◌≤◌, inl, inr, ℕ, true, List, map, pos, get_or, refl, sym, subst, ap, ◌∙◌}
 use Rattle.std.proofs.Common.{arith}
 use Rattle.std.specs.Prelude.{slice_index}
 use Rattle.std.proofs.lemmas.Bool.{cases_eq, lt-ltb}
@@ -12,13 +12,9 @@ use Rattle.amd_model.proofs.Counting.Below.{count_same}
 use Rattle.amd_types.specs.Naturals.{naturals, count_graph, is_before, is_entry}
 use Rattle.amd_edges.proofs.Forms.{IsSortedForm, same_pair, pointer_within, row_in, row_is, same_diagonals, same_graph, sorted_form}
 use Rattle.amd_edges.proofs.Places.{entry_from, entry_gives}
+use Rattle.amd_count_laws.proofs.CountsBack.{counts_back}
 use Rattle.amd_report.specs.Passes.{IsForm, Met}
 use Rattle.amd_report.specs.Signs.{IsRisingForm}
-
--- counts are read back as they were
-pub counts-back : (xs : List ℕ) → naturals (map pos xs) ≡ xs
-counts-back [] = refl
-counts-back (x ∷ xs) = ap (λ ys. x ∷ ys) (counts-back xs)
 
 module _ (ap' ai : List ℕ) where
   -- what holds of the entries that were met, and of one more
@@ -107,11 +103,11 @@ module _ (n : ℕ) (ap' ai : List ℕ) (form : IsColumnForm (pos n) n (map pos a
     enough = (let e = form.enough in let long = length-map ap' pos in omega (arith, e, long));
     within = λ j h. (let w = pointer_within n (map pos ap') (map pos ai) form (j + 1) (omega (arith, h)) in
         let long = length-map ai pos in
-        let same = ap (λ z. get_or z (j + 1) 0) (counts-back ap') in omega (arith, w, long, same));
-    rows = λ j q h low high. (let same = ap (λ z. get_or z (j + 1) 0) (counts-back ap') in
+        let same = ap (λ z. get_or z (j + 1) 0) (counts_back ap') in omega (arith, w, long, same));
+    rows = λ j q h low high. (let same = ap (λ z. get_or z (j + 1) 0) (counts_back ap') in
         let inside = row_in n (map pos ap') (map pos ai) form j q h (omega (arith, high, same)) in
         let is = row_is n (map pos ap') (map pos ai) form j q h (omega (arith, high, same)) in
-        let row = ap (λ z. get_or z q 0) (counts-back ai) in
+        let row = ap (λ z. get_or z q 0) (counts_back ai) in
         let top = inside.1 in
         omega (arith, ints, top, is, row));
   }
@@ -119,29 +115,29 @@ module _ (n : ℕ) (ap' ai : List ℕ) (form : IsColumnForm (pos n) n (map pos a
   -- and columns that rise, where they are sorted
   pub form-rising : IsSorted n (map pos ap') (map pos ai) → IsRisingForm n ap' ai
   form-rising sorted =
-      let rising : IsSortedForm n ap' ai = subst (λ z. IsSortedForm n z ai) (counts-back ap')
-      (subst (λ z. IsSortedForm n (naturals (map pos ap')) z) (counts-back ai) (sorted_form n (map pos ap') (map pos ai) form sorted)) in
+      let rising : IsSortedForm n ap' ai = subst (λ z. IsSortedForm n z ai) (counts_back ap')
+      (subst (λ z. IsSortedForm n (naturals (map pos ap')) z) (counts_back ai) (sorted_form n (map pos ap') (map pos ai) form sorted)) in
       record { form = form-counts; order = rising.rising; rise = rising.ascend }
 
   -- the graph and the diagonal by counts
   pub graph-same : graph_of n (map pos ap') (map pos ai) ≡ count_graph n ap' ai
   graph-same =
-      same_graph n (map pos ap') (map pos ai) form ∙ ap (λ z. count_graph n z (naturals (map pos ai))) (counts-back ap')
-      ∙ ap (λ z. count_graph n ap' z) (counts-back ai)
+      same_graph n (map pos ap') (map pos ai) form ∙ ap (λ z. count_graph n z (naturals (map pos ai))) (counts_back ap')
+      ∙ ap (λ z. count_graph n ap' z) (counts_back ai)
 
   pub diagonal-same : diagonal_count n (map pos ap') (map pos ai)
       ≡ count_below n (λ v. is_before ap' ai (slice_index ap' (v + 1)) v v)
   unfolding is_entry
   diagonal-same =
       same_diagonals n (map pos ap') (map pos ai) form
-      ∙ ap (λ z. count_below n (λ v. is_entry n z (naturals (map pos ai)) v v)) (counts-back ap')
-      ∙ ap (λ z. count_below n (λ v. is_entry n ap' z v v)) (counts-back ai)
+      ∙ ap (λ z. count_below n (λ v. is_entry n z (naturals (map pos ai)) v v)) (counts_back ap')
+      ∙ ap (λ z. count_below n (λ v. is_entry n ap' z v v)) (counts_back ai)
       ∙ count_same n (λ v. is_entry n ap' ai v v) (λ v. is_before ap' ai (slice_index ap' (v + 1)) v v) (λ v l. rw (lt-ltb v n l) refl)
 
   entry-of : (i c : ℕ) → is_pair n (map pos ap') (map pos ai) i c ≡ is_entry n ap' ai i c
   entry-of i c =
-      same_pair n (map pos ap') (map pos ai) form i c ∙ ap (λ z. is_entry n z (naturals (map pos ai)) i c) (counts-back ap')
-      ∙ ap (λ z. is_entry n ap' z i c) (counts-back ai)
+      same_pair n (map pos ap') (map pos ai) form i c ∙ ap (λ z. is_entry n z (naturals (map pos ai)) i c) (counts_back ap')
+      ∙ ap (λ z. is_entry n ap' z i c) (counts_back ai)
 
   -- a pair was met in the end, and what was met is a pair
   pub pair-met : (i c : ℕ) → is_pair n (map pos ap') (map pos ai) i c ≡ true → Met ap' ai n 0 i c

@@ -1,29 +1,17 @@
 -- Where the blocks of a tree of supernodes lie in a picture. A block that has no parent goes up to the number of
 -- supernodes, which stands over all.
-use Rattle.std.specs.Prelude.{◌≡◌, ◌≢◌, ◌+◌, ◌-◌, ◌<◌, ◌≤◌, ◌==◌, ◌⊎◌, ℕ, cond, List, Option, None, Some, length, slice_index}
+use Rattle.std.specs.Prelude.{◌≡◌, ◌≢◌, ◌+◌, ◌<◌, ◌≤◌, ◌⊎◌, ℕ, List, Option, None, Some, length, slice_index}
 use Rattle.std.specs.Prelude.{slice_index_or}
-use Rattle.amd_model.specs.Below.{sum_below}
+use Rattle.amd_count_laws.specs.Parts.{part_size}
+use Rattle.amd_count_laws.specs.Rising.{GoesUp, under}
 
 -- supernode q is the parent of supernode s, and stands behind it
 abbrev pub IsOver : List (Option ℕ) → ℕ → ℕ → Type 0
 IsOver parent s q = (slice_index_or parent s None ≡ Some q) × (s < q) × (q < length parent)
 
--- each supernode goes up to one behind it
-pub record GoesUp (up : List ℕ) : Type 0 where
-  pub rises : (s : ℕ) → s < length up → s < slice_index up s
-  pub most : (s : ℕ) → s < length up → slice_index up s ≤ length up
-
--- and that is its parent, where it has one behind it
+-- each supernode goes up to its parent, where it has one behind it
 abbrev pub GoesToParents : List (Option ℕ) → List ℕ → Type 0
 GoesToParents parent up = (s q : ℕ) → IsOver parent s q → slice_index up s ≡ q
-
--- how many columns supernode s has by itself
-abbrev pub own : List ℕ → ℕ → ℕ
-own first s = slice_index first (s + 1) - slice_index first s
-
--- how many columns stand in the subtrees of those below m that go up to q
-abbrev pub under : List ℕ → List ℕ → ℕ → ℕ → ℕ
-under up width q m = sum_below m (λ s. cond (slice_index up s == q) (slice_index width s) 0)
 
 -- the second widths are the first ones and those of the blocks that go up to each
 pub record AddsUnder (up old new : List ℕ) : Type 0 where
@@ -33,7 +21,7 @@ pub record AddsUnder (up old new : List ℕ) : Type 0 where
 -- each block is as wide as its own columns and the blocks that go up to it
 pub record AreWidths (first up width : List ℕ) : Type 0 where
   pub room : length width ≡ length up + 1
-  pub each : (q : ℕ) → q ≤ length up → slice_index width q ≡ own first q + under up width q (length up)
+  pub each : (q : ℕ) → q ≤ length up → slice_index width q ≡ part_size first q + under up width q (length up)
 
 -- two blocks have no column in common
 abbrev pub AreApart : List ℕ → List ℕ → ℕ → ℕ → Type 0
@@ -48,7 +36,7 @@ pub record AreLaid (first up width left level next : List ℕ) (k : ℕ) : Type 
   pub reached : k ≤ length up
   pub top : slice_index level (length up) ≡ 0
   pub low : (q : ℕ) → k ≤ q → q ≤ length up → slice_index level q + q ≤ length up
-  pub nexts : (q : ℕ) → k ≤ q → q ≤ length up → slice_index next q + under up width q k + own first q
+  pub nexts : (q : ℕ) → k ≤ q → q ≤ length up → slice_index next q + under up width q k + part_size first q
       ≡ slice_index left q + slice_index width q
   pub grown : (q : ℕ) → k ≤ q → q ≤ length up → slice_index left q ≤ slice_index next q
   pub begins : (s : ℕ) → k ≤ s → s < length up → slice_index left (slice_index up s) ≤ slice_index left s
@@ -70,7 +58,7 @@ pub record IsLayout (first : List ℕ) (parent : List (Option ℕ)) (left width 
   -- each lies inside its parent's width, before the parent's own columns
   pub begins : (s q : ℕ) → IsOver parent s q → slice_index left q ≤ slice_index left s
   pub ends : (s q : ℕ) → IsOver parent s q →
-      slice_index left s + slice_index width s + own first q ≤ slice_index left q + slice_index width q
+      slice_index left s + slice_index width s + part_size first q ≤ slice_index left q + slice_index width q
   -- and on the next level
   pub levels : (s q : ℕ) → IsOver parent s q → slice_index level s ≡ slice_index level q + 1
   -- all lie within the width of the picture

@@ -3,8 +3,9 @@
 // edge on, and its own columns behind them: so columns stand in a postorder of the elimination tree.
 
 ghost use Rattle.std.specs.Prelude.{◌≡◌, ◌<◌, ◌≤◌, ◌+◌, ℕ, List, true, IfOk, length, slice_index};
-ghost use Rattle.amd_report.specs.Layouts.{AddsUnder, AreLaid, AreWidths, GoesToParents, GoesUp, IsLayout, IsOver};
-ghost use Rattle.amd_report.specs.Layouts.{own};
+ghost use Rattle.amd_count_laws.specs.Parts.{part_size};
+ghost use Rattle.amd_count_laws.specs.Rising.{GoesUp};
+ghost use Rattle.amd_report.specs.Layouts.{AddsUnder, AreLaid, AreWidths, GoesToParents, IsLayout, IsOver};
 
 use std::alloc::{AllocError, Allocator};
 
@@ -52,7 +53,7 @@ fn number_at(numbers: &[usize], k: usize) -> usize
 
 /// Writes how many columns each supernode has.
 fn write_own(first: &[usize], width: &mut [usize])
-    ensures { (q : ℕ) → q < length width.old → slice_index width.new q ≡ own first.now q }
+    ensures { (q : ℕ) → q < length width.old → slice_index width.new q ≡ part_size first.now q }
 {
     'supernodes: for s in 0..width.len() {
         let end = number_at(first, s.saturating_add(1));

@@ -6,6 +6,7 @@ use Rattle.amd_model.specs.Below.{sum_below}
 use Rattle.amd_model.specs.Factor.{IsFactor, needed, needed_front}
 use Rattle.amd_model.specs.Figures.{entries, cut, ldl_steps, lu_steps}
 use Rattle.amd_model.specs.Input.Pattern.{graph_of}
+use Rattle.amd_count_laws.specs.Parts.{part_size}
 use Rattle.amd_factor.specs.Columns.{HoldFactor, PassesRoom}
 use Rattle.amd_factor.specs.Orders.{Permutes}
 use Rattle.amd_factor.proofs.Trees.FactorOnce.{factor_once, needs_once}
@@ -14,7 +15,6 @@ use Rattle.amd_types.specs.declared.amd.Status.{Status}
 use Rattle.amd_types.specs.declared.amd.Status.TheVariants.{OK, Invalid, OkButJumbled, OutOfMemory}
 use Rattle.amd.specs.Answers.{IsInputHolding, IsOrderingHolding, IsRefusalHolding, OrdersMatrix}
 use Rattle.amd_symbolic.specs.Faults.{IsFaultHolding}
-use Rattle.amd_factor.specs.Laws.{column_size}
 use Rattle.amd_symbolic.specs.Laws.{FiguresBound, FiguresReserve}
 use Rattle.amd_factor.specs.declared.factor.Fault.{Fault}
 use Rattle.amd_factor.specs.declared.factor.Fault.TheVariants as fault
@@ -81,9 +81,9 @@ module _ (hold : Option (List Bool)) (t : ℤ) (aggressive : Bool) (ap' ai p q :
       let all : needed entries m.reserves.columns ≡ length rows =
       ap (needed entries) (sym once) ∙ needed_is f.columns ptr rows parent f.holds entries ∙
       sym (pointer_is f.columns ptr rows parent f.holds (length f.columns) (omega arith)) ∙ f.holds.total in
-      let sum : (share : ℕ → ℕ) → needed share m.reserves.columns ≡ sum_below n (λ k. share (column_size ptr k)) =
+      let sum : (share : ℕ → ℕ) → needed share m.reserves.columns ≡ sum_below n (λ k. share (part_size ptr k)) =
       λ share. ap (needed share) (sym once) ∙ needed_is f.columns ptr rows parent f.holds share ∙
-      ap (λ x. sum_below x (λ k. share (column_size ptr k))) places in
+      ap (λ x. sum_below x (λ k. share (part_size ptr k))) places in
       record {
         lnz = λ l. (let r = m.reserves.lnz l in omega (arith, r, all));
         divisions = λ l. (let r = m.reserves.divisions l in omega (arith, r, all));

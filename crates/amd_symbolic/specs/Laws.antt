@@ -3,10 +3,10 @@ use Rattle.std.specs.Prelude.{ℕ, ℤ, Bool, ◌<◌, ◌≤◌, ◌+◌, List,
 use Rattle.amd_model.specs.Below.{sum_below}
 use Rattle.amd_model.specs.Figures.{ldl_steps, lu_steps}
 use Rattle.amd_types.specs.declared.amd.Info.{Info}
+use Rattle.amd_count_laws.specs.Parts.{part_size}
 use Rattle.amd.specs.Answers.{IsOrderingHolding}
 use Rattle.amd_factor.specs.Counted.{IsCountsOf}
 use Rattle.amd_factor.specs.Factors.{IsFactorOf}
-use Rattle.amd_factor.specs.Laws.{column_size}
 use Rattle.amd_factor.specs.declared.needs.Need.{Need}
 
 -- the record bounds the columns, each figure where it was not cut
@@ -14,10 +14,10 @@ pub record FiguresBound (n : ℕ) (ptr rows : List ℕ) (info : Info) : Type 0 w
   pub lnz : info.lnz < 18446744073709551615 → length rows ≤ info.lnz
   pub divisions : info.n_div < 18446744073709551615 → length rows ≤ info.n_div
   pub ldl : info.n_mult_subs_ldl < 18446744073709551615 →
-      sum_below n (λ k. ldl_steps (column_size ptr k)) ≤ info.n_mult_subs_ldl
+      sum_below n (λ k. ldl_steps (part_size ptr k)) ≤ info.n_mult_subs_ldl
   pub lu : info.n_mult_subs_lu < 18446744073709551615 →
-      sum_below n (λ k. lu_steps (column_size ptr k)) ≤ info.n_mult_subs_lu
-  pub greatest : (k : ℕ) → k < n → column_size ptr k + 1 ≤ info.d_max
+      sum_below n (λ k. lu_steps (part_size ptr k)) ≤ info.n_mult_subs_lu
+  pub greatest : (k : ℕ) → k < n → part_size ptr k + 1 ≤ info.d_max
 
 -- the record of an ordering bounds the factor under its order
 abbrev pub FiguresReserve : Type 0

@@ -13,7 +13,8 @@ use Rattle.amd_factor.specs.Factors.{WritesFactor}
 use Rattle.amd_factor.specs.Orders.{Order, Permutes}
 use Rattle.amd_factor.specs.Sizes.{HoldSizes}
 use Rattle.amd_factor.specs.Unfit.{IsUnfit}
-use Rattle.amd_factor.specs.Within.{FitsIn, HasPlaces, HasPointers, IsCountsRefusal, IsPosed, IsRefusal, IsTooSmall, IsUnwritten}
+use Rattle.amd_count_laws.specs.Within.{FitsIn}
+use Rattle.amd_factor.specs.Within.{HasPlaces, HasPointers, IsCountsRefusal, IsPosed, IsRefusal, IsTooSmall, IsUnwritten}
 use Rattle.amd_factor.specs.Within.{refusal_of, words}
 use Rattle.amd_factor.specs.declared.needs.Need.{Need}
 use Rattle.amd_factor.specs.declared.entrance.Unfit.{Unfit}

@@ -1,15 +1,12 @@
 -- Lists of places as numbers of an integer type, and parts of such lists.
-use Rattle.std.proofs.Common.{ℕ, ℤ, pos, ◌≡◌, ◌<◌, ◌++◌, refl, sym, ◌∙◌, ap, arith, List, [], ◌∷◌, map, length, take, drop, set, ◌-◌}
+use Rattle.std.proofs.Common.{ℕ, ℤ, pos, ◌≡◌, ◌<◌, ◌++◌, sym, ◌∙◌, ap, arith, List, [], ◌∷◌, map, length, take, drop, set, ◌-◌}
 use Rattle.std.specs.Prelude.{slice_index, slice_range, unsigned_abs, Contains}
 use Rattle.std.proofs.lemmas.List.{length-map, get_or-map, map-append, take-map, drop-map}
 use Rattle.std.proofs.lemmas.List.Elements.{Contains-get_or}
 use Rattle.amd_model.specs.Input.Columns.{at}
 use Rattle.amd_types.specs.Naturals.{naturals}
+use Rattle.amd_count_laws.proofs.CountsBack.{counts_back}
 use Rattle.amd_factor.specs.Numbers.{AreNonNegative}
-
-pub counts_back : (xs : List ℕ) → naturals (map pos xs) ≡ xs
-counts_back [] = refl
-counts_back (x ∷ xs) = ap (λ ys. x ∷ ys) (counts_back xs)
 
 pub are_counts : (xs : List ℕ) → AreNonNegative (map pos xs)
 are_counts xs = ap (map pos) (counts_back xs)

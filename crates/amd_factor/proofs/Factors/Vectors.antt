@@ -9,9 +9,9 @@ use Rattle.std.proofs.lemmas.List.Edits.{get_or-between}
 use Rattle.amd_model.specs.Below.{sum_below}
 use Rattle.amd_model.specs.Factor.{needed, needed_front}
 use Rattle.amd_model.proofs.Counting.Below.{sum_same}
+use Rattle.amd_count_laws.specs.Parts.{part_size}
 use Rattle.amd_factor.specs.Columns.{first_of, HoldColumns}
 use Rattle.amd_factor.proofs.Factors.PlaceSums.{sum_places}
-use Rattle.amd_factor.specs.Laws.{column_size}
 
 -- the places before b are those before a, and the stretch between
 next_stretch : (xs : List ℕ) (a b : ℕ) → a ≤ b → take b xs ≡ take a xs ++ slice_range xs a b
@@ -31,17 +31,17 @@ front_most (c ∷ cs) (suc k) d l = let r = front_most cs k d (omega (arith, l))
 
 module _ (columns : List (List ℕ)) (ptr rows : List ℕ) (parent : List (Option ℕ)) (h : HoldColumns columns ptr rows parent) where
   -- the number of entries of a column
-  pub size_is : (k : ℕ) (d : List ℕ) → k < length columns → column_size ptr k ≡ length (slice_index_or columns k d)
+  pub size_is : (k : ℕ) (d : List ℕ) → k < length columns → part_size ptr k ≡ length (slice_index_or columns k d)
   size_is k d l = let e = h.ends k d l in omega (arith, e)
 
   -- what all columns need, by the pointers
-  pub needed_is : (share : ℕ → ℕ) → needed share columns ≡ sum_below (length columns) (λ k. share (column_size ptr k))
+  pub needed_is : (share : ℕ → ℕ) → needed share columns ≡ sum_below (length columns) (λ k. share (part_size ptr k))
   needed_is share = sum_places (λ c. share (length c)) columns []
-      ∙ sum_same (length columns) (λ k. share (length (slice_index_or columns k []))) (λ k. share (column_size ptr k))
+      ∙ sum_same (length columns) (λ k. share (length (slice_index_or columns k []))) (λ k. share (part_size ptr k))
       (λ k l. ap share (sym (size_is k [] l)))
 
   -- the pointers are sums
-  pub pointer_is : (k : ℕ) → k ≤ length columns → slice_index ptr k ≡ sum_below k (λ m. column_size ptr m)
+  pub pointer_is : (k : ℕ) → k ≤ length columns → slice_index ptr k ≡ sum_below k (λ m. part_size ptr m)
   unfolding sum_below
   pointer_is zero l = h.first
   pointer_is (suc k) l =

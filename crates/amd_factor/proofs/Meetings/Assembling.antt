@@ -3,12 +3,13 @@ use Rattle.std.proofs.Common.{ℕ, ◌≡◌, ◌≢◌, ◌<◌, ◌≤◌, ◌
 use Rattle.std.specs.Prelude.{slice_index, slice_index_or, Option, None, Some, unwrap_or}
 use Rattle.amd_model.specs.Below.{count_below}
 use Rattle.amd_model.specs.Graph.{IsGraph}
+use Rattle.amd_count_laws.specs.Rising.{GoesUp}
 use Rattle.amd_factor.specs.Orders.{Order}
 use Rattle.amd_factor.specs.Trees.{IsParent, Over}
 use Rattle.amd_factor.specs.Trees as trees
 use Rattle.amd_factor.specs.Walks.{TellParents, TellsParentSoFar}
 use Rattle.amd_factor.proofs.Trees.TreePaths.{entry_in_subtree, subtree_entry}
-use Rattle.amd_factor.specs.Ranks.{Above, GoesToParents, GoesUp, Measured, Ranked}
+use Rattle.amd_factor.specs.Ranks.{Above, GoesToParents, Measured, Ranked}
 use Rattle.amd_factor.specs.Ranks as ranks
 use Rattle.amd_factor.specs.Meetings.{CountsTargets, IsScene, Scene, Taken}
 use Rattle.amd_factor.specs.Sizes.{HoldSizes}

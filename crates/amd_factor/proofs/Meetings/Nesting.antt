@@ -2,8 +2,10 @@
 use Rattle.std.proofs.Common.{ℕ, zero, suc, ◌≡◌, ◌≢◌, ◌<◌, ◌≤◌, ◌+◌, ◌-◌, inl, inr, refl, sym, ap, subst, arith, List, length}
 use Rattle.std.specs.Prelude.{slice_index}
 use Rattle.std.proofs.lemmas.Bool.{cases_eq, cases_lt}
-use Rattle.amd_factor.specs.Ranks.{Above, itself, step, GoesUp, Measured, Ranked, under}
-use Rattle.amd_factor.proofs.Meetings.Ranking.{under-same, under-more}
+use Rattle.amd_count_laws.specs.Rising.{GoesUp, under}
+use Rattle.amd_count_laws.proofs.Under.{under-same}
+use Rattle.amd_factor.specs.Ranks.{Above, itself, step, Measured, Ranked}
+use Rattle.amd_factor.proofs.Meetings.Ranking.{under-more}
 
 pub above-trans : (up : List ℕ) {x y z : ℕ} → Above up x y → Above up y z → Above up x z
 above-trans up itself b = b

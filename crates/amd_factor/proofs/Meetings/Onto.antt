@@ -3,9 +3,11 @@ use Rattle.std.proofs.Common.{ℕ, zero, suc, ◌≡◌, ◌<◌, ◌≤◌, ◌
 use Rattle.std.specs.Prelude.{slice_index}
 use Rattle.std.proofs.lemmas.Bool.{cases_eq, cases_lt}
 use Rattle.std.proofs.lemmas.List.{length-set, get_or-set_same, get_or-set_other}
-use Rattle.amd_factor.specs.Ranks.{GoesUp, Measured, Ranked, under}
+use Rattle.amd_count_laws.specs.Rising.{GoesUp, under}
+use Rattle.amd_count_laws.proofs.Sums.{sum-none}
+use Rattle.amd_count_laws.proofs.Under.{under-same, under-other}
+use Rattle.amd_factor.specs.Ranks.{Measured, Ranked}
 use Rattle.amd_factor.specs.Meetings.{IsByRank, IsScene, Scene}
-use Rattle.amd_factor.proofs.Meetings.Ranking.{sum-none, under-same, under-other}
 use Rattle.amd_factor.proofs.Meetings.Nesting.{rank-low, rank-once}
 
 -- the subtree among those that go up to q, where d places stand before

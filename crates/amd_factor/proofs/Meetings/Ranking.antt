@@ -2,20 +2,14 @@
 use Rattle.std.proofs.Common.{ℕ, zero, suc, ◌≡◌, ◌≢◌, ◌<◌, ◌≤◌, ◌+◌, ◌-◌, ◌==◌, cond, inl, inr, refl, sym, ◌∙◌, ap}
 use Rattle.std.proofs.Common.{subst, arith, List, length, set}
 use Rattle.std.specs.Prelude.{slice_index, replicate}
-use Rattle.std.proofs.lemmas.Bool.{cases_eq, eq-eqb, ne_eqb}
+use Rattle.std.proofs.lemmas.Bool.{cases_eq}
 use Rattle.std.proofs.lemmas.List.{length-set, get_or-set_same, get_or-set_other, get_or-replicate, length-replicate}
 use Rattle.amd_model.specs.Below.{sum_below}
 use Rattle.amd_model.proofs.Counting.Below.{sum_at, sum_same, sum_stretch, sum_upto}
-use Rattle.amd_factor.specs.Ranks.{GoesUp, Measured, Ranked, under}
-
--- the sum has one term more
-pub sum-next : (f : ℕ → ℕ) (k : ℕ) → sum_below (k + 1) f ≡ f k + sum_below k f
-unfolding sum_below
-sum-next f k = ap (λ n. sum_below n f) (let e : k + 1 ≡ suc k = omega arith in e)
-
-pub sum-none : (f : ℕ → ℕ) → sum_below 0 f ≡ 0
-unfolding sum_below
-sum-none f = refl
+use Rattle.amd_count_laws.specs.Rising.{GoesUp, under}
+use Rattle.amd_count_laws.proofs.Sums.{sum-next, sum-none}
+use Rattle.amd_count_laws.proofs.Under.{under-all, under-of, under-other, under-same}
+use Rattle.amd_factor.specs.Ranks.{Measured, Ranked}
 
 pub sum-more : (k n : ℕ) (f : ℕ → ℕ) → k ≤ n → sum_below k f ≤ sum_below n f
 sum-more k n f l = let e : k + (n - k) ≡ n = omega (arith, l) in
@@ -28,23 +22,8 @@ two-terms n k p f l m =
     let b = sum_upto k p f l in
     omega (arith, a, b)
 
--- those that go up to p, with one more
-pub under-same : (up size : List ℕ) (p k : ℕ) → slice_index up k ≡ p → under up size p (k + 1) ≡ slice_index size k + under up size p k
-under-same up size p k e = sum-next (λ c. cond (slice_index up c == p) (slice_index size c) 0) k
-    ∙ ap (λ b. cond b (slice_index size k) 0 + under up size p k) (eq-eqb (slice_index up k) p e)
-
-pub under-other : (up size : List ℕ) (p k : ℕ) → slice_index up k ≢ p → under up size p (k + 1) ≡ under up size p k
-under-other up size p k ne = sum-next (λ c. cond (slice_index up c == p) (slice_index size c) 0) k
-    ∙ ap (λ b. cond b (slice_index size k) 0 + under up size p k) (ne_eqb (slice_index up k) p ne) ∙ omega arith
-
 pub under-more : (up size : List ℕ) (p k n : ℕ) → k ≤ n → under up size p k ≤ under up size p n
 under-more up size p k n l = sum-more k n (λ c. cond (slice_index up c == p) (slice_index size c) 0) l
-
--- sizes of the places below k
-under-of : (up size size' : List ℕ) (p k : ℕ) → ((c : ℕ) → c < k → slice_index size' c ≡ slice_index size c) →
-    under up size' p k ≡ under up size p k
-under-of up size size' p k same = sum_same k (λ c. cond (slice_index up c == p) (slice_index size' c) 0)
-    (λ c. cond (slice_index up c == p) (slice_index size c) 0) (λ c l. ap (λ x. cond (slice_index up c == p) x 0) (same c l))
 
 -- the sizes when the places below k were added to those that they go up to
 pub record Measuring (up size : List ℕ) (k : ℕ) : Type 0 where
@@ -136,17 +115,6 @@ pub record Ranking (up size next rank : List ℕ) (k : ℕ) : Type 0 where
   pub each : (m : ℕ) → k ≤ m → m < length up →
       slice_index rank m + 1 + slice_index size (slice_index up m) ≡ slice_index rank (slice_index up m) + 1
       + under up size (slice_index up m) (m + 1)
-
--- all that go up to p stand before it
-under-to : (up size : List ℕ) (p d : ℕ) → ((c : ℕ) → p ≤ c → c < p + d → slice_index up c ≢ p) → under up size p (p + d) ≡ under up size p p
-under-to up size p zero none = ap (under up size p) (let e : p + 0 ≡ p = omega arith in e)
-under-to up size p (suc d) none = ap (under up size p) (let e : p + suc d ≡ p + d + 1 = omega arith in e)
-    ∙ under-other up size p (p + d) (none (p + d) (omega arith) (omega arith)) ∙ under-to up size p d (λ c l m. none c l (omega (arith, m)))
-
-pub under-all : (up size : List ℕ) (p : ℕ) → GoesUp up → p ≤ length up → under up size p (length up) ≡ under up size p p
-under-all up size p goes l =
-    ap (under up size p) (let e : length up ≡ p + (length up - p) = omega (arith, l) in e) ∙
-    under-to up size p (length up - p) (λ c a b e. let r = goes.rises c (omega (arith, l, b)) in omega (arith, r, e, a))
 
 pub rank-none : (up size next rank : List ℕ) → GoesUp up → Measured up size → slice_index size (length up) ≡ length up + 1 →
     length next ≡ length up + 1 → length rank ≡ length up + 1 →

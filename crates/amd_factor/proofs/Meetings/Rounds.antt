@@ -7,21 +7,18 @@ use Rattle.std.proofs.lemmas.Bool.{cases_lt, lt-ltb, le-ltb}
 use Rattle.std.proofs.lemmas.List.{get_or-replicate, length-replicate}
 use Rattle.amd_model.specs.Below.{sum_below}
 use Rattle.amd_model.proofs.Counting.Below.{count_none, sum_at, sum_same, sum_zero}
+use Rattle.amd_count_laws.specs.Parts.{part_size}
+use Rattle.amd_count_laws.proofs.Sums.{sum-none}
 use Rattle.amd_factor.specs.Meetings.{IsScene, Met, Scene, Taken, sum_before, sum_to}
 use Rattle.amd_factor.specs.Neighbours.{HasLater}
-use Rattle.amd_factor.proofs.Meetings.Ranking.{sum-none}
 use Rattle.amd_factor.proofs.Meetings.Nesting.{rank-once}
-
--- the length of the list of place j
-abbrev pub list_length : List ℕ → ℕ → ℕ
-list_length starts j = slice_index starts (j + 1) - slice_index starts j
 
 -- the lengths of the lists of the places whose ranks are not below t
 abbrev pub remaining : Scene → List ℕ → ℕ → ℕ
-remaining s starts t = sum_below (length s.up) (λ j. cond (nat_lt (slice_index s.rank j) t) 0 (list_length starts j))
+remaining s starts t = sum_below (length s.up) (λ j. cond (nat_lt (slice_index s.rank j) t) 0 (part_size starts j))
 
 module _ (s : Scene) (scene : IsScene s) (starts later : List ℕ) (has : HasLater s.order starts later) where
-  lists-sum : (m : ℕ) → m ≤ length s.up → sum_below m (list_length starts) + slice_index starts 0 ≡ slice_index starts m
+  lists-sum : (m : ℕ) → m ≤ length s.up → sum_below m (part_size starts) + slice_index starts 0 ≡ slice_index starts m
   unfolding sum_below
   lists-sum zero l = omega arith
   lists-sum (suc m) l =
@@ -36,8 +33,8 @@ module _ (s : Scene) (scene : IsScene s) (starts later : List ℕ) (has : HasLat
 
   pub remaining-first : remaining s starts 0 ≤ length later
   remaining-first =
-      let e = sum_same (length s.up) (λ j. cond (nat_lt (slice_index s.rank j) 0) 0 (list_length starts j)) (list_length starts)
-      (λ j l. ap (λ b. cond b 0 (list_length starts j)) (le-ltb (slice_index s.rank j) 0 (omega arith))) in
+      let e = sum_same (length s.up) (λ j. cond (nat_lt (slice_index s.rank j) 0) 0 (part_size starts j)) (part_size starts)
+      (λ j l. ap (λ b. cond b 0 (part_size starts j)) (le-ltb (slice_index s.rank j) 0 (omega arith))) in
       let a = lists-sum (length s.up) (omega arith) in
       elim (cases_lt 0 (length s.up)) [
         | inl l ↦ (let b = last-start (length s.up - 1) (omega (arith, l)) in omega (arith, e, a, b))
@@ -48,20 +45,20 @@ module _ (s : Scene) (scene : IsScene s) (starts later : List ℕ) (has : HasLat
       sum-nothing n f l = sum_zero n f (λ k h. absurd (omega (arith, h, l)))
 
   pub list-long : (j : ℕ) → j < length s.up → length (slice_range later (slice_index starts j) (slice_index starts (j + 1))) ≡
-      list_length starts j
+      part_size starts j
   list-long j l = length-between later (slice_index starts j) (slice_index starts (j + 1))
       (let places = scene.places in has.within j (omega (arith, l, places)))
 
   module _ (t j : ℕ) (low : j < length s.up) (here : slice_index s.rank j ≡ t) where
-    at-j : cond (nat_lt (slice_index s.rank j) t) 0 (list_length starts j) ≡ list_length starts j
-    at-j = ap (λ b. cond b 0 (list_length starts j)) (le-ltb (slice_index s.rank j) t (omega (arith, here)))
+    at-j : cond (nat_lt (slice_index s.rank j) t) 0 (part_size starts j) ≡ part_size starts j
+    at-j = ap (λ b. cond b 0 (part_size starts j)) (le-ltb (slice_index s.rank j) t (omega (arith, here)))
 
-    at-j' : cond (nat_lt (slice_index s.rank j) (t + 1)) 0 (list_length starts j) ≡ 0
-    at-j' = ap (λ b. cond b 0 (list_length starts j)) (lt-ltb (slice_index s.rank j) (t + 1) (omega (arith, here)))
+    at-j' : cond (nat_lt (slice_index s.rank j) (t + 1)) 0 (part_size starts j) ≡ 0
+    at-j' = ap (λ b. cond b 0 (part_size starts j)) (lt-ltb (slice_index s.rank j) (t + 1) (omega (arith, here)))
 
-    elsewhere : (x : ℕ) → x < length s.up → x ≢ j → cond (nat_lt (slice_index s.rank x) (t + 1)) 0 (list_length starts x) ≡
-        cond (nat_lt (slice_index s.rank x) t) 0 (list_length starts x)
-    elsewhere x l ne = ap (λ b. cond b 0 (list_length starts x)) (elim (cases_lt (slice_index s.rank x) t) [
+    elsewhere : (x : ℕ) → x < length s.up → x ≢ j → cond (nat_lt (slice_index s.rank x) (t + 1)) 0 (part_size starts x) ≡
+        cond (nat_lt (slice_index s.rank x) t) 0 (part_size starts x)
+    elsewhere x l ne = ap (λ b. cond b 0 (part_size starts x)) (elim (cases_lt (slice_index s.rank x) t) [
       | inl before ↦ lt-ltb (slice_index s.rank x) (t + 1) (omega (arith, before)) ∙ sym (lt-ltb (slice_index s.rank x) t before)
       | inr after ↦ le-ltb (slice_index s.rank x) (t + 1)
           (let no-same : slice_index s.rank x ≢ t =
@@ -69,10 +66,10 @@ module _ (s : Scene) (scene : IsScene s) (starts later : List ℕ) (has : HasLat
           omega (arith, after, no-same)) ∙ sym (le-ltb (slice_index s.rank x) t after)
     ])
 
-    pub remaining-next : remaining s starts (t + 1) + list_length starts j ≡ remaining s starts t
+    pub remaining-next : remaining s starts (t + 1) + part_size starts j ≡ remaining s starts t
     remaining-next =
-        let e = sum_at (length s.up) (λ x. cond (nat_lt (slice_index s.rank x) (t + 1)) 0 (list_length starts x))
-        (λ x. cond (nat_lt (slice_index s.rank x) t) 0 (list_length starts x)) j low elsewhere in
+        let e = sum_at (length s.up) (λ x. cond (nat_lt (slice_index s.rank x) (t + 1)) 0 (part_size starts x))
+        (λ x. cond (nat_lt (slice_index s.rank x) t) 0 (part_size starts x)) j low elsewhere in
         let a = at-j in let b = at-j' in omega (arith, e, a, b)
 
 zeros-at : (xs : List ℕ) (n : ℕ) → xs ≡ replicate n 0 → (k : ℕ) → k < n → slice_index xs k ≡ 0

@@ -12,9 +12,10 @@ use Rattle.amd_model.specs.Factor.{IsFactor, needed, needed_front}
 use Rattle.amd_model.specs.Figures.{entries, front_sum, ldl_steps, lu_steps, max_below}
 use Rattle.amd_model.specs.Input.Pattern.{graph_of}
 use Rattle.amd_model.proofs.Figures.FrontSums.{max_most, max_term}
+use Rattle.amd_count_laws.specs.Parts.{part_size}
 use Rattle.amd_factor.specs.Counted.{wide_cut}
 use Rattle.amd_factor.specs.Supernodes.{AreRuns, HoldRowsBelow, Joined, rows_below}
-use Rattle.amd_factor.specs.SupernodeLaws.{SupernodesTellNeeds, block_sum, width}
+use Rattle.amd_factor.specs.SupernodeLaws.{SupernodesTellNeeds, block_sum}
 use Rattle.amd_factor.proofs.Trees.FactorOnce.{factor_once}
 use Rattle.amd_factor.proofs.Trees.Once.{order_once}
 use Rattle.amd_factor.proofs.Factors.PlaceSums.{sum_places}
@@ -46,7 +47,7 @@ module _ (columns : List (List ℕ)) (first ptr rows : List ℕ) (parent : List 
       let r = subst (λ m. slice_index ptr s ≤ slice_index ptr m) e (ptr-by (length first - 1 - s) s (omega (arith, l))) in
       let t = h.total in omega (arith, r, t)
 
-  below-long : (s : ℕ) → s + 1 < length first → length (rows_below ptr rows s) ≡ width ptr s
+  below-long : (s : ℕ) → s + 1 < length first → length (rows_below ptr rows s) ≡ part_size ptr s
   below-long s l = length-between rows (slice_index ptr s) (slice_index ptr (s + 1)) (ptr-most (s + 1) l)
 
   size : ℕ → ℕ
@@ -54,7 +55,7 @@ module _ (columns : List (List ℕ)) (first ptr rows : List ℕ) (parent : List 
 
   -- the number of entries of a column of supernode s
   size-in : (s k : ℕ) → s + 1 < length first → slice_index first s ≤ k → k < slice_index first (s + 1) →
-      size k ≡ width ptr s + (slice_index first (s + 1) - (k + 1))
+      size k ≡ part_size ptr s + (slice_index first (s + 1) - (k + 1))
   unfolding size
   size-in s k l lo hi =
       let e = ap length (h.each s k l lo hi) in
@@ -66,11 +67,11 @@ module _ (columns : List (List ℕ)) (first ptr rows : List ℕ) (parent : List 
     part k = share (size k)
 
     block : ℕ → ℕ
-    block s = front_sum share (width first s) (width ptr s)
+    block s = front_sum share (part_size first s) (part_size ptr s)
 
     -- the last d columns of supernode s
     of-last : (s d : ℕ) → s + 1 < length first → slice_index first s + d ≤ slice_index first (s + 1) →
-        sum_below (slice_index first (s + 1)) part ≡ sum_below (slice_index first (s + 1) - d) part + front_sum share d (width ptr s)
+        sum_below (slice_index first (s + 1)) part ≡ sum_below (slice_index first (s + 1) - d) part + front_sum share d (part_size ptr s)
     unfolding sum_below front_sum part
     of-last s zero l most = let e : slice_index first (s + 1) - 0 ≡ slice_index first (s + 1) = omega arith in rw e (omega arith)
     of-last s (suc d) l most =
@@ -79,8 +80,8 @@ module _ (columns : List (List ℕ)) (first ptr rows : List ℕ) (parent : List 
         let e : slice_index first (s + 1) - d ≡ suc k = omega (arith, most) in
         let a : sum_below (slice_index first (s + 1) - d) part ≡ part k + sum_below k part = ap (λ m. sum_below m part) e in
         let z = size-in s k l (omega (arith, most)) (omega (arith, most)) in
-        let b : part k ≡ share (width ptr s + d) = ap share (let q : slice_index first (s + 1) - (k + 1) ≡ d = omega (arith, most) in
-        z ∙ ap (λ m. width ptr s + m) q) in
+        let b : part k ≡ share (part_size ptr s + d) = ap share (let q : slice_index first (s + 1) - (k + 1) ≡ d = omega (arith, most) in
+        z ∙ ap (λ m. part_size ptr s + m) q) in
         omega (arith, r, a, b)
 
     -- the columns of the first s supernodes
@@ -91,8 +92,8 @@ module _ (columns : List (List ℕ)) (first ptr rows : List ℕ) (parent : List 
         let n : suc s ≡ s + 1 = omega arith in
         let r = of-first s (omega (arith, l)) in
         let up = runs.rises s (omega (arith, l)) in
-        let t = of-last s (width first s) (omega (arith, l)) (omega (arith, up)) in
-        let e : slice_index first (s + 1) - width first s ≡ slice_index first s = omega (arith, up) in
+        let t = of-last s (part_size first s) (omega (arith, l)) (omega (arith, up)) in
+        let e : slice_index first (s + 1) - part_size first s ≡ slice_index first s = omega (arith, up) in
         let q = ap (λ m. sum_below m part) e in
         let z = ap (λ m. sum_below (slice_index first m) part) n in
         omega (arith, r, t, q, z)
@@ -113,7 +114,7 @@ module _ (columns : List (List ℕ)) (first ptr rows : List ℕ) (parent : List 
   ]
 
   abbrev greatest : ℕ
-  greatest = max_below (length first - 1) (λ s. true) (λ s. width first s + width ptr s) 0
+  greatest = max_below (length first - 1) (λ s. true) (λ s. part_size first s + part_size ptr s) 0
 
   each-most : (k : ℕ) → k < length columns → length (slice_index_or columns k []) + 1 ≤ greatest
   unfolding size
@@ -121,10 +122,10 @@ module _ (columns : List (List ℕ)) (first ptr rows : List ℕ) (parent : List 
       let e = runs.end in let some = runs.some in
       let f = find (length first - 1) k (omega (arith, some)) (omega (arith, l, e)) in
       let z = size-in f.0 k f.1 f.2 f.3 in let lo = f.2 in let hi = f.3 in let i = f.1 in
-      let t = max_term (length first - 1) (λ s. true) (λ s. width first s + width ptr s) 0 f.0 (omega (arith, i)) refl in
+      let t = max_term (length first - 1) (λ s. true) (λ s. part_size first s + part_size ptr s) 0 f.0 (omega (arith, i)) refl in
       omega (arith, z, t, lo, hi)
 
-  each-least : (s : ℕ) → s + 1 < length first → width first s + width ptr s ≤ needed_front columns
+  each-least : (s : ℕ) → s + 1 < length first → part_size first s + part_size ptr s ≤ needed_front columns
   unfolding size
   each-least s i =
       let up = runs.rises s i in let most = ends-in s i in
@@ -134,7 +135,7 @@ module _ (columns : List (List ℕ)) (first ptr rows : List ℕ) (parent : List 
   pub front-blocks : needed_front columns ≡ greatest
   front-blocks =
       let a = front-least columns greatest each-most in
-      let b = max_most (length first - 1) (λ s. true) (λ s. width first s + width ptr s) 0 (needed_front columns)
+      let b = max_most (length first - 1) (λ s. true) (λ s. part_size first s + part_size ptr s) 0 (needed_front columns)
       (λ s l e. each-least s (omega (arith, l))) (omega arith) in omega (arith, a, b)
 
 pub supernodes-tell-needs : SupernodesTellNeeds

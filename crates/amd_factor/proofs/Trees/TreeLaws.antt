@@ -11,7 +11,8 @@ use Rattle.amd_factor.specs.Columns.{first_of, HoldFactor}
 use Rattle.amd_factor.specs.Trees.{InSubtree}
 use Rattle.amd_factor.proofs.Trees.FactorOnce.{first_least}
 use Rattle.amd_factor.proofs.Trees.TreePaths.{rows_are_subtrees}
-use Rattle.amd_factor.specs.Laws.{ParentsTellTree, RowsTellSubtrees, TellsParent, column_of}
+use Rattle.amd_count_laws.specs.Parts.{part_of}
+use Rattle.amd_factor.specs.Laws.{ParentsTellTree, RowsTellSubtrees, TellsParent}
 use Rattle.amd_factor.proofs.Trees.Once.{order_once}
 use Rattle.amd_factor.proofs.Factors.Vectors.{first_at, parent_at}
 
@@ -38,10 +39,10 @@ module _ (g : Graph) (order ptr rows : List ℕ) (parent : List (Option ℕ)) (f
   parent_tells k l = subst (TellsParent g order ptr rows k) (sym (parent_at f.columns ptr rows parent f.holds k (inside k l)))
       (tells k (slice_index_or f.columns k []) l refl)
 
-  pub row_tells : IsGraph g → (k j : ℕ) → k < j → j < length order → Contains (column_of ptr rows k) j ↔ InSubtree g order j k
+  pub row_tells : IsGraph g → (k j : ℕ) → k < j → j < length order → Contains (part_of ptr rows k) j ↔ InSubtree g order j k
   row_tells laws k j l m =
       let low : k < length order = omega (arith, l, m) in
-      let column : IsColumn g order k (column_of ptr rows k) =
+      let column : IsColumn g order k (part_of ptr rows k) =
       subst (IsColumn g order k) (sym (f.holds.each k [] (inside k low))) (f.factor.each k [] low) in
       let rule = rows_are_subtrees g laws order k j l m in
       ((λ h. rule.0 ((column.members j).0 h)), (λ h. (column.members j).1 (rule.1 h)))

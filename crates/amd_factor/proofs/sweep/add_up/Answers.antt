@@ -3,8 +3,8 @@ use Rattle.std.specs.Prelude.{slice_index}
 use Rattle.std.proofs.lemmas.Bool.{cases_eq}
 use Rattle.std.proofs.lemmas.List.{get_or-set_same, get_or-set_other}
 use Rattle.amd_model.proofs.Counting.Below.{sum_upto}
+use Rattle.amd_count_laws.proofs.Sums.{sum-next, sum-none}
 use Rattle.amd_factor.specs.Meetings.{sum_to}
-use Rattle.amd_factor.proofs.Meetings.Ranking.{sum-next, sum-none}
 use Rattle.amd_factor.proofs.sweep.add_up.Goals as goal
 
 pub numbers-init : goal.numbers-init

@@ -1,15 +1,15 @@
 -- Each turn counts a row that links to itself.
-use Rattle.std.proofs.Common.{◌≡◌, ℕ, Bool, true, false, arith, ◌∙◌}
+use Rattle.std.proofs.Common.{◌≡◌, ℕ, Bool, true, false, arith, sym, ◌∙◌}
 use Rattle.std.specs.Prelude.{slice_index, ◌==◌}
 use Rattle.std.proofs.lemmas.Bool.{eq-eqb, ne_eqb}
 use Rattle.amd_model.specs.Below.{count_below}
 use Rattle.amd_model.proofs.Counting.Below.{count_most}
-use Rattle.amd_report.proofs.Summing.{count-next, count-none}
+use Rattle.amd_count_laws.proofs.Sums.{count-next, count-none}
 use Rattle.amd_report.proofs.components.count_first.Goals as goal
 use Rattle.amd_report.proofs.components.count_first.Goals.{then-links-row, else-links-row}
 
 pub rows-init : goal.rows-init
-rows-init c = count-none _
+rows-init c = sym (count-none _)
 
 pub overflow_add-count : goal.overflow_add-count
 overflow_add-count c =

@@ -1,11 +1,11 @@
 -- Each turn adds one row.
-use Rattle.std.proofs.Common.{◌-◌, arith}
+use Rattle.std.proofs.Common.{◌-◌, arith, sym}
 use Rattle.std.specs.Prelude.{slice_index}
-use Rattle.amd_report.proofs.Summing.{sum-next, sum-none}
+use Rattle.amd_count_laws.proofs.Sums.{sum-next, sum-none}
 use Rattle.amd_report.proofs.profile.sum_of.Goals as goal
 
 pub rows-init : goal.rows-init
-rows-init c = record { sum = sum-none _; small = omega arith }
+rows-init c = record { sum = sym (sum-none _); small = omega arith }
 
 pub rows-preserved : goal.rows-preserved
 rows-preserved c =

@@ -1,14 +1,14 @@
 -- Each turn adds one row.
-use Rattle.std.proofs.Common.{◌≡◌, ◌-◌, arith, subst}
+use Rattle.std.proofs.Common.{◌≡◌, ◌-◌, arith, subst, sym}
 use Rattle.amd_model.specs.Below.{sum_below}
+use Rattle.amd_count_laws.proofs.Sums.{sum-next, sum-none}
 use Rattle.amd_report.specs.Passes.{first_row}
 use Rattle.amd_report.proofs.Firsts.{symmetric-profile}
 use Rattle.amd_report.proofs.Passing.{form-rising}
-use Rattle.amd_report.proofs.Summing.{sum-next, sum-none}
 use Rattle.amd_report.proofs.profile.symmetric_profile.Goals as goal
 
 pub columns-init : goal.columns-init
-columns-init c = record { sum = sum-none _; small = omega arith }
+columns-init c = record { sum = sym (sum-none _); small = omega arith }
 
 pub before_diagonal-requires-clause-form : goal.before_diagonal-requires-clause-form
 before_diagonal-requires-clause-form c = form-rising c.args.n c.args.a_p.now c.args.a_i.now c.requires.form c.requires.sorted

@@ -4,12 +4,12 @@ use Rattle.std.specs.Prelude.{slice_index}
 use Rattle.amd_model.specs.Below.{count_below}
 use Rattle.amd_model.proofs.Counting.Below.{count_most}
 use Rattle.amd_types.specs.Naturals.{is_before}
-use Rattle.amd_report.proofs.Summing.{count-next, count-none}
+use Rattle.amd_count_laws.proofs.Sums.{count-next, count-none}
 use Rattle.amd_report.proofs.signs.count_diagonal.Goals as goal
 use Rattle.amd_report.proofs.signs.count_diagonal.Goals.{then-has_row, else-has_row}
 
 pub columns-init : goal.columns-init
-columns-init c = count-none _
+columns-init c = sym (count-none _)
 
 pub overflow_add-count : goal.overflow_add-count
 overflow_add-count c =

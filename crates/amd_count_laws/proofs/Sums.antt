@@ -1,16 +1,16 @@
 -- Sums and counts over the numbers below a bound, one number more.
-use Rattle.std.proofs.Common.{◌≡◌, ◌+◌, ℕ, suc, Bool, cond, refl, sym, arith}
+use Rattle.std.proofs.Common.{◌≡◌, ◌+◌, ℕ, suc, Bool, cond, refl, sym, ap, arith}
 use Rattle.amd_model.specs.Below.{count_below, sum_below}
 
-pub sum-none : (f : ℕ → ℕ) → 0 ≡ sum_below 0 f
+pub sum-none : (f : ℕ → ℕ) → sum_below 0 f ≡ 0
 unfolding sum_below
 sum-none f = refl
 
 pub sum-next : (f : ℕ → ℕ) (k : ℕ) → sum_below (k + 1) f ≡ f k + sum_below k f
 unfolding sum_below
-sum-next f k = (let e : k + 1 ≡ suc k = omega arith in rw e refl)
+sum-next f k = ap (λ n. sum_below n f) (let e : k + 1 ≡ suc k = omega arith in e)
 
-pub count-none : (p : ℕ → Bool) → 0 ≡ count_below 0 p
+pub count-none : (p : ℕ → Bool) → count_below 0 p ≡ 0
 unfolding count_below sum_below
 count-none p = refl
 

@@ -1,0 +1,3 @@
+pub mod Parts
+pub mod Rising
+pub mod Within
