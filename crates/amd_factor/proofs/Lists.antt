@@ -10,3 +10,4 @@ pub mod NeighbourLists
 pub mod LaterArcs
 pub mod PlacedOrders
 pub mod TurnedArcs
+pub mod Written

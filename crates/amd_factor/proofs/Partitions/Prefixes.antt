@@ -1,6 +1,6 @@
--- A column of which the entries before a place are written, and rising lists one of which lies in the other.
-use Rattle.std.proofs.Common.{ℕ, ◌≡◌, ◌<◌, ◌≤◌, ◌+◌, ◌-◌, ◌⊎◌, true, inl, inr, refl, sym, ◌∙◌, ap, subst, arith}
-use Rattle.std.proofs.Common.{List, [], ◌∷◌, length, set}
+-- A column of which the entries before a place are written, and a rising list that lies in one no longer.
+use Rattle.std.proofs.Common.{ℕ, ◌≡◌, ◌<◌, ◌≤◌, ◌+◌, ◌-◌, ◌⊎◌, true, inl, inr, sym, ◌∙◌, ap, subst, arith}
+use Rattle.std.proofs.Common.{List, length, set}
 use Rattle.std.specs.Prelude.{slice_index, slice_range, Contains}
 use Rattle.std.specs.List.Sorted.{IsStrictlyIncreasing}
 use Rattle.std.proofs.lemmas.Bool.{cases_eq, cases_lt}
@@ -9,42 +9,14 @@ use Rattle.std.proofs.lemmas.List.Edits.{get_or-between, length-between}
 use Rattle.std.proofs.lemmas.List.Elements.{Contains-get_or}
 use Rattle.amd_model.specs.Quotient.{has}
 use Rattle.amd_model.proofs.Counting.Lists.{rising_pairs}
-use Rattle.amd_model.proofs.Listings.Words.{has_cases, has_head, has_none, has_tail}
 use Rattle.amd_factor.specs.Partitions.{Written}
-use Rattle.amd_factor.proofs.Trees.FactorOnce.{first_least, tail_up}
+use Rattle.amd_factor.proofs.Trees.FactorOnce.{rising_inside}
 use Rattle.amd_factor.proofs.Factors.NewRows.{place_in}
 
--- a rising list that lies in another one is no longer
-inside : (xs ys : List ℕ) → IsStrictlyIncreasing xs → IsStrictlyIncreasing ys → ((j : ℕ) → has xs j ≡ true → has ys j ≡ true) →
-    (length xs ≤ length ys) × (length ys ≤ length xs → xs ≡ ys)
-inside [] [] up vp to = (omega arith, λ l. refl)
-inside [] (y ∷ ys) up vp to = (omega arith, λ l. absurd (omega (arith, l)))
-inside (x ∷ xs) [] up vp to = absurd (has_none x (to x (has_head x x xs refl)))
-inside (x ∷ xs) (y ∷ ys) up vp to = elim (cases_eq x y) [
-  | inl q ↦ (
-      let r = inside xs ys (tail_up x xs up) (tail_up y ys vp) (λ j h. elim (has_cases j y ys (to j (has_tail j x xs h))) [
-        | inl e ↦ absurd (let l = first_least x xs up j h in omega (arith, l, e, q))
-        | inr k ↦ k
-      ]) in let a = r.0 in
-      (omega (arith, a), λ l. ap (λ z. z ∷ xs) q ∙ ap (λ zs. y ∷ zs) (r.1 (omega (arith, l)))))
-  | inr ne ↦ (
-      let more : y < x = elim (has_cases x y ys (to x (has_head x x xs refl))) [
-        | inl e ↦ absurd (ne e)
-        | inr h ↦ first_least y ys vp x h
-      ] in
-      let r = inside (x ∷ xs) ys up (tail_up y ys vp) (λ j h. elim (has_cases j y ys (to j h)) [
-        | inl e ↦ absurd (elim (has_cases j x xs h) [
-          | inl same ↦ omega (arith, same, e, more)
-          | inr k ↦ (let l = first_least x xs up j k in omega (arith, l, e, more))
-        ])
-        | inr k ↦ k
-      ]) in let a = r.0 in
-      (omega (arith, a), λ l. absurd (omega (arith, a, l))))
-]
-
+-- a rising list that lies in another one, which is no longer, is that one
 pub rising_full : (xs ys : List ℕ) → IsStrictlyIncreasing xs → IsStrictlyIncreasing ys →
     ((j : ℕ) → has xs j ≡ true → has ys j ≡ true) → length ys ≤ length xs → xs ≡ ys
-rising_full xs ys up vp to l = (inside xs ys up vp to).1 l
+rising_full xs ys up vp to l = (rising_inside xs ys up vp to).1 l
 
 module _ (column : List ℕ) (j from to : ℕ) (rows : List ℕ) (w : Written column j from to rows) where
   -- a row that is not an entry is passed

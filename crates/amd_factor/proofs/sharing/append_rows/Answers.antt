@@ -1,4 +1,4 @@
-use Rattle.std.proofs.Common.{ℕ, List, [], ◌≡◌, ◌≤◌, ◌+◌, ◌++◌, ◌∙◌, ap, arith, inr, length, length-take, map, refl, subst, sym, take}
+use Rattle.std.proofs.Common.{[], ◌≡◌, ◌≤◌, ◌+◌, ◌++◌, ◌∙◌, ap, arith, inr, length, length-take, map, refl, subst, sym, take}
 use Rattle.std.specs.Prelude.{slice_index}
 use Rattle.std.proofs.lemmas.Grind.{common_steps}
 use Rattle.std.proofs.lemmas.List.{append-nil, length-take-le}
@@ -9,10 +9,6 @@ use Rattle.amd_factor.proofs.Factors.PlaceNumbers.{are_append}
 use Rattle.amd_factor.proofs.Factors.Sharing.{same_front, stands_alone, stands_appended, written_front}
 use Rattle.amd_factor.proofs.sharing.append_rows.Goals as goal
 use Rattle.amd_factor.proofs.sharing.append_rows.Goals.{then-plan, else-plan}
-
--- the first numbers are no more than there is room for
-within_room : {A : Type 0} (n room : ℕ) (xs : List A) → n ≤ room → length (take n xs) ≤ room
-within_room n room xs l = simp length-take (omega (arith, l))
 
 pub write_places-requires-clause-fits : goal.write_places-requires-clause-fits
 write_places-requires-clause-fits g c = λ k l. (
@@ -75,4 +71,4 @@ returns-clause-kept g c =
 pub returns-clause-room : goal.returns-clause-room
 returns-clause-room g c =
     let room = c.lengthen.ensures.room in let len = c.lengthen.new.rows.ok.0 in
-    within_room c.lengthen.new.rows.len c.args.room _ (omega (arith, room, len))
+    simp length-take (omega (arith, room, len))

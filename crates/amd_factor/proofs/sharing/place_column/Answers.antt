@@ -1,4 +1,4 @@
-use Rattle.std.proofs.Common.{ℕ, List, [], ◌≡◌, ◌≤◌, ◌+◌, ◌-◌, ◌++◌, ◌∙◌, ap}
+use Rattle.std.proofs.Common.{[], ◌≡◌, ◌≤◌, ◌+◌, ◌-◌, ◌++◌, ◌∙◌, ap}
 use Rattle.std.proofs.Common.{arith, inl, inr, length, length-take, map, pos, refl, subst, sym, take}
 use Rattle.std.specs.Prelude.{Contains, slice_index, slice_range}
 use Rattle.std.proofs.lemmas.Bool.{eqb-true}
@@ -12,10 +12,6 @@ use Rattle.amd_factor.specs.Sharing.{Follows, StandsFrom}
 use Rattle.amd_factor.proofs.Factors.PlaceNumbers.{are_range, counts_range, place_of}
 use Rattle.amd_factor.proofs.Factors.Sharing.{last_row, numbers_behind, same_front, stands_behind, stands_shared, written_front}
 use Rattle.amd_factor.proofs.sharing.place_column.Goals as goal
-
--- the first numbers are no more than there is room for
-within_room : {A : Type 0} (n room : ℕ) (xs : List A) → n ≤ room → length (take n xs) ≤ room
-within_room n room xs l = simp length-take (omega (arith, l))
 
 pub returns-then-is_empty-clause-placed : goal.returns-then-is_empty-clause-placed
 returns-then-is_empty-clause-placed g c =
@@ -137,7 +133,7 @@ returns-clause-kept g c =
 pub returns-clause-room : goal.returns-clause-room
 returns-clause-room g c =
     let room = c.lengthen.ensures.room in let len = c.lengthen.new.rows.ok.0 in
-    within_room c.lengthen.new.rows.len c.args.room _ (omega (arith, room, len))
+    simp length-take (omega (arith, room, len))
 
 pub returns-in_err-lengthen-clause-kept : goal.returns-in_err-lengthen-clause-kept
 returns-in_err-lengthen-clause-kept g c =
