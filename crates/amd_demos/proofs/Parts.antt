@@ -8,8 +8,9 @@ use Rattle.std.proofs.lemmas.List.{nil_from_length}
 use Rattle.std.proofs.KnownBytes.{Appends-nil, Appends-trans}
 use Rattle.std.specs.Prelude.{codes}
 use Rattle.amd_types.specs.declared.amd.Info.{Info}
+use Rattle.amd_texts.specs.Writers.{HasTold}
 use Rattle.amd_demos.specs.Lines.{each_of, parted, failure_line, record_lines, permutation_lines}
-use Rattle.amd_demos.specs.Demos.{Grows, EndsInFailure, HasDemo, HasEnd, IsEnd, IsWanted, wanted_status}
+use Rattle.amd_demos.specs.Demos.{EndsInFailure, HasDemo, HasEnd, IsEnd, IsWanted, wanted_status}
 use Rattle.amd_demos.specs.declared.demo.Form.{Form}
 
 -- no numbers, of which nothing is written
@@ -40,7 +41,7 @@ failure-after xs a b c h k = (xs, Appends-trans a b c xs failure_line h k)
 -- what a demo ends with, written behind the record, the permutations and the plots, of a permutation that may be named in two ways
 pub demo-ended : {E : Type 0} (form : Form) (n : ℤ) (ap ai p q s : List ℤ) (info : Info) (r : Result Bool E) (a b c d : Option (List ℕ))
     → s ≡ p → IsWanted (wanted_status form) n ap ai p q info
-    → Appends a b (record_lines (wanted_status form) info ++ permutation_lines p q) → Grows b c
+    → Appends a b (record_lines (wanted_status form) info ++ permutation_lines p q) → HasTold b c
     → IfOk r (λ ended. ended ≡ true → HasEnd form n ap ai s info c d) → IfOk r (λ ordered. ordered ≡ true → HasDemo form n ap ai a d)
 demo-ended form n ap ai p q s info (Err e) a b c d named wanted told plots h = tt
 demo-ended form n ap ai p q s info (Ok r) a b c d named wanted told plots h = λ same. record {
@@ -56,14 +57,14 @@ demo-ended form n ap ai p q s info (Ok r) a b c d named wanted told plots h = λ
 }
 
 -- a failure behind the plots
-pub failure-ended : {E : Type 0} (xs : List ℕ) (r : Result Bool E) (a b c d : Option (List ℕ)) → Appends a b xs → Grows b c
+pub failure-ended : {E : Type 0} (xs : List ℕ) (r : Result Bool E) (a b c d : Option (List ℕ)) → Appends a b xs → HasTold b c
     → IfOk r (λ ended. ended ≡ false → Appends c d failure_line) → IfOk r (λ ordered. ordered ≡ false → EndsInFailure a d)
 failure-ended xs (Err e) a b c d told plots h = tt
 failure-ended xs (Ok r) a b c d told plots h = λ same.
     failure-after (xs ++ plots.0) a c d (Appends-trans a b c xs plots.0 told plots.1) (h same)
 
 -- a demo that was written behind some text
-pub demo-behind : {E : Type 0} (form : Form) (n : ℤ) (ap ai : List ℤ) (r : Result Bool E) (a b c : Option (List ℕ)) → Grows a b
+pub demo-behind : {E : Type 0} (form : Form) (n : ℤ) (ap ai : List ℤ) (r : Result Bool E) (a b c : Option (List ℕ)) → HasTold a b
     → IfOk r (λ ordered. ordered ≡ true → HasDemo form n ap ai b c) → IfOk r (λ ordered. ordered ≡ true → HasDemo form n ap ai a c)
 demo-behind form n ap ai (Err e) a b c g h = tt
 demo-behind form n ap ai (Ok r) a b c g h = λ same. record {
@@ -79,7 +80,7 @@ demo-behind form n ap ai (Ok r) a b c g h = λ same. record {
 }
 
 -- a failure that was written behind some text
-pub failure-behind : {E : Type 0} (r : Result Bool E) (a b c : Option (List ℕ)) → Grows a b
+pub failure-behind : {E : Type 0} (r : Result Bool E) (a b c : Option (List ℕ)) → HasTold a b
     → IfOk r (λ ordered. ordered ≡ false → EndsInFailure b c) → IfOk r (λ ordered. ordered ≡ false → EndsInFailure a c)
 failure-behind (Err e) a b c g h = tt
 failure-behind (Ok r) a b c g h = λ same.

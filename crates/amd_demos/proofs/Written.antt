@@ -1,29 +1,12 @@
--- Bytes that are written one after another, and lists of numbers.
+-- Numbers and lists of numbers that are written one after another.
 use Rattle.std.proofs.Common.{◌≡◌, ◌++◌, ◌+◌, ◌<◌, ℕ, ℤ, List, [], ◌∷◌, append_assoc, append-nil, ◌∙◌, ap, sym, subst, take, take_all}
 use Rattle.std.proofs.Common.{get_or, length, ◌≤◌}
 use Rattle.std.proofs.lemmas.List.{take_more}
 use Rattle.std.specs.Prelude.{Option}
 use Rattle.std.specs.Fmt.{signed_decimal}
 use Rattle.std.specs.Io.KnownBytes.{Appends}
-use Rattle.std.proofs.KnownBytes.{Appends-nil, Appends-trans}
+use Rattle.std.proofs.KnownBytes.{Appends-trans}
 use Rattle.amd_demos.specs.Lines.{each_of}
-use Rattle.amd_demos.specs.Demos.{Grows}
-
--- a writer that took nothing has some text more, the empty one
-pub Grows-none : (a : Option (List ℕ)) → Grows a a
-Grows-none a = ([], Appends-nil a)
-
--- a writer that took one text
-pub Grows-one : (a b : Option (List ℕ)) (xs : List ℕ) → Appends a b xs → Grows a b
-Grows-one a b xs h = (xs, h)
-
--- a writer that took one text more
-pub Grows-then : (a b c : Option (List ℕ)) (ys : List ℕ) → Grows a b → Appends b c ys → Grows a c
-Grows-then a b c ys g h = (g.0 ++ ys, Appends-trans a b c g.0 ys g.1 h)
-
--- a writer that took two texts
-pub Grows-both : (a b c : Option (List ℕ)) → Grows a b → Grows b c → Grows a c
-Grows-both a b c g h = Grows-then a b c h.0 g h.1
 
 -- a number with a text in front of it, under another name
 pub number-named : (before : List ℕ) (x y : ℤ) (a b : Option (List ℕ)) → x ≡ y → Appends a b (before ++ signed_decimal x) →

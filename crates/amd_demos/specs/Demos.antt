@@ -11,10 +11,6 @@ use Rattle.amd_demos.specs.Lines.{failure_line, list_line, record_lines, permuta
 use Rattle.amd_demos.specs.declared.demo.Form.{Form}
 use Rattle.amd_demos.specs.declared.demo.Form.TheVariants.{Sorted, Jumbled}
 
--- a writer that tells its bytes has some text more
-abbrev pub Grows : Option (List ℕ) → Option (List ℕ) → Type 0
-Grows old new = (text : List ℕ) × Appends old new text
-
 -- a writer that tells its bytes has a text more that ends with the line of failure
 abbrev pub EndsInFailure : Option (List ℕ) → Option (List ℕ) → Type 0
 EndsInFailure old new = (before : List ℕ) × Appends old new (before ++ failure_line)

@@ -4,8 +4,9 @@
 ghost use Rattle.std.specs.Prelude.{◌≡◌, ◌≤◌, pos, true, false, IfOk, OnOk};
 ghost use Rattle.std.specs.Io.KnownBytes.{Appends};
 ghost use Rattle.amd.specs.Answers.{IsOrdering};
+ghost use Rattle.amd_texts.specs.Writers.{HasTold};
 ghost use Rattle.amd_demos.specs.Lines.{failure_line, permutation_lines, record_lines};
-ghost use Rattle.amd_demos.specs.Demos.{EndsInFailure, Grows, HasDemo, HasEnd, wanted_status};
+ghost use Rattle.amd_demos.specs.Demos.{EndsInFailure, HasDemo, HasEnd, wanted_status};
 
 use crate::exact::print_exact;
 use crate::listing::write_listing;
@@ -47,7 +48,7 @@ fn margin(form: Form) -> &'static str {
 
 /// Writes what the demo shows.
 fn write_title<W: Write>(form: Form, out: &mut W) -> io::Result<()>
-    ensures { OnOk result (Grows (W.contents out.old) (W.contents out.new)) }
+    ensures { OnOk result (HasTold (W.contents out.old) (W.contents out.new)) }
 {
     match form {
         Form::Sorted => {
@@ -63,7 +64,7 @@ fn write_title<W: Write>(form: Form, out: &mut W) -> io::Result<()>
 
 /// Writes which part of a symmetric matrix the ordering needs.
 fn write_note<W: Write>(form: Form, out: &mut W) -> io::Result<()>
-    ensures { OnOk result (Grows (W.contents out.old) (W.contents out.new)) }
+    ensures { OnOk result (HasTold (W.contents out.old) (W.contents out.new)) }
 {
     out.write_all(b"    Note that for a symmetric matrix such as this one, only the\n")?;
     out.write_all(b"    strictly lower or upper triangular parts would need to be\n")?;
@@ -84,7 +85,7 @@ fn write_note<W: Write>(form: Form, out: &mut W) -> io::Result<()>
 
 /// Writes the size of a matrix, and a note on it.
 fn write_size<W: Write>(form: Form, matrix: &DemoMatrix, out: &mut W) -> io::Result<()>
-    ensures { OnOk result (Grows (W.contents out.old) (W.contents out.new)) }
+    ensures { OnOk result (HasTold (W.contents out.old) (W.contents out.new)) }
 {
     let n = matrix.n;
     let entries = matrix.pointer(n).unwrap_or(0);
@@ -99,7 +100,7 @@ fn write_size<W: Write>(form: Form, matrix: &DemoMatrix, out: &mut W) -> io::Res
 
 /// Writes the plots of a matrix before it is ordered.
 fn write_input_plots<W: Write>(form: Form, matrix: &DemoMatrix, out: &mut W) -> io::Result<()>
-    ensures { OnOk result (Grows (W.contents out.old) (W.contents out.new)) }
+    ensures { OnOk result (HasTold (W.contents out.old) (W.contents out.new)) }
 {
     let entries = Plot {
         matrix,
@@ -129,7 +130,7 @@ fn write_input_plots<W: Write>(form: Form, matrix: &DemoMatrix, out: &mut W) -> 
 
 /// Writes what there is before the matrix is ordered. No memory is asked.
 fn write_input<W: Write>(form: Form, matrix: &DemoMatrix, out: &mut W) -> io::Result<()>
-    ensures { OnOk result (Grows (W.contents out.old) (W.contents out.new)) }
+    ensures { OnOk result (HasTold (W.contents out.old) (W.contents out.new)) }
 {
     write_title(form, out)?;
     control(&Control::default(), out)?;
@@ -170,7 +171,7 @@ fn write_permuted_plot<W: Write>(
     p: &[i32],
     out: &mut W,
 ) -> io::Result<()>
-    ensures { OnOk result (Grows (W.contents out.old) (W.contents out.new)) }
+    ensures { OnOk result (HasTold (W.contents out.old) (W.contents out.new)) }
 {
     let (title, marks) = match form {
         Form::Sorted => ("Plot of permuted matrix pattern:", Marks::Entries),

@@ -1,7 +1,7 @@
 // The listing of a matrix, column by column, after the Rust crate's demos.
 
 ghost use Rattle.std.specs.Prelude.{OnOk};
-ghost use Rattle.amd_demos.specs.Demos.{Grows};
+ghost use Rattle.amd_texts.specs.Writers.{HasTold};
 
 use crate::matrix::DemoMatrix;
 use crate::numbers::write_each;
@@ -11,7 +11,7 @@ use std::io::Write;
 /// Writes where column `j` stands and how many entries it has, and then its rows; nothing where there is no such
 /// column.
 fn write_column<W: Write>(matrix: &DemoMatrix, j: i32, out: &mut W) -> io::Result<()>
-    ensures { OnOk result (Grows (W.contents out.old) (W.contents out.new)) }
+    ensures { OnOk result (HasTold (W.contents out.old) (W.contents out.new)) }
 {
     let (Some((begin, end)), Some(rows)) = (matrix.ends(j), matrix.column(j)) else {
         return Ok(());
@@ -31,7 +31,7 @@ fn write_column<W: Write>(matrix: &DemoMatrix, j: i32, out: &mut W) -> io::Resul
 
 /// Writes each column of a matrix.
 pub fn write_listing<W: Write>(matrix: &DemoMatrix, out: &mut W) -> io::Result<()>
-    ensures { OnOk result (Grows (W.contents out.old) (W.contents out.new)) }
+    ensures { OnOk result (HasTold (W.contents out.old) (W.contents out.new)) }
 {
     for j in 0..matrix.n {
         write_column(matrix, j, out)?;

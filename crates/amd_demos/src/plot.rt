@@ -1,7 +1,7 @@
 // A plot of a matrix in letters, a line for each row, after the Rust crate's demos.
 
 ghost use Rattle.std.specs.Prelude.{OnOk};
-ghost use Rattle.amd_demos.specs.Demos.{Grows};
+ghost use Rattle.amd_texts.specs.Writers.{HasTold};
 
 use crate::matrix::DemoMatrix;
 use std::io;
@@ -56,7 +56,7 @@ impl<'a> Plot<'a> {
 
 /// Writes the heading of a plot, the last digit of each column.
 fn write_heading<W: Write>(plot: &Plot, out: &mut W) -> io::Result<()>
-    ensures { OnOk result (Grows (W.contents out.old) (W.contents out.new)) }
+    ensures { OnOk result (HasTold (W.contents out.old) (W.contents out.new)) }
 {
     write!(out, "{}", plot.margin)?;
     for j in 0..plot.matrix.n {
@@ -69,7 +69,7 @@ fn write_heading<W: Write>(plot: &Plot, out: &mut W) -> io::Result<()>
 
 /// Writes a line of a plot.
 fn write_line<W: Write>(plot: &Plot, line: i32, out: &mut W) -> io::Result<()>
-    ensures { OnOk result (Grows (W.contents out.old) (W.contents out.new)) }
+    ensures { OnOk result (HasTold (W.contents out.old) (W.contents out.new)) }
 {
     write!(out, "{line}: ")?;
     for place in 0..plot.matrix.n {
@@ -86,7 +86,7 @@ fn write_line<W: Write>(plot: &Plot, line: i32, out: &mut W) -> io::Result<()>
 
 /// Writes an empty line, a title and a plot.
 pub fn write_plot<W: Write>(title: &str, plot: &Plot, out: &mut W) -> io::Result<()>
-    ensures { OnOk result (Grows (W.contents out.old) (W.contents out.new)) }
+    ensures { OnOk result (HasTold (W.contents out.old) (W.contents out.new)) }
 {
     writeln!(out, "\n{title}")?;
     write_heading(plot, out)?;

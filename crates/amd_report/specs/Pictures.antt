@@ -65,10 +65,6 @@ abbrev pub TellsShape : ℕ → List ℕ → ℕ → List ℕ → ℕ → List �
 TellsShape side kinds kind colour opacity text =
     ((¬ (Contains kinds kind)) × (text ≡ [])) ⊎ IsPath (max side 1) kinds kind colour opacity text
 
--- a writer took some text
-abbrev pub HasTold : Option (List ℕ) → Option (List ℕ) → Type 0
-HasTold old new = (text : List ℕ) × Appends old new text
-
 -- a writer took this text, and some before it and behind it
 abbrev pub TellsAmong : Option (List ℕ) → Option (List ℕ) → List ℕ → Type 0
 TellsAmong old new text = (before after : List ℕ) × Appends old new (before ++ text ++ after)

@@ -3,7 +3,8 @@
 
 ghost use Rattle.std.specs.Prelude.{◌≡◌, ℕ, List, OnOk};
 ghost use Rattle.std.specs.Io.KnownBytes.{Appends};
-ghost use Rattle.amd_report.specs.Pictures.{HasTold, TellsAmong, TellsPanel, TellsPanels};
+ghost use Rattle.amd_texts.specs.Writers.{HasTold};
+ghost use Rattle.amd_report.specs.Pictures.{TellsAmong, TellsPanel, TellsPanels};
 
 use crate::kinds::{BOTH, ENTRIES, FILL};
 use crate::names::{plural, write_name};

@@ -1,7 +1,7 @@
 // The name of a file in the legend of a picture, and the endings of words that stand after a number.
 
 ghost use Rattle.std.specs.Prelude.{OnOk};
-ghost use Rattle.amd_report.specs.Pictures.{HasTold};
+ghost use Rattle.amd_texts.specs.Writers.{HasTold};
 
 use std::io;
 use std::io::Write;

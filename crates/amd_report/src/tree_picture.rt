@@ -3,7 +3,8 @@
 
 ghost use Rattle.std.specs.Prelude.{◌≡◌, ◌<◌, ◌+◌, ◌*◌, ℕ, List, IfOk, OnOk, codes, length};
 ghost use Rattle.std.specs.Io.KnownBytes.{Appends};
-ghost use Rattle.amd_report.specs.Pictures.{HasTold, TellsShades};
+ghost use Rattle.amd_texts.specs.Writers.{HasTold};
+ghost use Rattle.amd_report.specs.Pictures.{TellsShades};
 ghost use Rattle.amd_report.specs.Trees.{AreShades, DrawsTree, shade_of};
 
 use crate::canvas::{Canvas, canvas_of, front_of, greatest};

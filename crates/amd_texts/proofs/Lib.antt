@@ -1,2 +1,3 @@
 pub mod Written
 pub mod Padding
+pub mod Told

@@ -1,2 +1,3 @@
--- The texts, as functions of what they tell of.
+-- The texts, as functions of what they tell of, and what a writer took.
 pub mod Texts
+pub mod Writers

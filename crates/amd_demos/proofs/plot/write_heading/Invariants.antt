@@ -1,5 +1,5 @@
-use Rattle.amd_demos.specs.Demos.{Grows}
+use Rattle.amd_texts.specs.Writers.{HasTold}
 use Rattle.amd_demos.proofs.plot.write_heading.Given as goal
 
 abbrev pub invariant-loop-j : goal.invariant-loop-j
-invariant-loop-j g l = Grows (g.W.Write.contents l.fn.out) (g.W.Write.contents l.out)
+invariant-loop-j g l = HasTold (g.W.Write.contents l.fn.out) (g.W.Write.contents l.out)

@@ -1,5 +1,5 @@
 -- Three texts.
-use Rattle.amd_report.proofs.Told.{told, told-then}
+use Rattle.amd_texts.proofs.Told.{told, told-then}
 use Rattle.amd_report.proofs.drawing.write_keys.Goals as goal
 
 pub returns : goal.returns

@@ -1,5 +1,5 @@
 -- Each turn tells one character more.
-use Rattle.amd_report.proofs.Told.{told-none, told-then}
+use Rattle.amd_texts.proofs.Told.{told-none, told-then}
 use Rattle.amd_report.proofs.names.write_name.Goals as goal
 
 pub characters-init : goal.characters-init

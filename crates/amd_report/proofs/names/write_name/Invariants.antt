@@ -1,5 +1,5 @@
 -- The characters so far are told.
-use Rattle.amd_report.specs.Pictures.{HasTold}
+use Rattle.amd_texts.specs.Writers.{HasTold}
 use Rattle.amd_report.proofs.names.write_name.Given as goal
 
 abbrev pub invariant-characters : goal.invariant-characters

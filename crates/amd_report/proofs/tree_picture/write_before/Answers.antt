@@ -1,5 +1,5 @@
 -- Four texts.
-use Rattle.amd_report.proofs.Told.{told-then}
+use Rattle.amd_texts.proofs.Told.{told-then}
 use Rattle.amd_report.proofs.tree_picture.write_before.Goals as goal
 
 pub returns : goal.returns

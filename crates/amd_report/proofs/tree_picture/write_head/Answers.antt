@@ -1,5 +1,5 @@
 -- Two texts.
-use Rattle.amd_report.proofs.Told.{told, told-then}
+use Rattle.amd_texts.proofs.Told.{told, told-then}
 use Rattle.amd_report.proofs.tree_picture.write_head.Goals as goal
 
 pub returns : goal.returns

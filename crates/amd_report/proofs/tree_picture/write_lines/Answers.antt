@@ -1,5 +1,5 @@
 -- Three texts.
-use Rattle.amd_report.proofs.Told.{told, told-then}
+use Rattle.amd_texts.proofs.Told.{told, told-then}
 use Rattle.amd_report.proofs.tree_picture.write_lines.Goals as goal
 
 pub returns : goal.returns

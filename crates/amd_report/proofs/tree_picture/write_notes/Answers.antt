@@ -1,5 +1,5 @@
 -- Two lines.
-use Rattle.amd_report.proofs.Told.{told-then}
+use Rattle.amd_texts.proofs.Told.{told-then}
 use Rattle.amd_report.proofs.tree_picture.write_notes.Goals as goal
 
 pub returns : goal.returns

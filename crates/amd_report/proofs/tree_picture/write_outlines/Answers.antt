@@ -1,5 +1,5 @@
 -- Each turn tells one outline more.
-use Rattle.amd_report.proofs.Told.{told-none, told-then}
+use Rattle.amd_texts.proofs.Told.{told-none, told-then}
 use Rattle.amd_report.proofs.tree_picture.write_outlines.Goals as goal
 
 pub outlines-init : goal.outlines-init

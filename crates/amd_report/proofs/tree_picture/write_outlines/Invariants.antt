@@ -1,5 +1,5 @@
 -- The outlines so far are told.
-use Rattle.amd_report.specs.Pictures.{HasTold}
+use Rattle.amd_texts.specs.Writers.{HasTold}
 use Rattle.amd_report.proofs.tree_picture.write_outlines.Given as goal
 
 abbrev pub invariant-outlines : goal.invariant-outlines
