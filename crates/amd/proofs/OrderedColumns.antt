@@ -13,6 +13,7 @@ use Rattle.amd_types.specs.declared.amd.Status.{Status}
 use Rattle.amd_types.specs.declared.amd.Status.TheVariants.{OK, Invalid, OkButJumbled, OutOfMemory}
 use Rattle.amd.specs.Answers.{OrdersMatrix, IsOrderingHolding, IsInputHolding, IsRefusalHolding, ordered_pairs, refusal_of}
 use Rattle.amd.specs.Within.{jumbled_by, pairs_by}
+use Rattle.amd_input.specs.Transposes.{IsCleanForm}
 use Rattle.amd_input.proofs.PatternLemmas.{input_form, input_sorted}
 
 -- what is known of an input once it has a status
@@ -20,6 +21,11 @@ pub record HasStatus (hold : Option (List Bool)) (z : ℤ) (a_p a_i : List ℤ) 
   pub some : z ≢ pos 0
   pub marks : status ≢ Invalid → HasMarks hold (unsigned_abs z)
   pub is : HasMarks hold (unsigned_abs z) → IsStatusOf z z a_p a_i status
+
+-- a transpose in lists that are lent
+pub lent_clean : {L : Type 0} (numbers : L → List ℤ) {k : ℕ} {a_p a_i : List ℤ} {b_p b_i lent_p lent_i : L} → lent_p ≡ b_p →
+    lent_i ≡ b_i → IsCleanForm k a_p a_i (numbers b_p) (numbers b_i) → IsCleanForm k a_p a_i (numbers lent_p) (numbers lent_i)
+lent_clean numbers same_p same_i clean = rw (same_p, same_i) clean
 
 -- no input has the status of refused memory
 not_memory : (hold : Option (List Bool)) (z : ℤ) (a_p a_i : List ℤ) (status : Status) → HasStatus hold z a_p a_i status →

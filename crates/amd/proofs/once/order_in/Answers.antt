@@ -1,17 +1,8 @@
 use Rattle.std.proofs.Common.{ℤ, List, length, map}
 use Rattle.std.specs.Option.{option_copied}
-use Rattle.amd_input.specs.Transposes.{IsCleanForm}
 use Rattle.amd.proofs.Orderings.{orders_turned}
-use Rattle.amd.proofs.OrderedColumns.{checked_fits, ok_gives}
-use Rattle.amd.proofs.once.order_in.Given.{Over}
-use Rattle.amd.proofs.once.order_in.Goals.{After-deref-2}
+use Rattle.amd.proofs.OrderedColumns.{checked_fits, lent_clean, ok_gives}
 use Rattle.amd.proofs.once.order_in.Goals as goal
-
--- the transpose, as it is lent
-clean : (g : Over) (c : After-deref-2 g) → IsCleanForm (length c.args.p.now) (map g.I.Index.value c.args.matrix.now.a_p.now)
-    (map g.I.Index.value c.args.matrix.now.a_i.now)
-    (map g.J.Index.value c.deref.result.now) (map g.J.Index.value c.deref-2.result.now)
-clean g c = rw (c.deref.ensures.value, c.deref-2.ensures.value) c.in_ok-c_p.ensures.clean
 
 pub row_form_with-requires-clause-names : goal.row_form_with-requires-clause-names
 row_form_with-requires-clause-names g c =
@@ -19,7 +10,8 @@ row_form_with-requires-clause-names g c =
 
 pub order_counted-requires-2-clause-given : goal.order_counted-requires-2-clause-given
 order_counted-requires-2-clause-given g c =
-    let given = c.requires.given in let is = clean g (goal.at.order_counted-requires-2-clause-given g c).After-deref-2 in record {
+    let given = c.requires.given in
+    let is = lent_clean (map g.J.Index.value) c.deref.ensures.value c.deref-2.ensures.value c.in_ok-c_p.ensures.clean in record {
       places = given.places;
       some = given.some;
       form = is.form;
@@ -34,7 +26,9 @@ returns-clause-orders g c =
     let b_p : List ℤ = map g.J.Index.value c.deref.result.now in let b_i : List ℤ = map g.J.Index.value c.deref-2.result.now in
     rw c.if-not-matrix.false (ok_gives c.order_counted-2.result (λ info ordered.
     orders_turned (option_copied c.args.request.now.hold) n c.args.request.now.control.now a_p a_i b_p b_i (map value new.p)
-    (map value new.p_inv) info (clean g (goal.at.returns-clause-orders g c).After-deref-2) ordered) c.order_counted-2.ensures.orders)
+    (map value new.p_inv) info
+    (lent_clean (map g.J.Index.value) c.deref.ensures.value c.deref-2.ensures.value c.in_ok-c_p.ensures.clean) ordered)
+    c.order_counted-2.ensures.orders)
 
 pub order_counted-requires-clause-narrow : goal.order_counted-requires-clause-narrow
 order_counted-requires-clause-narrow g c = c.requires.narrow

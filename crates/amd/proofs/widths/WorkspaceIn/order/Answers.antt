@@ -1,19 +1,14 @@
 use Rattle.std.proofs.Common.{map, length, arith, le_refl, refl}
 use Rattle.std.specs.Option.{option_copied}
-use Rattle.amd_input.specs.Transposes.{IsCleanForm}
 use Rattle.amd_input.proofs.RowForms.{upto_fits}
 use Rattle.amd_workspace.specs.Lists.{HasRoom}
 use Rattle.amd.specs.Within.{list_words}
 use Rattle.amd.proofs.Orderings.{orders_turned}
+use Rattle.amd.proofs.OrderedColumns.{lent_clean}
 use Rattle.amd.proofs.Rooms.{less_room}
 use Rattle.amd.proofs.widths.WorkspaceIn.order.Given.{Over}
 use Rattle.amd.proofs.widths.WorkspaceIn.order.Goals.{After-deref-2}
 use Rattle.amd.proofs.widths.WorkspaceIn.order.Goals as goal
-
--- the transpose, as it is lent
-clean : (g : Over) (c : After-deref-2 g) → IsCleanForm (length c.args.p.now) (map g.I.Index.value c.args.matrix.now.a_p.now)
-    (map g.I.Index.value c.args.matrix.now.a_i.now) (map g.J.Index.value c.deref.result.now) (map g.J.Index.value c.deref-2.result.now)
-clean g c = rw (c.deref.ensures.value, c.deref-2.ensures.value) c.transpose_within.ensures.clean
 
 -- the memory in which the transpose was made
 taken : (g : Over) (c : After-deref-2 g) → let old = c.args.self.now.memory in let new = c.transpose_within.new in
@@ -81,7 +76,8 @@ order_columns-requires-2-clause-room g c = let self = c.args.self.now in
 
 pub order_columns-requires-2-clause-given : goal.order_columns-requires-2-clause-given
 order_columns-requires-2-clause-given g c =
-    let given = c.requires.given in let is = clean g (goal.at.order_columns-requires-2-clause-given g c).After-deref-2 in record {
+    let given = c.requires.given in
+    let is = lent_clean (map g.J.Index.value) c.deref.ensures.value c.deref-2.ensures.value c.transpose_within.ensures.clean in record {
       places = given.places;
       some = given.some;
       form = is.form;
@@ -109,7 +105,8 @@ returns-clause-orders g c =
     rw c.if-not-matrix.false (orders_turned (option_copied c.args.request.now.hold) (length c.args.p.now) c.args.request.now.control.now
     (map value c.args.matrix.now.a_p.now) (map value c.args.matrix.now.a_i.now) (map g.J.Index.value c.deref.result.now)
     (map g.J.Index.value c.deref-2.result.now) (map value new.p) (map value new.p_inv) new.info
-    (clean g (goal.at.returns-clause-orders g c).After-deref-2) c.order_columns-2.ensures.orders)
+    (lent_clean (map g.J.Index.value) c.deref.ensures.value c.deref-2.ensures.value c.transpose_within.ensures.clean)
+    c.order_columns-2.ensures.orders)
 
 pub order_columns-requires-clause-fits : goal.order_columns-requires-clause-fits
 order_columns-requires-clause-fits g c = c.requires.fits
