@@ -15,7 +15,7 @@ use Rattle.std.specs.List.{position, position_or_len}
 use Rattle.std.specs.Char.{is_ascii_whitespace}
 use Rattle.std.specs.Io.BufRead.{take_through, drop_through}
 use Rattle.std.specs.Io.KnownBytes.{IsAtEnd, prepend_known}
-use Rattle.amd_lines.specs.Words.{words}
+use Rattle.amd_lines.specs.Words.{BeginsWithByte, words}
 use Rattle.amd_lines.specs.Blocks.{held_of}
 use Rattle.amd_lines.specs.Lines.{BeginsWith, is_note, rest_of, line_of, HasNoFeed, KeepsRest, HoldsLong, NoteSoFar, IsPiece}
 use Rattle.amd_lines.specs.Lines.{PassesPiece, PassesNote, TellsLong, TakesLines, StandsLong, MeetsTelling, telling, one_line_more}
@@ -46,11 +46,8 @@ front-open front h tail =
         ∙ blank-of (get_or front j 0) (fails_before_first letter front j 0 (within j l))
 
 -- one with a word tells how the first word begins
-abbrev Begins : ℕ → List (List ℕ) → Type 0
-Begins b ws = (w : List ℕ) × (others : List (List ℕ)) × (ws ≡ (b ∷ w) ∷ others)
-
 pub front-told : (front : List ℕ) (i : ℕ) → position letter front ≡ Some i → (tail : List ℕ) →
-    Begins (get_or front i 0) (words (front ++ tail))
+    BeginsWithByte (get_or front i 0) (words (front ++ tail))
 front-told front i h tail =
     let here = position-Some letter front i 0 h in
     let size = length-append front tail in
