@@ -21,6 +21,7 @@ use Rattle.amd_lists.specs.Layout.{list_in}
 use Rattle.amd_words.specs.Words.{num, word, size_of, rows_in}
 use Rattle.amd_listing.specs.Ended.{IsEnded, HasEnded, LinksAre, ListsEnded, Shortens}
 use Rattle.amd_listing.proofs.LinkSteps.{cases_link}
+use Rattle.amd_postorder.specs.Trees.{link_of}
 use Rattle.amd_postorder.proofs.Links.{names_some}
 use Rattle.amd_model.proofs.Counting.Below.{count_pos}
 use Rattle.amd_workspace.specs.Ending.{EndsRows}
@@ -28,7 +29,7 @@ use Rattle.amd_workspace.specs.Laying.{IsLaidOut}
 use Rattle.amd_engine_law.specs.Engine.{TellsElements}
 use Rattle.amd_workspace.specs.declared.rows.RowLists.{RowLists}
 use Rattle.amd_engine.specs.declared.running.Told.{Told}
-use Rattle.amd_engine.specs.InPlace.{AnswersInPlace, EndsRounds, LaysGraph, RunsInPlace, TellsTree, parent_word}
+use Rattle.amd_engine.specs.InPlace.{AnswersInPlace, EndsRounds, LaysGraph, RunsInPlace, TellsTree}
 use Rattle.amd_engine_law.proofs.EngineLaw.{told_by, run, answer_of}
 use Rattle.amd_workspace.proofs.Ended.{ended}
 
@@ -95,8 +96,8 @@ module _ {S P U : Type 0} (g : Graph) (dense : ℕ → Bool) (aggressive : Bool)
         let some : 0 < size_of nv' e = subst (λ z. 0 < rows_in z) (sym (is_ended.blocks e y))
         (count_pos g.size (in_block last e) e l y) in
         sh.parents e some ∙ elim (cases_link (last.parent e)) [
-          | inl q ↦ is_ended.tops e y q ∙ sym (ap parent_word q)
-          | inr w ↦ names_some (word pe' e) w.0 (sym (is_ended.parents e y ∙ w.1)) ∙ sym (ap parent_word w.1)
+          | inl q ↦ is_ended.tops e y q ∙ sym (ap link_of q)
+          | inr w ↦ names_some (word pe' e) w.0 (sym (is_ended.parents e y ∙ w.1)) ∙ sym (ap link_of w.1)
         ];
   }
 

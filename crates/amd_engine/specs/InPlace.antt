@@ -1,5 +1,5 @@
 -- The run of the engine in place: the workspace before its first round, and what its rounds promise.
-use Rattle.std.specs.Prelude.{ℕ, ℤ, Bool, true, Option, None, Some, List, ◌≡◌, ◌<◌, ◌≤◌, ◌+◌, length, max, pos, negsuc}
+use Rattle.std.specs.Prelude.{ℕ, ℤ, Bool, true, Option, List, ◌≡◌, ◌<◌, ◌≤◌, ◌+◌, length, max, pos}
 use Rattle.std.specs.Prelude.{map, replicate}
 use Rattle.std.specs.Borrow.{MutBor}
 use Rattle.std.specs.Option.{option_copied}
@@ -19,6 +19,7 @@ use Rattle.amd_lists.specs.Layout.{list_in}
 use Rattle.amd_lists.specs.Lengths.{HasLinks}
 use Rattle.amd_lists.specs.Sizes.{bucket_count}
 use Rattle.amd_lists.specs.Workspaces.{Workspace}
+use Rattle.amd_postorder.specs.Trees.{link_of}
 use Rattle.amd_rounds.specs.Keeps.{Stands}
 use Rattle.amd_listing.specs.Ended.{HasEnded, LinksAre, ListsEnded, Shortens}
 use Rattle.amd_workspace.specs.Ending.{EndsRows}
@@ -156,14 +157,9 @@ pub record AreListed {S P U : Type 0} (n : ℕ) (old new : RowLists S P U) : Typ
   pub inverse : AreInverse n (map pos new.head.now) (map pos new.w.now)
   pub shortens : Shortens new.nv.now link new.pe.now
 
--- the word of a parent: -1 for none
-abbrev pub parent_word : Option ℕ → ℤ
-parent_word None = negsuc 0
-parent_word (Some e) = pos e
-
 -- the assembly tree: of each element its parent, and links that lead each other eliminated row to its element
 pub record TellsTree (g : Graph) (s : State) (nv pe : List ℤ) : Type 0 where
-  pub parents : (e : ℕ) → e < g.size → is_element s e ≡ true → word pe e ≡ parent_word (s.parent e)
+  pub parents : (e : ℕ) → e < g.size → is_element s e ≡ true → word pe e ≡ link_of (s.parent e)
   pub leads : LinksAre g.size pe nv s.home
 
 -- what is told of the rows of a graph: the permutation and its inverse, of each row the number of rows of its block and of
