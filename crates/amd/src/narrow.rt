@@ -1,6 +1,6 @@
-// An ordering of a matrix of 32 bits into the caller's own lists, in words of 32 bits: the places of the permutation and
-// of its inverse serve as two of the lists of the elimination until these are written into them. Source: AMD user guide;
-// Amestoy, Davis and Duff 1996 and 2004.
+// An ordering of a matrix of 32 bits into the caller's own lists, in words of 32 bits: the places of the permutation
+// and of its inverse serve as two of the lists of the elimination until these are written into them. Source: AMD user
+// guide; Amestoy, Davis and Duff 1996 and 2004.
 
 ghost use Rattle.std.specs.Prelude.{◌≡◌, ◌<◌, ◌≤◌, ◌+◌, ◌*◌, ◌/◌, ◌^◌, ℕ, false, pos, map, length, slice_index};
 ghost use Rattle.std.specs.Prelude.{IfOk, IfErr};

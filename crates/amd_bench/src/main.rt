@@ -1,8 +1,8 @@
 //! Times `order` on a matrix file: `amd_bench FILE i32|i64|isize REPEATS`. A file whose name ends in `.mtx` is a text
 //! of the Matrix Market, and any other one has the binary format of `amd_cases`. With a fourth word, `columns` or
-//! `analyze`, it times that call of `amd_symbolic`, `columns` under the order that `order` gives. With `within` it times
-//! orderings in a workspace that was made before, and with `stages` the stages of a call of `order`. With `peak` it
-//! tells the memory of a call.
+//! `analyze`, it times that call of `amd_symbolic`, `columns` under the order that `order` gives. With `within` it
+//! times orderings in a workspace that was made before, and with `stages` the stages of a call of `order`. With `peak`
+//! it tells the memory of a call.
 //!
 //! It prints one line: the type of numbers, the name of the file, the figures of the ordering and a hash of the
 //! permutation, or the number of the factor's entries and a hash of them, and the least and the median time of a call

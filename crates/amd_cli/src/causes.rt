@@ -1,5 +1,5 @@
-// Why a run ends early, and the exit status of that: 1 where memory was refused or an output failed, 2 where an argument
-// or an input is wrong, and 3 where the picture alone failed.
+// Why a run ends early, and the exit status of that: 1 where memory was refused or an output failed, 2 where an
+// argument or an input is wrong, and 3 where the picture alone failed.
 
 ghost use Rattle.amd_cli.specs.Causes.{exit_status};
 ghost use Rattle.std.specs.Prelude.{◌≡◌, ◌≤◌};

@@ -149,8 +149,8 @@ fn order_lent<S: Signed, P: Signed, U: Unsigned, A: Allocator>(
 
 /// Lays the lists of a matrix with sorted columns in memory that was asked for before, eliminates its rows in them, and
 /// lists the rows: `head` then has the permutation, and `w` its inverse. `nv` and `e_len` have a place for each row;
-/// what they hold is not read, and the numbers of rows and the fronts stand in them afterwards. The lists of these names
-/// in the memory are not used. The rest is as `order_within` says.
+/// what they hold is not read, and the numbers of rows and the fronts stand in them afterwards. The lists of these
+/// names in the memory are not used. The rest is as `order_within` says.
 fn eliminate_within<J: Index, S: Signed, P: Signed, U: Unsigned, A: Allocator + Copy>(
     memory: &mut Memory<S, P, U, A>,
     nv: &mut [Word<S>],

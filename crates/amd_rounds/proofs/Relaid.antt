@@ -231,7 +231,8 @@ module _ {g : Graph} {dense : ℕ → Bool} {nzaat : ℕ} {aggressive : Bool} {p
 
     pub most_after : v.most ≤ g.size
     most_after = let a : v.most ≡ p4.most = ap (λ q. q.most) ended.same in
-        let b = ap (λ (w : Workspace). w.most) merges.same in let few = (can_merge r).most in let m = max-le few.1 few.0 in omega (arith, a, b, m)
+        let b = ap (λ (w : Workspace). w.most) merges.same in let few = (can_merge r).most in let m = max-le few.1 few.0 in
+        omega (arith, a, b, m)
 
     -- the bound of an open class and the border of another element stay
     pub bound_open : (j : ℕ) → (j ≡ r.c → ⊥) → has r.begins.front j ≡ false → num v.degree j ≡ num p.degree j
