@@ -207,8 +207,6 @@ fn time_elimination<
     let mut memory: Memory<S, P, U, Global> = memory_for(rt.alloc(), degrees, room)?;
     let free = lay(size, a_p, a_i, room, &mut memory);
     clock.end(rt, "lay");
-    // Of this list the laying says nothing.
-    memory.e_len = Vec::with_capacity(rt.alloc(), size)?;
     time_rounds(rt, clock, n, size, &mut memory, free, room)
 }
 

@@ -179,7 +179,7 @@ fn eliminate_within<J: Index, S: Signed, P: Signed, U: Unsigned, A: Allocator + 
     ensures long { length memory.new.lists.head.items ≡ length nv.old }
     ensures packs { result.n_cmp_a ≤ length nv.old }
     ensures room { (n count : ℕ) → HasRoomBeside n count memory.old → HasRoomBeside n count memory.new }
-    ensures nv { memory.new.nv ≡ memory.old.nv }
+    ensures aside { (memory.new.nv ≡ memory.old.nv) × (memory.new.e_len ≡ memory.old.e_len) }
 {
     let size = nv.len();
     let free = lay(size, a_p, a_i, room, memory);
@@ -301,6 +301,7 @@ pub fn order_within_lent<J: Index, U: Unsigned, A: Allocator + Copy>(
         (map J.value a_p.now) (map J.value a_i.now) (values p.new) (values p_inv.new) info.old info.new }
     ensures compactions { info.new.n_cmp_a ≤ length p.old }
     ensures room { (n count : ℕ) → HasRoomBeside n count memory.old → HasRoomBeside n count memory.new }
+    ensures aside { (memory.new.nv ≡ memory.old.nv) × (memory.new.e_len ≡ memory.old.e_len) }
 {
     clear(p);
     clear(p_inv);

@@ -43,6 +43,6 @@ time_rounds-requires-clause-room g c =
         len = laid.len;
         lists = laid.lists;
       };
-      nv = rw c.lay-free.ensures.nv room.nv;
-      e_len = c.in_ok-memory-2.ensures.capacity;
+      nv = rw c.lay-free.ensures.aside.0 room.nv;
+      e_len = rw c.lay-free.ensures.aside.1 room.e_len;
     }

@@ -62,8 +62,8 @@ order_lent-told-requires-clause-marks g c =
 pub order_lent-told-requires-clause-flag : goal.order_lent-told-requires-clause-flag
 order_lent-told-requires-clause-flag g c = c.requires.flag
 
-pub returns-clause-nv : goal.returns-clause-nv
-returns-clause-nv g c = c.lay-free.ensures.nv
+pub returns-clause-aside : goal.returns-clause-aside
+returns-clause-aside g c = c.lay-free.ensures.aside
 
 pub fill_lists-requires-clause-room : goal.fill_lists-requires-clause-room
 fill_lists-requires-clause-room g c = let room = c.lay-free.ensures.room _ _ c.requires.room in (room.next, room.lists)

@@ -80,3 +80,6 @@ returns-clause-compactions g c =
 
 pub returns-clause-room : goal.returns-clause-room
 returns-clause-room g c = c.eliminate_within-run.ensures.room
+
+pub returns-clause-aside : goal.returns-clause-aside
+returns-clause-aside g c = c.eliminate_within-run.ensures.aside

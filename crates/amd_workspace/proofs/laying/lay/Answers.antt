@@ -208,8 +208,8 @@ returns-then-is_lower-clause-room g c = λ n words r.
 pub returns-then-is_lower-clause-degrees : goal.returns-then-is_lower-clause-degrees
 returns-then-is_lower-clause-degrees g c = refl
 
-pub returns-then-is_lower-clause-nv : goal.returns-then-is_lower-clause-nv
-returns-then-is_lower-clause-nv g c = refl
+pub returns-then-is_lower-clause-aside : goal.returns-then-is_lower-clause-aside
+returns-then-is_lower-clause-aside g c = (refl, refl)
 
 pub returns-else-is_lower-clause-room : goal.returns-else-is_lower-clause-room
 returns-else-is_lower-clause-room g c = λ n words r.
@@ -229,5 +229,5 @@ returns-else-is_lower-clause-room g c = λ n words r.
 pub returns-else-is_lower-clause-degrees : goal.returns-else-is_lower-clause-degrees
 returns-else-is_lower-clause-degrees g c = refl
 
-pub returns-else-is_lower-clause-nv : goal.returns-else-is_lower-clause-nv
-returns-else-is_lower-clause-nv g c = refl
+pub returns-else-is_lower-clause-aside : goal.returns-else-is_lower-clause-aside
+returns-else-is_lower-clause-aside g c = (refl, refl)
