@@ -1,5 +1,5 @@
 -- How much memory a workspace takes, and how its lists lie in a block that a caller lends.
-use Rattle.std.specs.Prelude.{◌≡◌, ◌≢◌, ◌≤◌, ◌+◌, ◌*◌, ◌/◌, ℕ, ℤ, Bool, pos, Option, List, nat_le, if◌then◌else◌}
+use Rattle.std.specs.Prelude.{◌≢◌, ◌≤◌, ◌+◌, ◌*◌, ◌/◌, ℕ, ℤ, Bool, pos, Option, List, nat_le, if◌then◌else◌}
 use Rattle.std.specs.Prelude.{slice_index, unsigned_abs}
 use Rattle.std.specs.Mem.{type_size}
 use Rattle.std.specs.Vec.{vec_capacity}

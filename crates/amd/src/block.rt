@@ -6,6 +6,7 @@ ghost use Rattle.std.specs.Option.{option_copied};
 ghost use Rattle.amd.specs.Answers.{IsOrderingHolding};
 ghost use Rattle.amd.specs.Blocks.{FitsInBlock, IsBlockRefusal, workspace_bytes};
 ghost use Rattle.amd.specs.Workspaces.{IsMadeFor};
+ghost use Rattle.amd_engine.specs.InPlace.{values};
 
 use crate::entrance::jumbled_of;
 use crate::lent::{fours, is_narrow, workspace_bytes};
@@ -90,5 +91,48 @@ pub fn order_in_block<I: PrimInt>(
     info.status = status;
     let request = Request { control, hold };
     widths.order(&Matrix { a_p, a_i, jumbled }, &request, p, p_inv, &mut info);
+    Ok(info)
+}
+
+/// As [`order_in_block`], for a matrix of 32 bits: where words of 32 bits hold all numbers, `p` and `p_inv` serve as
+/// two of the lists until the permutation and its inverse are written into them.
+///
+/// # Errors
+///
+/// As `order_in_block`. After one, `p` and `p_inv` are as before.
+///
+/// Source: AMD user guide; Amestoy, Davis and Duff 1996 and 2004.
+pub fn order_in_block_narrow(
+    block: Piece,
+    n: i32,
+    a_p: &[i32],
+    a_i: &[i32],
+    control: &Control,
+    hold: Option<&[bool]>,
+    p: &mut [i32],
+    p_inv: &mut [i32],
+) -> Result<Info, Refusal>
+    ensures ordering { IfOk result (λ info. IsOrderingHolding (option_copied hold.entry) n control.now.dense
+        control.now.aggressive (values a_p.now) (values a_i.now) (values p.new) (values p_inv.new) info) }
+    ensures inside { IfOk result (λ info. FitsInBlock n (values a_p.now) block.size) }
+    ensures refusal { IfErr result (IsBlockRefusal (option_copied hold.entry) n (values a_p.now) (values a_i.now)
+        (values p.old) (values p_inv.old) block.size) }
+    ensures kept { IfErr result (λ e. (p.new ≡ p.old) × (p_inv.new ≡ p_inv.old)) }
+{
+    let Some((size, status)) = valid_rows(n, a_p, a_i, hold, p, p_inv) else {
+        return Err(Refusal::Invalid);
+    };
+    if size == 0 {
+        return Ok(Info::new(0));
+    }
+    let Some(jumbled) = jumbled_of(&status) else {
+        unreachable!()
+    };
+    let Some(mut widths) = Widths::in_block(block, size, count_at(a_p, size)) else {
+        return Err(Refusal::TooLarge);
+    };
+    let (request, mut info) = (Request { control, hold }, Info::new(size));
+    info.status = status;
+    widths.order_lending(&Matrix { a_p, a_i, jumbled }, &request, p, p_inv, &mut info);
     Ok(info)
 }

@@ -31,7 +31,7 @@ pub use amd_input::{aat, preprocess, valid};
 pub use amd_lent::{Lodged, Piece};
 pub use amd_texts::{control, info};
 pub use amd_types::amd::{Control, Info, Status};
-pub use block::order_in_block;
+pub use block::{order_in_block, order_in_block_narrow};
 pub use into::order_into;
 pub use lent::workspace_bytes;
 pub use narrow::order_into_narrow;

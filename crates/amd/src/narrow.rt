@@ -9,17 +9,17 @@ ghost use Rattle.amd_model.specs.Input.Pattern.{is_pair};
 ghost use Rattle.amd_engine.specs.InPlace.{values};
 ghost use Rattle.amd_lists.specs.Sizes.{AreWideEnough};
 ghost use Rattle.amd_types.specs.Naturals.{naturals};
-ghost use Rattle.amd_workspace.specs.Lists.{HasRoomBeside};
+ghost use Rattle.amd_workspace.specs.Lists.{HasRoom, HasRoomBeside};
 ghost use Rattle.amd.specs.Answers.{IsOrderingHolding, OrdersMatrix};
-ghost use Rattle.amd.specs.Within.{IsGiven, IsGivenBy, IsIntoRefusal, OrdersGiven};
+ghost use Rattle.amd.specs.Within.{IsGiven, IsGivenBy, IsIntoRefusal, OrdersGiven, list_words};
 
 use crate::entrance::jumbled_of;
 use crate::once::{most_words, order_once};
 use crate::request::{Matrix, Request};
-use crate::within::count_degrees;
+use crate::widths::WorkspaceIn;
+use crate::within::{count_degrees, order_sorted_lent};
 use crate::workspace::valid_rows;
-use amd_engine::amd_1::{ask_for_most, holds, order_within_lent};
-use amd_engine::rows::Choice;
+use amd_engine::amd_1::{ask_for_most, holds};
 use amd_input::preprocess::row_form_with;
 use amd_types::amd::{Control, Info, Status};
 use amd_types::index::Index;
@@ -57,12 +57,7 @@ fn order_counted<J: Index, A: Allocator + Copy>(
     let nzaat = count_degrees(memory, size, a_p, a_i, &mut info);
     let room = nzaat + nzaat / 5 + size;
     memory.words.iw = Vec::with_capacity(alloc, room)?;
-    let choice = Choice {
-        control: request.control,
-        hold: request.hold,
-        flag: 2,
-    };
-    order_within_lent(memory, a_p, a_i, room, &choice, p, p_inv, &mut info);
+    order_sorted_lent(memory, a_p, a_i, room, request, p, p_inv, &mut info);
     Ok(info)
 }
 
@@ -171,4 +166,64 @@ pub fn order_into_narrow<A: Allocator + Copy>(
     let mut info = order_lending(alloc, &Matrix { a_p, a_i, jumbled }, &request, p, p_inv)?;
     info.status = status;
     Ok(info)
+}
+
+/// Orders a matrix with sorted columns in memory for so many words: in as many of them as upstream takes, or in all.
+/// The lists of the numbers of rows and of elements of the memory are not used.
+fn order_columns_lent<J: Index, A: Allocator + Copy>(
+    memory: &mut Memory<i32, i32, u32, A>,
+    words: usize,
+    a_p: &[J],
+    a_i: &[J],
+    request: &Request<'_>,
+    p: &mut [i32],
+    p_inv: &mut [i32],
+    info: &mut Info,
+)
+    requires given { IsGiven (option_copied request.now.hold) false (map J.value a_p.now) (map J.value a_i.now)
+        (length p.old) (length p_inv.old) }
+    requires room { HasRoom (length p.old) words memory.old }
+    requires words { list_words (length p.old) (slice_index (naturals (map J.value a_p.now)) (length p.old)) ≤ words }
+    requires narrow { AreWideEnough 2147483647 2147483647 4294967295 (length p.old) words }
+    ensures orders { OrdersMatrix (option_copied request.now.hold) (length p.old) request.now.control.now
+        (is_pair (length p.old) (map J.value a_p.now) (map J.value a_i.now)) (map J.value a_p.now)
+        (map J.value a_i.now) (values p.new) (values p_inv.new) info.new }
+    ensures status { info.new.status ≡ info.old.status }
+    ensures room { (n count : ℕ) → HasRoom n count memory.old → HasRoom n count memory.new }
+{
+    let size = p.len();
+    let nzaat = count_degrees(memory, size, a_p, a_i, info);
+    let room = (nzaat + nzaat / 5 + size).min(words);
+    order_sorted_lent(memory, a_p, a_i, room, request, p, p_inv, info);
+}
+
+impl<A: Allocator + Copy> WorkspaceIn<i32, i32, i32, u32, A> {
+    /// As [`WorkspaceIn::order`], for a matrix of 32 bits: until the permutation and its inverse are written into them,
+    /// `p` and `p_inv` serve as two of the lists.
+    pub fn order_lending(
+        &mut self,
+        matrix: &Matrix<'_, i32>,
+        request: &Request<'_>,
+        p: &mut [i32],
+        p_inv: &mut [i32],
+        info: &mut Info,
+    )
+        requires inside { (length p.old ≤ self.old.rows) ×
+            (slice_index (naturals (values matrix.now.a_p.now)) (length p.old) ≤ self.old.entries) }
+        requires given { IsGivenBy (λ x. x) matrix.now request.now (length p.old) (length p_inv.old) }
+        ensures orders { OrdersGiven (λ x. x) matrix.now request.now (length p.old) (values p.new)
+            (values p_inv.new) info.new }
+        ensures status { info.new.status ≡ info.old.status }
+        ensures made { (self.new.rows ≡ self.old.rows) × (self.new.entries ≡ self.old.entries) }
+    {
+        let words = 2 * self.entries + self.rows;
+        let (a_p, a_i) = (matrix.a_p, matrix.a_i);
+        if !matrix.jumbled {
+            order_columns_lent(&mut self.memory, words, a_p, a_i, request, p, p_inv, info);
+            return;
+        }
+        self.transpose(p.len(), matrix);
+        let (c_p, c_i) = (&self.pointers, &self.columns);
+        order_columns_lent(&mut self.memory, words, c_p, c_i, request, p, p_inv, info);
+    }
 }

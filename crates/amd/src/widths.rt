@@ -5,7 +5,9 @@ ghost use Rattle.std.specs.Prelude.{◌≡◌, ◌<◌, ◌≤◌, ◌+◌, ◌*
 ghost use Rattle.std.specs.Prelude.{IfOk};
 ghost use Rattle.std.specs.Option.{option_copied};
 ghost use Rattle.std.specs.Vec.{vec_capacity};
+ghost use Rattle.amd_model.specs.Input.Columns.{IsColumnForm};
 ghost use Rattle.amd_model.specs.Input.Pattern.{is_pair};
+ghost use Rattle.amd_input.specs.Transposes.{IsCleanForm};
 ghost use Rattle.amd_lists.specs.Sizes.{AreWideEnough};
 ghost use Rattle.amd_lists.specs.Sizes.{bucket_count};
 ghost use Rattle.amd_types.specs.Naturals.{naturals};
@@ -130,6 +132,31 @@ impl<J: Index, S: Signed, P: Signed, U: Unsigned, A: Allocator + Copy> Workspace
         })
     }
 
+    /// Writes the transpose of a matrix with `size` rows that fits into the lists for it. The numbers of these hold the
+    /// rows and the entries. No memory is asked for.
+    ///
+    /// Source: AMD user guide.
+    pub fn transpose<I: Index>(&mut self, size: usize, matrix: &Matrix<'_, I>)
+        requires inside { (size ≤ self.old.rows) ×
+            (slice_index (naturals (map I.value matrix.now.a_p.now)) size ≤ self.old.entries) }
+        requires form { IsColumnForm (pos size) size (map I.value matrix.now.a_p.now) (map I.value matrix.now.a_i.now) }
+        requires names { J.fits (pos self.old.rows) × J.fits (pos self.old.entries) }
+        ensures clean { IsCleanForm size (map I.value matrix.now.a_p.now) (map I.value matrix.now.a_i.now)
+            (map J.value self.new.pointers.items) (map J.value self.new.columns.items) }
+        ensures few { length self.new.columns.items ≤ self.old.entries }
+        ensures made { (self.new.rows ≡ self.old.rows) × (self.new.entries ≡ self.old.entries) }
+    {
+        transpose_within(
+            size,
+            matrix.a_p,
+            matrix.a_i,
+            &mut self.memory.lists.w,
+            &mut self.memory.words.next,
+            &mut self.pointers,
+            &mut self.columns,
+        );
+    }
+
     /// Orders a matrix that fits, by its transpose where it is jumbled. It asks for no memory.
     ///
     /// Writes the permutation into `p` and its inverse into `p_inv`, which have a place for each row, and the figures
@@ -158,24 +185,8 @@ impl<J: Index, S: Signed, P: Signed, U: Unsigned, A: Allocator + Copy> Workspace
             order_columns(&mut self.memory, words, a_p, a_i, request, p, p_inv, info);
             return;
         }
-        transpose_within(
-            p.len(),
-            a_p,
-            a_i,
-            &mut self.memory.lists.w,
-            &mut self.memory.words.next,
-            &mut self.pointers,
-            &mut self.columns,
-        );
-        order_columns(
-            &mut self.memory,
-            words,
-            &self.pointers,
-            &self.columns,
-            request,
-            p,
-            p_inv,
-            info,
-        );
+        self.transpose(p.len(), matrix);
+        let (c_p, c_i) = (&self.pointers, &self.columns);
+        order_columns(&mut self.memory, words, c_p, c_i, request, p, p_inv, info);
     }
 }

@@ -13,9 +13,10 @@ ghost use Rattle.amd_input.specs.PatternFigures.{HasPatternFigures};
 ghost use Rattle.amd_workspace.specs.Lists.{HasRoom, HasRoomBeside};
 ghost use Rattle.amd.specs.Answers.{OrdersMatrix};
 ghost use Rattle.amd.specs.Within.{AreCounted, IsGiven};
+ghost use Rattle.amd_engine.specs.InPlace.{values};
 
 use crate::request::Request;
-use amd_engine::amd_1::order_within;
+use amd_engine::amd_1::{order_within, order_within_lent};
 use amd_engine::rows::Choice;
 use amd_input::aat::{DegreeCounter, aat_within};
 use amd_types::amd::Info;
@@ -97,4 +98,41 @@ pub fn order_sorted<I: Index, J: Index, S: Signed, P: Signed, U: Unsigned, A: Al
         flag: 2,
     };
     order_within(memory, a_p, a_i, room, &choice, p, p_inv, info);
+}
+
+/// As `order_sorted`, for a permutation of 32 bits in words of 32 bits: until the permutation and its inverse are
+/// written into them, `p` and `p_inv` serve as the lists of the numbers of rows and of elements. Those of the memory
+/// stay as they are.
+///
+/// Source: Amestoy, Davis and Duff 1996 and 2004.
+pub fn order_sorted_lent<J: Index, U: Unsigned, A: Allocator + Copy>(
+    memory: &mut Memory<i32, i32, U, A>,
+    a_p: &[J],
+    a_i: &[J],
+    room: usize,
+    request: &Request<'_>,
+    p: &mut [i32],
+    p_inv: &mut [i32],
+    info: &mut Info,
+)
+    requires given { IsGiven (option_copied request.now.hold) false (map J.value a_p.now) (map J.value a_i.now)
+        (length p.old) (length p_inv.old) }
+    requires counted { AreCounted (length p.old) (map J.value a_p.now) (map J.value a_i.now) room
+        memory.old.len.items }
+    requires figures { HasPatternFigures (length p.old) (map J.value a_p.now) (map J.value a_i.now) info.old }
+    requires room { HasRoomBeside (length p.old) room memory.old }
+    requires narrow { AreWideEnough 2147483647 2147483647 U.MOST (length p.old) room }
+    requires pointers { slice_index (naturals (map J.value a_p.now)) (length p.old) ≤ U.MOST }
+    ensures orders { OrdersMatrix (option_copied request.now.hold) (length p.old) request.now.control.now
+        (is_pair (length p.old) (map J.value a_p.now) (map J.value a_i.now)) (map J.value a_p.now)
+        (map J.value a_i.now) (values p.new) (values p_inv.new) info.new }
+    ensures status { info.new.status ≡ info.old.status }
+    ensures room { (n count : ℕ) → HasRoom n count memory.old → HasRoom n count memory.new }
+{
+    let choice = Choice {
+        control: request.control,
+        hold: request.hold,
+        flag: 2,
+    };
+    order_within_lent(memory, a_p, a_i, room, &choice, p, p_inv, info);
 }

@@ -13,6 +13,7 @@ ghost use Rattle.amd.specs.Blocks.{workspace_bytes, workspace_words};
 ghost use Rattle.amd_count_laws.specs.Within.{FitsIn};
 ghost use Rattle.amd.specs.Within.{IsCall, IsGivenBy, IsWithinRefusal, OrdersGiven};
 ghost use Rattle.amd.specs.Workspaces.{IsMadeFor, entries_of, rows_of, words_of};
+ghost use Rattle.amd_engine.specs.InPlace.{values};
 
 use crate::entrance::{class_of, jumbled_of};
 use crate::once::most_words;
@@ -176,6 +177,33 @@ impl<A: Allocator + Copy> Widths<A> {
     }
 }
 
+impl<A: Allocator + Copy> Widths<A> {
+    /// Orders a matrix of 32 bits that fits. Where its workspace has words of 32 bits, `p` and `p_inv` serve as two of
+    /// the lists until the permutation and its inverse are written into them.
+    pub fn order_lending(
+        &mut self,
+        matrix: &Matrix<'_, i32>,
+        request: &Request<'_>,
+        p: &mut [i32],
+        p_inv: &mut [i32],
+        info: &mut Info,
+    )
+        requires inside { (length p.old ≤ rows_of self.old) ×
+            (slice_index (naturals (values matrix.now.a_p.now)) (length p.old) ≤ entries_of self.old) }
+        requires given { IsGivenBy (λ x. x) matrix.now request.now (length p.old) (length p_inv.old) }
+        requires fits { length p.old < 2 ^ 31 }
+        ensures orders { OrdersGiven (λ x. x) matrix.now request.now (length p.old) (values p.new)
+            (values p_inv.new) info.new }
+        ensures status { info.new.status ≡ info.old.status }
+        ensures made { IsMadeFor (rows_of self.old) (entries_of self.old) self.new }
+    {
+        match self {
+            Widths::Narrow(lists) => lists.order_lending(matrix, request, p, p_inv, info),
+            _ => self.order(matrix, request, p, p_inv, info),
+        }
+    }
+}
+
 impl Workspace<Lodged> {
     /// The workspace of the orderings of all matrices with at most so many rows and entries, jumbled or not, in a block
     /// that the caller lends; none, exactly where it has fewer than [`crate::workspace_bytes`] bytes.
@@ -325,5 +353,45 @@ impl<A: Allocator + Copy> Workspace<A> {
     {
         let hold = Some(hold);
         self.order_marked(n, a_p, a_i, &Request { control, hold }, p, p_inv)
+    }
+
+    /// Orders as [`Workspace::order`] does, and where there are marks as [`Workspace::order_holding`], for numbers of 32
+    /// bits. Where the words of the workspace have 32 bits, `p` and `p_inv` serve as two of the lists until the
+    /// permutation and its inverse are written into them.
+    ///
+    /// # Errors
+    ///
+    /// As `order`, and with marks as `order_holding`.
+    ///
+    /// Source: AMD user guide; Amestoy, Davis and Duff 1996 and 2004.
+    pub fn order_narrow(
+        &mut self,
+        n: i32,
+        a_p: &[i32],
+        a_i: &[i32],
+        control: &Control,
+        hold: Option<&[bool]>,
+        p: &mut [i32],
+        p_inv: &mut [i32],
+    ) -> Result<Info, Refusal>
+        ensures ordering { IfOk result (λ info. IsOrderingHolding (option_copied hold.entry) n control.now.dense
+            control.now.aggressive (values a_p.now) (values a_i.now) (values p.new) (values p_inv.new) info) }
+        ensures inside { IfOk result (λ info. FitsIn n (values a_p.now) self.old.rows self.old.entries) }
+        ensures refusal { IfErr result (IsWithinRefusal (option_copied hold.entry) n (values a_p.now) (values a_i.now)
+            (values p.old) (values p_inv.old) self.old.rows self.old.entries) }
+        ensures kept { IfErr result (λ e. (p.new ≡ p.old) × (p_inv.new ≡ p_inv.old) × (self.new ≡ self.old)) }
+        ensures made { (self.new.rows ≡ self.old.rows) × (self.new.entries ≡ self.old.entries) }
+    {
+        let (size, status) = fitting_rows(n, a_p, a_i, hold, p, p_inv, self.rows, self.entries)?;
+        if size == 0 {
+            return Ok(Info::new(0));
+        }
+        let Some(jumbled) = jumbled_of(&status) else {
+            unreachable!()
+        };
+        let (request, mut told) = (Request { control, hold }, Info::new(size));
+        told.status = status;
+        self.widths.order_lending(&Matrix { a_p, a_i, jumbled }, &request, p, p_inv, &mut told);
+        Ok(told)
     }
 }

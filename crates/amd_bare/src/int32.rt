@@ -13,7 +13,7 @@ use amd_calls::factor_within::{columns_within, counts_within};
 use amd_calls::factors::number_of_end;
 use amd_calls::matrix::Matrix;
 use amd_calls::records::{Parameters, SaturatedNeed, Statistics};
-use amd_calls::within::{bytes_or_most, order_within};
+use amd_calls::within::{bytes_or_most, order_within_narrow};
 use amd_lent::Piece;
 
 /// How many bytes of a block an ordering takes, for every matrix with so many rows and entries; `SIZE_MAX` where that
@@ -72,7 +72,7 @@ pub extern "C" fn rimopaku_order_within_i32(
         (memory p.new p_inv.new statistics.new) result }
 {
     let matrix = Matrix { n, a_p, a_i };
-    order_within(matrix, parameters, None, lent, p, p_inv, statistics)
+    order_within_narrow(matrix, parameters, None, lent, p, p_inv, statistics)
 }
 
 /// Orders a matrix with rows held last in memory that is lent, as `order_holding` of the crate `amd`, and returns the
@@ -104,7 +104,7 @@ pub extern "C" fn rimopaku_order_holding_within_i32(
         (memory p.old p_inv.old statistics.old) (memory p.new p_inv.new statistics.new) result }
 {
     let matrix = Matrix { n, a_p, a_i };
-    order_within(matrix, parameters, Some(hold), lent, p, p_inv, statistics)
+    order_within_narrow(matrix, parameters, Some(hold), lent, p, p_inv, statistics)
 }
 
 /// Writes the columns of a factor in memory that is lent, as `columns` of the crate `amd_symbolic` returns them, and

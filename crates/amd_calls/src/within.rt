@@ -5,10 +5,11 @@ ghost use Rattle.std.specs.Prelude.{◌≡◌, map, min};
 ghost use Rattle.std.specs.Option.{option_copied};
 ghost use Rattle.amd.specs.Blocks.{workspace_bytes};
 ghost use Rattle.amd_calls.specs.Calls.{OrdersWithin, memory};
+ghost use Rattle.amd_engine.specs.InPlace.{values};
 
 use crate::matrix::Matrix;
 use crate::records::{Parameters, Statistics, control_of, number_of, tell};
-use amd::{Piece, Refusal, Status, order_in_block, workspace_bytes};
+use amd::{Piece, Refusal, Status, order_in_block, order_in_block_narrow, workspace_bytes};
 use num_traits::PrimInt;
 
 /// The bytes of a workspace in a block for so many rows and entries, or the greatest count where they are more.
@@ -47,6 +48,36 @@ pub fn order_within<I: PrimInt>(
     let Matrix { n, a_p, a_i } = matrix;
     let control = control_of(parameters);
     match order_in_block(block, n, a_p, a_i, &control, hold, p, p_inv) {
+        Ok(info) => tell(&info, statistics),
+        Err(Refusal::Invalid) => number_of(&Status::Invalid),
+        Err(Refusal::TooLarge) => number_of(&Status::OutOfMemory),
+    }
+}
+
+/// As `order_within`, for numbers of 32 bits. Where words of 32 bits hold all numbers, `p` and `p_inv` serve as two of
+/// the lists until the permutation and its inverse are written into them.
+///
+/// # Errors
+///
+/// As `order_within`.
+///
+/// Source: AMD user guide; Amestoy, Davis and Duff 1996 and 2004.
+pub fn order_within_narrow(
+    matrix: Matrix<'_, i32>,
+    parameters: &Parameters,
+    hold: Option<&[bool]>,
+    block: Piece,
+    p: &mut [i32],
+    p_inv: &mut [i32],
+    statistics: &mut Statistics,
+) -> i32
+    ensures { OrdersWithin (option_copied hold.entry) matrix.entry.n parameters.now (values matrix.entry.a_p.now)
+        (values matrix.entry.a_i.now) block.size (memory (values p.old) (values p_inv.old) statistics.old)
+        (memory (values p.new) (values p_inv.new) statistics.new) result }
+{
+    let Matrix { n, a_p, a_i } = matrix;
+    let control = control_of(parameters);
+    match order_in_block_narrow(block, n, a_p, a_i, &control, hold, p, p_inv) {
         Ok(info) => tell(&info, statistics),
         Err(Refusal::Invalid) => number_of(&Status::Invalid),
         Err(Refusal::TooLarge) => number_of(&Status::OutOfMemory),

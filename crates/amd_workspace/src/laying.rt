@@ -214,8 +214,8 @@ fn lower_lists<I: Index, S: Signed, U: Unsigned, A: Allocator + Copy>(
 /// Answers where the last one ends. Those of a pattern that has no entry above the diagonal are written by
 /// `lower_lists`, all others by `general_lists`. Behind the lists stand `size` words or more that name rows; the rest
 /// of the room is not written. What the memory held before, but for the degrees, is not read; it has room for `size`
-/// rows and `room` words, where none is needed for the numbers of rows and of elements, and keeps it; the lists of these
-/// stay as they are.
+/// rows and `room` words, where none is needed for the numbers of rows and of elements, and keeps it. The lists of
+/// these stay as they are.
 pub fn lay<I: Index, S: Signed, P: Signed, U: Unsigned, A: Allocator + Copy>(
     size: usize,
     a_p: &[I],

@@ -3,7 +3,7 @@
 // workspace no call asks for memory, seen by an allocator that counts. The refusals are those of the definitions.
 
 use crate::checks::check_chosen;
-use amd::{Control, Info, Refusal, Workspace, order, order_holding, workspace_bytes};
+use amd::{Control, Info, Refusal, Workspace, order, order_holding, order_marked, workspace_bytes};
 use amd_testing::check;
 use amd_testing::choices::CHOICES;
 use amd_testing::families::{Family, member};
@@ -66,6 +66,43 @@ fn check_order<A: Allocator + Copy>(
     Ok(())
 }
 
+/// The numbers in 32 bits.
+fn narrowed(alloc: Global, numbers: &[i64]) -> Result<Vec<i32>, AllocError> {
+    let mut narrow = Vec::new(alloc);
+    for &number in numbers {
+        narrow.push(i32::try_from(number).unwrap_or(0))?;
+    }
+    Ok(narrow)
+}
+
+/// Asserts that a workspace gives the answer of `order` in 32 bits, where the lists of the caller are two of its own.
+fn check_narrow<A: Allocator + Copy>(
+    rt: &impl Abort,
+    alloc: Global,
+    workspace: &mut Workspace<A>,
+    control: &Control,
+    a_p: &[i64],
+    a_i: &[i64],
+    hold: Option<&[bool]>,
+) -> Result<(), AllocError> {
+    let (b_p, b_i) = (narrowed(alloc, a_p)?, narrowed(alloc, a_i)?);
+    let size = b_p.len().saturating_sub(1);
+    let n = i32::try_from(size).unwrap_or(0);
+    let mut r = vec![in alloc; -7i32; size]?;
+    let mut r_inv = vec![in alloc; -7i32; size]?;
+    let Ok((p, p_inv, info)) = order_marked(alloc, n, &b_p, &b_i, control, hold) else {
+        panic!(rt; "no answer");
+    };
+    let again = workspace.order_narrow(n, &b_p, &b_i, control, hold, &mut r, &mut r_inv);
+    let Ok(other) = again else {
+        panic!(rt; "no answer in a workspace");
+    };
+    let is_ordered = r.as_slice() == p.as_slice() && r_inv.as_slice() == p_inv.as_slice();
+    let is_same = is_ordered && is_same_record(&other, &info);
+    check_chosen(rt, is_same, control, a_p, a_i);
+    Ok(())
+}
+
 /// Marks of about a fifth of the rows, drawn from a seed.
 fn drawn_marks(alloc: Global, seed: u64, size: usize) -> Result<Vec<bool>, AllocError> {
     let mut marks = Vec::new(alloc);
@@ -91,7 +128,8 @@ fn check_seed<A: Allocator + Copy>(
     };
     let hold = drawn_marks(alloc, number, a_p.len().saturating_sub(1))?;
     check_order(rt, alloc, workspace, control, &a_p, &a_i, None)?;
-    check_order(rt, alloc, workspace, control, &a_p, &a_i, Some(&hold))
+    check_order(rt, alloc, workspace, control, &a_p, &a_i, Some(&hold))?;
+    check_narrow(rt, alloc, workspace, control, &a_p, &a_i, Some(&hold))
 }
 
 /// Sizes from 1 to 40 rows follow each other, jumbled and sorted ones, in one workspace that asks for no memory.
@@ -126,6 +164,7 @@ fn families_in_workspaces_that_they_fit(rt: HostRuntime) -> Result<(), Fail> {
             let mut workspace = Workspace::new(alloc, a_p.len().saturating_sub(1), a_i.len())?;
             for control in &CHOICES {
                 check_order(&rt, alloc, &mut workspace, control, &a_p, &a_i, None)?;
+                check_narrow(&rt, alloc, &mut workspace, control, &a_p, &a_i, None)?;
             }
         }
     }
@@ -204,8 +243,31 @@ fn marks_that_are_not_one_for_each_row(rt: HostRuntime) -> Result<(), Fail> {
 #[test]
 fn no_rows(rt: HostRuntime) -> Result<(), Fail> {
     let mut workspace = Workspace::new(rt.alloc(), 0, 0)?;
-    let answer = workspace.order(0i64, &[7], &[], &Control::default(), &mut [], &mut []);
+    let control = Control::default();
+    let answer = workspace.order(0i64, &[7], &[], &control, &mut [], &mut []);
     check!(&rt; matches!(answer, Ok(info) if numbers_of(&info) == numbers_of(&Info::new(0))));
+    let answer = workspace.order_narrow(0, &[7], &[], &control, None, &mut [], &mut []);
+    check!(&rt; matches!(answer, Ok(info) if numbers_of(&info) == numbers_of(&Info::new(0))));
+    Ok(())
+}
+
+/// In 32 bits too a matrix that does not fit, and what is no input, are told apart, and the lists stay.
+#[test]
+fn refusals_in_32_bits(rt: HostRuntime) -> Result<(), Fail> {
+    let control = Control::default();
+    let (a_p, a_i) = ([0, 2, 3, 4, 4], [1, 3, 2, 3]);
+    let mut p = [-7; 4];
+    let mut p_inv = [-7; 4];
+    let mut small = Workspace::new(rt.alloc(), 4, 3)?;
+    let refused = small.order_narrow(4, &a_p, &a_i, &control, None, &mut p, &mut p_inv);
+    check!(&rt; refused.err() == Some(Refusal::TooLarge));
+    let mut workspace = Workspace::new(rt.alloc(), 4, 4)?;
+    let marks = Some([true; 3].as_slice());
+    let refused = workspace.order_narrow(4, &a_p, &a_i, &control, marks, &mut p, &mut p_inv);
+    check!(&rt; refused.err() == Some(Refusal::Invalid));
+    let refused = workspace.order_narrow(4, &a_p, &a_p, &control, None, &mut p, &mut p_inv);
+    check!(&rt; refused.err() == Some(Refusal::Invalid));
+    check!(&rt; p == [-7; 4] && p_inv == [-7; 4]);
     Ok(())
 }
 

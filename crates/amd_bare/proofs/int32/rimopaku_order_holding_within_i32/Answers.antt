@@ -7,7 +7,7 @@ use Rattle.amd_bare.proofs.int32.rimopaku_order_holding_within_i32.Goals as goal
 pub returns : goal.returns
 returns c =
     let a = c.args in
-    let order = c.order_within in
+    let order = c.order_within_narrow in
     orders_within (Some c.args.hold.now) _ a.n a.parameters.now a.a_p.now a.a_i.now a.lent.size a.p.now a.p_inv.now order.new.p
     order.new.p_inv
     a.statistics.now
