@@ -113,7 +113,8 @@ fn drawn_marks(alloc: Global, seed: u64, size: usize) -> Result<Vec<bool>, Alloc
     Ok(marks)
 }
 
-/// Orders a drawn matrix of a family in the workspace, with one of the choices, and again with drawn rows held.
+/// Orders a drawn matrix of a family in the workspace, with one of the choices, and again with drawn rows held; in 32
+/// bits with these for every other seed.
 fn check_seed<A: Allocator + Copy>(
     rt: &impl Abort,
     alloc: Global,
@@ -127,9 +128,11 @@ fn check_seed<A: Allocator + Copy>(
         panic!(rt; "six choices");
     };
     let hold = drawn_marks(alloc, number, a_p.len().saturating_sub(1))?;
+    let marks = Some(hold.as_slice());
     check_order(rt, alloc, workspace, control, &a_p, &a_i, None)?;
-    check_order(rt, alloc, workspace, control, &a_p, &a_i, Some(&hold))?;
-    check_narrow(rt, alloc, workspace, control, &a_p, &a_i, Some(&hold))
+    check_order(rt, alloc, workspace, control, &a_p, &a_i, marks)?;
+    let narrow_marks = if seed % 2 == 0 { marks } else { None };
+    check_narrow(rt, alloc, workspace, control, &a_p, &a_i, narrow_marks)
 }
 
 /// Sizes from 1 to 40 rows follow each other, jumbled and sorted ones, in one workspace that asks for no memory.
@@ -164,7 +167,6 @@ fn families_in_workspaces_that_they_fit(rt: HostRuntime) -> Result<(), Fail> {
             let mut workspace = Workspace::new(alloc, a_p.len().saturating_sub(1), a_i.len())?;
             for control in &CHOICES {
                 check_order(&rt, alloc, &mut workspace, control, &a_p, &a_i, None)?;
-                check_narrow(&rt, alloc, &mut workspace, control, &a_p, &a_i, None)?;
             }
         }
     }
