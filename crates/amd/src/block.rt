@@ -1,36 +1,49 @@
 // An ordering of one matrix in memory that a caller lends: nothing but the input and the size of the block is a reason
 // to refuse. Source: AMD user guide; Amestoy, Davis and Duff 1996 and 2004.
 
-ghost use Rattle.std.specs.Prelude.{◌≡◌, ◌≤◌, ◌<◌, map, MatchOption, IfOk, IfErr};
+ghost use Rattle.std.specs.Prelude.{◌≡◌, ◌≤◌, ◌<◌, ◌^◌, ℕ, true, false, pos, map, length, slice_index};
+ghost use Rattle.std.specs.Prelude.{MatchOption, IfOk, IfErr};
 ghost use Rattle.std.specs.Option.{option_copied};
 ghost use Rattle.amd.specs.Answers.{IsOrderingHolding};
-ghost use Rattle.amd.specs.Blocks.{FitsInBlock, IsBlockRefusal, workspace_bytes};
+ghost use Rattle.amd.specs.Blocks.{FitsInBlock, IsBlockRefusal, is_narrow, workspace_bytes};
+ghost use Rattle.amd.specs.Within.{IsGivenBy, OrdersGiven};
 ghost use Rattle.amd.specs.Workspaces.{IsMadeFor};
 ghost use Rattle.amd_engine.specs.InPlace.{values};
+ghost use Rattle.amd_types.specs.Naturals.{naturals};
 
 use crate::entrance::jumbled_of;
-use crate::lent::{fours, is_narrow, workspace_bytes};
+use crate::lent::{fours, is_narrow, sorted_memory, sorted_words, workspace_bytes};
+use crate::narrow::order_columns_lent;
 use crate::refusal::Refusal;
 use crate::request::{Matrix, Request};
-use crate::widths::WorkspaceIn;
+use crate::widths::{WorkspaceIn, order_columns};
 use crate::workspace::{Widths, valid_rows};
 use amd_lent::{Lodged, Piece};
 use amd_types::amd::{Control, Info};
+use amd_types::index::Index;
 use amd_types::internal::count_at;
 use num_traits::PrimInt;
 
+/// The block, where it has the bytes of a workspace for so many rows and entries.
+fn enough(block: Piece, rows: usize, entries: usize) -> Option<Piece>
+    ensures { MatchOption result (block.size < workspace_bytes rows entries)
+        (λ b. (workspace_bytes rows entries ≤ b.size) × (b.size ≡ block.size)) }
+{
+    let (size, block) = block.with_size();
+    if workspace_bytes(rows, entries)? > size {
+        return None;
+    }
+    Some(block)
+}
+
 impl Widths<Lodged> {
-    /// The lists of a workspace for so many rows and entries in a block; none, exactly where it has too few bytes.
-    pub fn in_block(block: Piece, rows: usize, entries: usize) -> Option<Widths<Lodged>>
-        ensures { MatchOption result (block.size < workspace_bytes rows entries)
-            (λ w. (workspace_bytes rows entries ≤ block.size) × IsMadeFor rows entries w) }
+    /// The lists of a workspace for so many rows and entries in a block with the bytes for them.
+    fn laid_in(block: Piece, rows: usize, entries: usize) -> Widths<Lodged>
+        requires bytes { workspace_bytes rows entries ≤ block.size }
+        ensures { IsMadeFor rows entries result }
     {
-        let (size, block) = block.with_size();
-        if workspace_bytes(rows, entries)? > size {
-            return None;
-        }
         let (row_places, entry_places) = (fours(rows), fours(entries));
-        Some(if is_narrow(rows, entries) {
+        if is_narrow(rows, entries) {
             let (part, entries_part) = (4 * row_places, 4 * entry_places);
             let lists = WorkspaceIn::in_block(block, rows, entries, 4, part, entries_part);
             Widths::Narrow(lists)
@@ -38,8 +51,84 @@ impl Widths<Lodged> {
             let (part, entries_part) = (8 * row_places, 8 * entry_places);
             let lists = WorkspaceIn::in_block(block, rows, entries, 8, part, entries_part);
             Widths::Wide(lists)
-        })
+        }
     }
+
+    /// The lists of a workspace for so many rows and entries in a block; none, exactly where it has too few bytes.
+    pub fn in_block(block: Piece, rows: usize, entries: usize) -> Option<Widths<Lodged>>
+        ensures { MatchOption result (block.size < workspace_bytes rows entries)
+            (λ w. (workspace_bytes rows entries ≤ block.size) × IsMadeFor rows entries w) }
+    {
+        let block = enough(block, rows, entries)?;
+        Some(Widths::laid_in(block, rows, entries))
+    }
+}
+
+/// Whether a matrix has sorted columns, and each word of its lists in a block is narrow.
+fn is_sorted_and_narrow<I>(matrix: &Matrix<'_, I>, rows: usize, entries: usize) -> bool
+    ensures { result ≡ true → (matrix.now.jumbled ≡ false) × (is_narrow rows entries ≡ true) }
+{
+    !matrix.jumbled && is_narrow(rows, entries)
+}
+
+/// Orders a matrix in a block with the bytes for it. One with sorted columns needs no transpose: where its words are
+/// narrow, the lists have the place of that too, and so as many words as in `order`.
+fn order_fitting<I: Index>(
+    block: Piece,
+    matrix: &Matrix<'_, I>,
+    request: &Request<'_>,
+    p: &mut [I],
+    p_inv: &mut [I],
+    info: &mut Info,
+)
+    requires bytes { workspace_bytes (length p.old)
+        (slice_index (naturals (map I.value matrix.now.a_p.now)) (length p.old)) ≤ block.size }
+    requires given { IsGivenBy I.value matrix.now request.now (length p.old) (length p_inv.old) }
+    requires fits { (k : ℕ) → k < length p.old → I.fits (pos k) }
+    ensures orders { OrdersGiven I.value matrix.now request.now (length p.old) (map I.value p.new)
+        (map I.value p_inv.new) info.new }
+    ensures status { info.new.status ≡ info.old.status }
+{
+    let (rows, a_p, a_i) = (p.len(), matrix.a_p, matrix.a_i);
+    let entries = count_at(a_p, rows);
+    if is_sorted_and_narrow(matrix, rows, entries) {
+        let words = sorted_words(rows, entries);
+        let mut memory = sorted_memory(block, rows, entries, words);
+        order_columns(&mut memory, words, a_p, a_i, request, p, p_inv, info);
+        return;
+    }
+    let mut widths = Widths::laid_in(block, rows, entries);
+    widths.order(matrix, request, p, p_inv, info);
+}
+
+/// As `order_fitting`, for a matrix of 32 bits: where its words are narrow, `p` and `p_inv` serve as two of the lists
+/// until the permutation and its inverse are written into them.
+fn order_fitting_lent(
+    block: Piece,
+    matrix: &Matrix<'_, i32>,
+    request: &Request<'_>,
+    p: &mut [i32],
+    p_inv: &mut [i32],
+    info: &mut Info,
+)
+    requires bytes { workspace_bytes (length p.old)
+        (slice_index (naturals (values matrix.now.a_p.now)) (length p.old)) ≤ block.size }
+    requires given { IsGivenBy (λ x. x) matrix.now request.now (length p.old) (length p_inv.old) }
+    requires fits { length p.old < 2 ^ 31 }
+    ensures orders { OrdersGiven (λ x. x) matrix.now request.now (length p.old) (values p.new) (values p_inv.new)
+        info.new }
+    ensures status { info.new.status ≡ info.old.status }
+{
+    let (rows, a_p, a_i) = (p.len(), matrix.a_p, matrix.a_i);
+    let entries = count_at(a_p, rows);
+    if is_sorted_and_narrow(matrix, rows, entries) {
+        let words = sorted_words(rows, entries);
+        let mut memory = sorted_memory(block, rows, entries, words);
+        order_columns_lent(&mut memory, words, a_p, a_i, request, p, p_inv, info);
+        return;
+    }
+    let mut widths = Widths::laid_in(block, rows, entries);
+    widths.order_lending(matrix, request, p, p_inv, info);
 }
 
 /// Orders the rows of a square matrix, as [`crate::order_marked`] does, in memory that the caller lends: in a block of
@@ -85,12 +174,12 @@ pub fn order_in_block<I: PrimInt>(
     let Some(jumbled) = jumbled_of(&status) else {
         unreachable!()
     };
-    let Some(mut widths) = Widths::in_block(block, size, count_at(a_p, size)) else {
+    let Some(block) = enough(block, size, count_at(a_p, size)) else {
         return Err(Refusal::TooLarge);
     };
     info.status = status;
-    let request = Request { control, hold };
-    widths.order(&Matrix { a_p, a_i, jumbled }, &request, p, p_inv, &mut info);
+    let (matrix, request) = (Matrix { a_p, a_i, jumbled }, Request { control, hold });
+    order_fitting(block, &matrix, &request, p, p_inv, &mut info);
     Ok(info)
 }
 
@@ -128,11 +217,12 @@ pub fn order_in_block_narrow(
     let Some(jumbled) = jumbled_of(&status) else {
         unreachable!()
     };
-    let Some(mut widths) = Widths::in_block(block, size, count_at(a_p, size)) else {
+    let Some(block) = enough(block, size, count_at(a_p, size)) else {
         return Err(Refusal::TooLarge);
     };
-    let (request, mut info) = (Request { control, hold }, Info::new(size));
+    let mut info = Info::new(size);
     info.status = status;
-    widths.order_lending(&Matrix { a_p, a_i, jumbled }, &request, p, p_inv, &mut info);
+    let (matrix, request) = (Matrix { a_p, a_i, jumbled }, Request { control, hold });
+    order_fitting_lent(block, &matrix, &request, p, p_inv, &mut info);
     Ok(info)
 }

@@ -1,7 +1,7 @@
 // The lists of a workspace in memory that a caller lends: they lie side by side in one block, and each takes whole
 // units of 16 bytes. Source: Amestoy, Davis and Duff 1996 and 2004 (the arrays of the quotient graph).
 
-ghost use Rattle.std.specs.Prelude.{◌≡◌, ◌≤◌, ◌<◌, ◌+◌, ◌*◌, ◌/◌, ◌^◌, MatchOption};
+ghost use Rattle.std.specs.Prelude.{◌≡◌, ◌≤◌, ◌<◌, ◌+◌, ◌*◌, ◌/◌, ◌^◌, true};
 ghost use Rattle.std.specs.Mem.{type_size};
 ghost use Rattle.std.specs.Option.{SomeIff};
 ghost use Rattle.amd_lent.specs.Pieces.{IsWhole};
@@ -45,6 +45,17 @@ pub fn workspace_bytes(rows: usize, entries: usize) -> Option<usize>
     let width: u128 = if is_narrow(rows, entries) { 4 } else { 8 };
     let words = 3 * ((entries as u128 + 3) / 4 * 4) + 12 * ((rows as u128 + 3) / 4 * 4) + 4;
     usize::try_from(width * words).ok()
+}
+
+/// How many words a matrix with sorted columns has in a block of narrow words: as many as `order` takes, where a place
+/// among so many has 32 bits. They take the place of the transpose too.
+pub fn sorted_words(rows: usize, entries: usize) -> usize
+    requires narrow { is_narrow rows entries ≡ true }
+    ensures enough { list_words rows entries ≤ result }
+    ensures few { result ≤ 2147483645 }
+    ensures inside { result ≤ 3 * entries + rows }
+{
+    (2 * entries + 2 * entries / 5 + rows).min(2_147_483_645)
 }
 
 /// The lists with a place for each row but the numbers of rows and of elements, and that of the buckets, in the first
@@ -112,6 +123,23 @@ fn memory_in<S: Signed, P: Signed, U: Unsigned>(
         },
         block,
     )
+}
+
+/// The memory of an elimination of a matrix with sorted columns, in so many words, in a block of narrow words.
+pub fn sorted_memory(
+    block: Piece,
+    rows: usize,
+    entries: usize,
+    words: usize,
+) -> Memory<i32, i32, u32, Lodged>
+    requires narrow { is_narrow rows entries ≡ true }
+    requires words { words ≤ 3 * entries + rows }
+    requires bytes { workspace_bytes rows entries ≤ block.size }
+    ensures room { HasRoom rows words result }
+{
+    let (part, entries_part) = (4 * fours(rows), 4 * fours(entries));
+    let (memory, _) = memory_in(block, rows, words, 4, part, 3 * entries_part + part);
+    memory
 }
 
 impl<J: Index, S: Signed, P: Signed, U: Unsigned> WorkspaceIn<J, S, P, U, Lodged> {

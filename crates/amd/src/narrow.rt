@@ -170,7 +170,7 @@ pub fn order_into_narrow<A: Allocator + Copy>(
 
 /// Orders a matrix with sorted columns in memory for so many words: in as many of them as upstream takes, or in all.
 /// The lists of the numbers of rows and of elements of the memory are not used.
-fn order_columns_lent<J: Index, A: Allocator + Copy>(
+pub fn order_columns_lent<J: Index, A: Allocator + Copy>(
     memory: &mut Memory<i32, i32, u32, A>,
     words: usize,
     a_p: &[J],

@@ -29,7 +29,7 @@ use std::alloc::{AllocError, Allocator};
 /// Orders a matrix with sorted columns in memory for so many words: in as many of them as upstream takes, or in all.
 ///
 /// Source: AMD user guide; Amestoy, Davis and Duff 1996 and 2004.
-fn order_columns<I: Index, J: Index, S: Signed, P: Signed, U: Unsigned, A: Allocator + Copy>(
+pub fn order_columns<I: Index, J: Index, S: Signed, P: Signed, U: Unsigned, A: Allocator + Copy>(
     memory: &mut Memory<S, P, U, A>,
     words: usize,
     a_p: &[J],

@@ -175,9 +175,7 @@ impl<A: Allocator + Copy> Widths<A> {
             Widths::Wide(lists) => lists.order(matrix, request, p, p_inv, info),
         }
     }
-}
 
-impl<A: Allocator + Copy> Widths<A> {
     /// Orders a matrix of 32 bits that fits. Where its workspace has words of 32 bits, `p` and `p_inv` serve as two of
     /// the lists until the permutation and its inverse are written into them.
     pub fn order_lending(
@@ -355,13 +353,45 @@ impl<A: Allocator + Copy> Workspace<A> {
         self.order_marked(n, a_p, a_i, &Request { control, hold }, p, p_inv)
     }
 
-    /// Orders as [`Workspace::order`] does, and where there are marks as [`Workspace::order_holding`], for numbers of 32
-    /// bits. Where the words of the workspace have 32 bits, `p` and `p_inv` serve as two of the lists until the
-    /// permutation and its inverse are written into them.
+    /// Orders as `order_narrow` and, where there are marks, as `order_holding_narrow`.
+    fn order_marked_narrow(
+        &mut self,
+        n: i32,
+        a_p: &[i32],
+        a_i: &[i32],
+        request: &Request<'_>,
+        p: &mut [i32],
+        p_inv: &mut [i32],
+    ) -> Result<Info, Refusal>
+        ensures ordering { IfOk result (λ info. IsOrderingHolding (option_copied request.now.hold) n
+            request.now.control.now.dense request.now.control.now.aggressive (values a_p.now) (values a_i.now)
+            (values p.new) (values p_inv.new) info) }
+        ensures inside { IfOk result (λ info. FitsIn n (values a_p.now) self.old.rows self.old.entries) }
+        ensures refusal { IfErr result (IsWithinRefusal (option_copied request.now.hold) n (values a_p.now)
+            (values a_i.now) (values p.old) (values p_inv.old) self.old.rows self.old.entries) }
+        ensures kept { IfErr result (λ e. (p.new ≡ p.old) × (p_inv.new ≡ p_inv.old) × (self.new ≡ self.old)) }
+        ensures made { (self.new.rows ≡ self.old.rows) × (self.new.entries ≡ self.old.entries) }
+    {
+        let hold = request.hold;
+        let (size, status) = fitting_rows(n, a_p, a_i, hold, p, p_inv, self.rows, self.entries)?;
+        if size == 0 {
+            return Ok(Info::new(0));
+        }
+        let Some(jumbled) = jumbled_of(&status) else {
+            unreachable!()
+        };
+        let mut told = Info::new(size);
+        told.status = status;
+        self.widths.order_lending(&Matrix { a_p, a_i, jumbled }, request, p, p_inv, &mut told);
+        Ok(told)
+    }
+
+    /// Orders as [`Workspace::order`] does, for numbers of 32 bits. Where the words of the workspace have 32 bits, `p`
+    /// and `p_inv` serve as two of the lists until the permutation and its inverse are written into them.
     ///
     /// # Errors
     ///
-    /// As `order`, and with marks as `order_holding`.
+    /// As `order`.
     ///
     /// Source: AMD user guide; Amestoy, Davis and Duff 1996 and 2004.
     pub fn order_narrow(
@@ -370,28 +400,50 @@ impl<A: Allocator + Copy> Workspace<A> {
         a_p: &[i32],
         a_i: &[i32],
         control: &Control,
-        hold: Option<&[bool]>,
         p: &mut [i32],
         p_inv: &mut [i32],
     ) -> Result<Info, Refusal>
-        ensures ordering { IfOk result (λ info. IsOrderingHolding (option_copied hold.entry) n control.now.dense
+        ensures ordering { IfOk result (λ info. IsOrdering n control.now.dense control.now.aggressive
+            (values a_p.now) (values a_i.now) (values p.new) (values p_inv.new) info) }
+        ensures inside { IfOk result (λ info. FitsIn n (values a_p.now) self.old.rows self.old.entries) }
+        ensures refusal { IfErr result (IsWithinRefusal None n (values a_p.now) (values a_i.now) (values p.old)
+            (values p_inv.old) self.old.rows self.old.entries) }
+        ensures kept { IfErr result (λ e. (p.new ≡ p.old) × (p_inv.new ≡ p_inv.old) × (self.new ≡ self.old)) }
+        ensures made { (self.new.rows ≡ self.old.rows) × (self.new.entries ≡ self.old.entries) }
+    {
+        let hold = None;
+        self.order_marked_narrow(n, a_p, a_i, &Request { control, hold }, p, p_inv)
+    }
+
+    /// Orders as [`Workspace::order_holding`] does, for numbers of 32 bits, in the way of [`Workspace::order_narrow`].
+    ///
+    /// # Errors
+    ///
+    /// As `order_holding`.
+    ///
+    /// Source: AMD user guide; Amestoy, Davis and Duff 1996 and 2004.
+    pub fn order_holding_narrow(
+        &mut self,
+        n: i32,
+        a_p: &[i32],
+        a_i: &[i32],
+        control: &Control,
+        hold: &[bool],
+        p: &mut [i32],
+        p_inv: &mut [i32],
+    ) -> Result<Info, Refusal>
+        ensures ordering { IfOk result (λ info. IsOrderingHolding (Some hold.now) n control.now.dense
             control.now.aggressive (values a_p.now) (values a_i.now) (values p.new) (values p_inv.new) info) }
         ensures inside { IfOk result (λ info. FitsIn n (values a_p.now) self.old.rows self.old.entries) }
-        ensures refusal { IfErr result (IsWithinRefusal (option_copied hold.entry) n (values a_p.now) (values a_i.now)
+        ensures refusal { IfErr result (IsWithinRefusal (Some hold.now) n (values a_p.now) (values a_i.now)
             (values p.old) (values p_inv.old) self.old.rows self.old.entries) }
         ensures kept { IfErr result (λ e. (p.new ≡ p.old) × (p_inv.new ≡ p_inv.old) × (self.new ≡ self.old)) }
         ensures made { (self.new.rows ≡ self.old.rows) × (self.new.entries ≡ self.old.entries) }
     {
-        let (size, status) = fitting_rows(n, a_p, a_i, hold, p, p_inv, self.rows, self.entries)?;
-        if size == 0 {
-            return Ok(Info::new(0));
-        }
-        let Some(jumbled) = jumbled_of(&status) else {
-            unreachable!()
+        let request = Request {
+            control,
+            hold: Some(hold),
         };
-        let (request, mut told) = (Request { control, hold }, Info::new(size));
-        told.status = status;
-        self.widths.order_lending(&Matrix { a_p, a_i, jumbled }, &request, p, p_inv, &mut told);
-        Ok(told)
+        self.order_marked_narrow(n, a_p, a_i, &request, p, p_inv)
     }
 }

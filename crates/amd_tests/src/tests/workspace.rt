@@ -93,7 +93,11 @@ fn check_narrow<A: Allocator + Copy>(
     let Ok((p, p_inv, info)) = order_marked(alloc, n, &b_p, &b_i, control, hold) else {
         panic!(rt; "no answer");
     };
-    let again = workspace.order_narrow(n, &b_p, &b_i, control, hold, &mut r, &mut r_inv);
+    let (q, q_inv) = (r.as_mut_slice(), r_inv.as_mut_slice());
+    let again = match hold {
+        Some(marks) => workspace.order_holding_narrow(n, &b_p, &b_i, control, marks, q, q_inv),
+        None => workspace.order_narrow(n, &b_p, &b_i, control, q, q_inv),
+    };
     let Ok(other) = again else {
         panic!(rt; "no answer in a workspace");
     };
@@ -248,7 +252,7 @@ fn no_rows(rt: HostRuntime) -> Result<(), Fail> {
     let control = Control::default();
     let answer = workspace.order(0i64, &[7], &[], &control, &mut [], &mut []);
     check!(&rt; matches!(answer, Ok(info) if numbers_of(&info) == numbers_of(&Info::new(0))));
-    let answer = workspace.order_narrow(0, &[7], &[], &control, None, &mut [], &mut []);
+    let answer = workspace.order_narrow(0, &[7], &[], &control, &mut [], &mut []);
     check!(&rt; matches!(answer, Ok(info) if numbers_of(&info) == numbers_of(&Info::new(0))));
     Ok(())
 }
@@ -261,13 +265,15 @@ fn refusals_in_32_bits(rt: HostRuntime) -> Result<(), Fail> {
     let mut p = [-7; 4];
     let mut p_inv = [-7; 4];
     let mut small = Workspace::new(rt.alloc(), 4, 3)?;
-    let refused = small.order_narrow(4, &a_p, &a_i, &control, None, &mut p, &mut p_inv);
+    let refused = small.order_narrow(4, &a_p, &a_i, &control, &mut p, &mut p_inv);
     check!(&rt; refused.err() == Some(Refusal::TooLarge));
     let mut workspace = Workspace::new(rt.alloc(), 4, 4)?;
-    let marks = Some([true; 3].as_slice());
-    let refused = workspace.order_narrow(4, &a_p, &a_i, &control, marks, &mut p, &mut p_inv);
+    let marks = [true; 3];
+    let refused = workspace.order_holding_narrow(
+        4, &a_p, &a_i, &control, &marks, &mut p, &mut p_inv,
+    );
     check!(&rt; refused.err() == Some(Refusal::Invalid));
-    let refused = workspace.order_narrow(4, &a_p, &a_p, &control, None, &mut p, &mut p_inv);
+    let refused = workspace.order_narrow(4, &a_p, &a_p, &control, &mut p, &mut p_inv);
     check!(&rt; refused.err() == Some(Refusal::Invalid));
     check!(&rt; p == [-7; 4] && p_inv == [-7; 4]);
     Ok(())

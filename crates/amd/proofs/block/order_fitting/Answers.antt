@@ -1,0 +1,8 @@
+use Rattle.std.proofs.Common.{arith, length}
+use Rattle.amd_edges.proofs.Forms.{pointer_read}
+use Rattle.amd.proofs.block.order_fitting.Goals as goal
+
+pub count_at-entries-requires-clause-fits : goal.count_at-entries-requires-clause-fits
+count_at-entries-requires-clause-fits g c = let m = c.args.matrix.now in
+    (pointer_read g.I.Index.value m.a_p.now m.a_i.now (length c.args.p.now) c.requires.given.form (length c.args.p.now) (omega arith)
+    (omega (arith, c.well_formed))).1
