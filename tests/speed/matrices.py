@@ -1,6 +1,6 @@
 #!/usr/bin/env python3
 """Writes the matrices that docs/BENCHMARKS.md names: matrices.py FOLDER [--seed N] [NAME..]. A name not given: all but those of the growth.
-`others` is the name of all kinds of `kinds.py`, to which nothing was tuned; they are drawn from the seed N, or from 1.
+`others` is the name of all kinds of `kinds.py`, and `later` that of all kinds of `later.py`; they are drawn from the seed N, or from 1.
 
 A file has the number of rows, that of entries and the pointers in 64 bits, and the rows in 32, little endian."""
 import array
@@ -8,6 +8,7 @@ import os
 import sys
 
 import kinds
+import later
 
 
 class Draws:
@@ -296,9 +297,10 @@ def main(folder, *words):
         at = words.index("--seed")
         seed = int(words[at + 1])
         del words[at:at + 2]
-    others = {name: lambda kind=kind: kind(seed) for name, kind in {**kinds.KINDS, **kinds.TINY}.items()}
-    every = {**ALL, **others}
-    names = [name for word in words for name in (others if word == "others" else [word])]
+    groups = {"others": {**kinds.KINDS, **kinds.TINY}, "later": later.KINDS}
+    seeded = {name: lambda kind=kind: kind(seed) for group in groups.values() for name, kind in group.items()}
+    every = {**ALL, **seeded}
+    names = [name for word in words for name in groups.get(word, [word])]
     for name in names or [it for it in every if it not in GROWTH]:
         try:
             write(os.path.join(folder, name), every[name]())

@@ -47,8 +47,8 @@ pub fn workspace_bytes(rows: usize, entries: usize) -> Option<usize>
     usize::try_from(width * words).ok()
 }
 
-/// How many words a matrix with sorted columns has in a block of narrow words: as many as `order` takes, where a place
-/// among so many has 32 bits. They take the place of the transpose too.
+/// How many words a matrix with sorted columns has in a block of narrow words: at least as many as `order` takes, where
+/// a place among so many has 32 bits. They take the place of the transpose too.
 pub fn sorted_words(rows: usize, entries: usize) -> usize
     requires narrow { is_narrow rows entries ≡ true }
     ensures enough { list_words rows entries ≤ result }

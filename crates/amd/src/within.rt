@@ -29,8 +29,8 @@ use std::mem::replace;
 /// Counts the degree of each of `size` rows into the memory, and answers their sum; writes the figures of the pattern.
 ///
 /// The input is a column form with `size` rows and columns, each of which is strictly ascending. The memory has room
-/// for so many rows, but maybe none for the numbers of rows, and keeps it. A cell can hold `size` and the number
-/// of entries.
+/// for so many rows, but maybe none for the numbers of rows and of elements, and keeps it. A cell can hold `size`
+/// and the number of entries.
 ///
 /// Source: AMD user guide; Amestoy, Davis and Duff 2004.
 pub fn count_degrees<J: Index, S: Signed, P: Signed, U: Unsigned, A: Allocator + Copy>(

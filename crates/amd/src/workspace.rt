@@ -221,10 +221,10 @@ impl Workspace<Lodged> {
 impl<A: Allocator + Copy> Workspace<A> {
     /// Takes the memory of the orderings of all matrices with at most so many rows and entries, jumbled or not.
     ///
-    /// These are three words for each entry, eleven for each row and one for each sixteen rows begun, and one, of 32
-    /// bits each where that is wide enough: two for each entry and one for each row for the lists of neighbours, nine
-    /// lists of a word for each row, the buckets, and the transpose of a jumbled matrix. The lists have room for so
-    /// many, and no more. A call that follows asks for none.
+    /// These are `workspace_words(rows, entries)`: three words for each entry, eleven for each row and one for each
+    /// sixteen rows begun, and one, of 32 bits each where that is wide enough. They are two for each entry and one for
+    /// each row for the lists of neighbours, nine lists of a word for each row, the buckets, and the transpose of a
+    /// jumbled matrix. The lists have room for so many, and no more. A call that follows asks for none.
     ///
     /// # Errors
     ///

@@ -1,7 +1,7 @@
-// Tests a forest that a caller hands in, and writes its postorder into a caller's array: the body of the exported
-// functions, for any integer type. The walk of the test climbs from each place until it meets a place that an earlier
-// walk marked; where it meets its own mark, the place is above itself. The array is written last, so it stays as it was
-// where there is no forest.
+// Tests a forest that a caller hands in, and writes its postorder into a caller's array, for any integer type. The walk
+// of the test climbs from each place until it meets a place that an earlier walk marked; where it meets its own mark,
+// the place is above itself. The array is written last, so it stays as it was where there is no forest. Source: Liu
+// 1990 (elimination tree, postorder).
 
 ghost use Rattle.std.specs.Prelude.{◌≡◌, ◌≢◌, ◌+◌, ◌<◌, ◌^◌, ◌↔◌, ◌⊎◌, ℕ, IsTrue, IfOk, IfErr, IfSome, MatchResult};
 ghost use Rattle.std.specs.Prelude.{length, map, slice_index, true};

@@ -1,4 +1,4 @@
-// The exports for `int32_t`. Each is a thin call of `writing`, `factors` or the crate `amd`, and says its contract
+// The exports for `int32_t`. Each hands its arguments on as slices and records, and says the contract of that call
 // again.
 
 ghost use Rattle.std.specs.Prelude.{◌≡◌, ◌<◌, ◌+◌, ◌^◌, ℕ, negsuc, pos, List, None, Some, length};

@@ -1,5 +1,5 @@
-// Eliminates the rows of lists that a caller laid, in the caller's workspace, into the caller's arrays: the body of the
-// exported function. The arrays and the record are written last.
+// Eliminates the rows of lists that a caller laid, in the caller's workspace, into the caller's arrays. The arrays and
+// the record are written last. Source: Amestoy, Davis and Duff 2004.
 
 ghost use Rattle.std.specs.Prelude.{◌≡◌, ◌<◌, ◌≤◌, ◌+◌, ℕ, pos, List, length};
 ghost use Rattle.amd_model.specs.Graph.{Graph};

@@ -1,5 +1,5 @@
 //! The library as C calls it: `order`, `order_holding`, `valid`, `aat` and `preprocess` of the crate `amd`, `columns`,
-//! `counts` and `supernodes` of the crate `amd_symbolic`, and `amd_2` of the crate `amd_engine`, for `int32_t`
+//! `counts` and `supernodes` of the crate `amd_factor`, and `amd_2` of the crate `amd_engine`, for `int32_t`
 //! ([`int32`]) and `int64_t` ([`int64`]).
 //!
 //! A slice crosses as a pointer and a length, and a record by its address. An ordering is written into the caller's

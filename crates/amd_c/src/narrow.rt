@@ -1,5 +1,5 @@
 // Eliminates the rows of lists that a caller laid in numbers of 32 bits, in copies of these lists, whose words have 32
-// bits too: the body of the exported function. All of the caller's arrays are written last.
+// bits too. All of the caller's arrays are written last. Source: Amestoy, Davis and Duff 2004.
 
 ghost use Rattle.std.specs.Prelude.{◌≡◌, ◌<◌, ◌≤◌, ◌+◌, ◌^◌, ℕ, pos, true, List, None, length, take, IfOk, IfErr, OnOk};
 ghost use Rattle.amd_model.specs.Graph.{Graph};

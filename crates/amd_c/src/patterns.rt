@@ -1,5 +1,5 @@
-// Writes the degrees of a matrix, and its row form, into a caller's arrays: the bodies of the exported functions, for
-// any integer type. The arrays and the record are written last, so they stay as they were where there is a fault.
+// Writes the degrees of a matrix, and its row form, into a caller's arrays, for any integer type. The arrays and the
+// record are written last, so they stay as they were where there is a fault. Source: AMD user guide.
 
 ghost use Rattle.std.specs.Prelude.{◌↔◌, IsTrue, map};
 ghost use Rattle.amd_c.specs.Patterns.{HasPointerPlaces, HasRowPlaces, IsSortedForm, LeavesDegrees, LeavesRowForm};

@@ -1,6 +1,6 @@
-// Writes the supernodes of a factor into a caller's arrays, and how much room they need into a record: the bodies of
-// the exported functions, for any integer type. The arrays and the record are written last, so they stay as they were
-// where there is a fault.
+// Writes the supernodes of a factor into a caller's arrays, and how much room they need into a record, for any integer
+// type. The arrays and the record are written last, so they stay as they were where there is a fault. Source: Liu, Ng
+// and Peyton 1993 (fundamental supernodes).
 
 ghost use Rattle.std.specs.Prelude.{◌≡◌, ◌↔◌, IsTrue, map};
 ghost use Rattle.amd_factor.specs.Partitions.{OrderedMatrix};

@@ -19,7 +19,7 @@ pub struct Words<S: Signed, U: Unsigned, A: Allocator> {
     pub iw: Vec<Word<S>, A>,
 }
 
-/// Lists of an elimination with a place for each row, but for the numbers of rows; and that of the buckets.
+/// Lists of an elimination with a place for each row, but for those that a caller may lend; and that of the buckets.
 #[derive(Drop)]
 pub struct Lists<U: Unsigned, A: Allocator> {
     /// The counter of each row.
@@ -69,8 +69,8 @@ impl<U: Unsigned, A: Allocator + Copy> Lists<U, A> {
 }
 
 impl<S: Signed, P: Signed, U: Unsigned, A: Allocator + Copy> Memory<S, P, U, A> {
-    /// Memory for eliminations of up to `rows` rows in up to `words` words, but for the numbers of rows: another list
-    /// serves in their place.
+    /// Memory for eliminations of up to `rows` rows in up to `words` words, but for the numbers of rows and of elements:
+    /// other lists serve in their place.
     ///
     /// # Errors
     ///

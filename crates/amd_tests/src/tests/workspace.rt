@@ -75,36 +75,33 @@ fn narrowed(alloc: Global, numbers: &[i64]) -> Result<Vec<i32>, AllocError> {
     Ok(narrow)
 }
 
-/// Asserts that a workspace gives the answer of `order` in 32 bits, where the lists of the caller are two of its own.
-fn check_narrow<A: Allocator + Copy>(
+/// Whether a workspace gives the answer of `order` in 32 bits, where the lists of the caller are two of its own.
+fn is_same_narrow<A: Allocator + Copy>(
     rt: &impl Abort,
     alloc: Global,
     workspace: &mut Workspace<A>,
     control: &Control,
-    a_p: &[i64],
-    a_i: &[i64],
+    a_p: &[i32],
+    a_i: &[i32],
     hold: Option<&[bool]>,
-) -> Result<(), AllocError> {
-    let (b_p, b_i) = (narrowed(alloc, a_p)?, narrowed(alloc, a_i)?);
-    let size = b_p.len().saturating_sub(1);
+) -> Result<bool, AllocError> {
+    let size = a_p.len().saturating_sub(1);
     let n = i32::try_from(size).unwrap_or(0);
     let mut r = vec![in alloc; -7i32; size]?;
     let mut r_inv = vec![in alloc; -7i32; size]?;
-    let Ok((p, p_inv, info)) = order_marked(alloc, n, &b_p, &b_i, control, hold) else {
+    let Ok((p, p_inv, info)) = order_marked(alloc, n, a_p, a_i, control, hold) else {
         panic!(rt; "no answer");
     };
     let (q, q_inv) = (r.as_mut_slice(), r_inv.as_mut_slice());
     let again = match hold {
-        Some(marks) => workspace.order_holding_narrow(n, &b_p, &b_i, control, marks, q, q_inv),
-        None => workspace.order_narrow(n, &b_p, &b_i, control, q, q_inv),
+        Some(marks) => workspace.order_holding_narrow(n, a_p, a_i, control, marks, q, q_inv),
+        None => workspace.order_narrow(n, a_p, a_i, control, q, q_inv),
     };
     let Ok(other) = again else {
         panic!(rt; "no answer in a workspace");
     };
     let is_ordered = r.as_slice() == p.as_slice() && r_inv.as_slice() == p_inv.as_slice();
-    let is_same = is_ordered && is_same_record(&other, &info);
-    check_chosen(rt, is_same, control, a_p, a_i);
-    Ok(())
+    Ok(is_ordered && is_same_record(&other, &info))
 }
 
 /// Marks of about a fifth of the rows, drawn from a seed.
@@ -135,8 +132,11 @@ fn check_seed<A: Allocator + Copy>(
     let marks = Some(hold.as_slice());
     check_order(rt, alloc, workspace, control, &a_p, &a_i, None)?;
     check_order(rt, alloc, workspace, control, &a_p, &a_i, marks)?;
+    let (b_p, b_i) = (narrowed(alloc, &a_p)?, narrowed(alloc, &a_i)?);
     let narrow_marks = if seed % 2 == 0 { marks } else { None };
-    check_narrow(rt, alloc, workspace, control, &a_p, &a_i, narrow_marks)
+    let is_same = is_same_narrow(rt, alloc, workspace, control, &b_p, &b_i, narrow_marks)?;
+    check_chosen(rt, is_same, control, &a_p, &a_i);
+    Ok(())
 }
 
 /// Sizes from 1 to 40 rows follow each other, jumbled and sorted ones, in one workspace that asks for no memory.
