@@ -65,12 +65,13 @@ fn draw(number: usize, draw: &mut Draw) -> Case {
     Case { n, a_p, a_i, hold: (0..n).map(|_| draw.below(5) == 0).collect() }
 }
 
-/// The figures but for the compactions, of which a workspace may have others.
+/// The figures. The compactions of a jumbled matrix are left out: its lists have fewer words in lent memory.
 fn same_figures(info: &Info, other: &malloc::Info) -> bool {
     let own = [info.n, info.nz, info.nz_diag, info.nz_a_plus_at, info.n_dense, info.lnz, info.n_div];
     own == [other.n, other.nz, other.nz_diag, other.nz_a_plus_at, other.n_dense, other.lnz, other.n_div]
         && [info.n_mult_subs_ldl, info.n_mult_subs_lu, info.d_max]
             == [other.n_mult_subs_ldl, other.n_mult_subs_lu, other.d_max]
+        && (info.is_jumbled || info.n_cmp_a == other.n_cmp_a)
         && info.is_jumbled == (other.status == malloc::Status::OkButJumbled)
         && (info.is_symmetric == other.is_symmetric() || info.n == 0)
 }

@@ -72,7 +72,7 @@ fn is_sorted_and_narrow<I>(matrix: &Matrix<'_, I>, rows: usize, entries: usize) 
 }
 
 /// Orders a matrix in a block with the bytes for it. One with sorted columns needs no transpose: where its words are
-/// narrow, the lists have the place of that too, and so at least as many words as in `order`, but at the very limit.
+/// narrow, the lists have the place of that too, and so as many words as in `order`, but at the very limit.
 fn order_fitting<I: Index>(
     block: Piece,
     matrix: &Matrix<'_, I>,
