@@ -1,4 +1,4 @@
-"""Kinds of matrices after those of published collections. Nothing was tuned to them: each is drawn anew from a seed.
+"""Kinds of matrices after those of published collections, each drawn anew from a seed. No constant was fitted to them.
 
 A kind is a function of a seed that yields the rows of each column, as `matrices.py` writes them: one triangle where nothing else is said."""
 from math import cos, pi, sin

@@ -107,8 +107,8 @@ pub fn check_requests(rt: &impl Abort, what: &str, refusals: Result<u64, Slip>, 
     }
 }
 
-/// The number of requests of `order`: a block that is given back at once; nine lists with a place for each row; the
-/// words of the lists; and two for the result. A jumbled matrix takes two more for its transpose.
+/// The number of requests of `order`: a block that is given back at once; eight lists with a place for each row, and the
+/// buckets; the words of the lists; and two for the result. A jumbled matrix takes two more for its transpose.
 fn requests_of(case: &OrderingCase) -> u64 {
     if case.jumbled { 15 } else { 13 }
 }
