@@ -6,7 +6,6 @@ ghost use Rattle.std.specs.Prelude.{IfOk, IfErr};
 ghost use Rattle.amd_types.specs.Naturals.{naturals};
 ghost use Rattle.amd_factor.specs.Factors.{IsFault, WritesFactor};
 ghost use Rattle.amd_factor.specs.Orders.{Order};
-ghost use Rattle.amd_factor.specs.Unfit.{fault_of};
 ghost use Rattle.amd_factor.specs.Within.{IsPosed};
 ghost use Rattle.amd_factor.specs.declared.factor.Fault.TheVariants.{NotPermutation, RoomTooSmall};
 ghost use Rattle.amd_calls.specs.Columns.{arrays};
@@ -21,7 +20,8 @@ use crate::records::SaturatedNeed;
 use crate::writing::have_places;
 use amd_factor::Fault;
 use amd_factor::counted::need_of_sizes;
-use amd_factor::entrance::{Unfit, rows_of};
+use amd_factor::entrance::rows_of;
+use amd_factor::factor::fault_for;
 use amd_factor::inside::counts_inside;
 use amd_factor::lent::lent_columns;
 use amd_factor::places::place_rows;
@@ -29,16 +29,6 @@ use amd_lent::Piece;
 use amd_types::index::Index;
 use amd_types::internal::count_at;
 use num_traits::PrimInt;
-
-/// The fault of a matrix and an order that are not fit for a factor.
-fn fault_for(unfit: Unfit) -> Fault
-    ensures { result ≡ fault_of unfit }
-{
-    match unfit {
-        Unfit::NotColumnForm => Fault::NotColumnForm,
-        Unfit::NotPermutation => Fault::NotPermutation,
-    }
-}
 
 /// Writes how many entries each column of the factor of a matrix has, as [`crate::counting::counts_into`], in a block
 /// that the caller lends. The type has -1.

@@ -73,7 +73,7 @@ impl<T: Drop> From<AllocFailed<T>> for Fault {
 }
 
 /// The fault of a matrix and an order that are not fit for a factor.
-pub(crate) fn fault_for(unfit: Unfit) -> Fault
+pub fn fault_for(unfit: Unfit) -> Fault
     ensures { result ≡ fault_of unfit }
 {
     match unfit {
