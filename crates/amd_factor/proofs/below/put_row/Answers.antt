@@ -9,50 +9,53 @@ use Rattle.amd_factor.proofs.below.put_row.Goals as goal
 
 pub offset_bounds-rows-next : goal.offset_bounds-rows-next
 offset_bounds-rows-next g c =
+    let can = c.requires.1 in
     let i = row-in g.b c.args.j c.args.s c.args.next.now c.args.mark.now (naturals (map g.I.Index.value c.args.rows.now))
-    c.requires.1.row.laws
-    c.requires.1.row.place c.requires.1.climbs c.requires.1.new in
+    can.row.laws can.row.place can.climbs can.new in
     let n = count-length g.I.Index.value c.args.rows.now in
     scaled_Fits _ (length c.args.rows.now) _ (in-range _ _ _ i n) (omega arith)
 
 pub bounds-rows-next : goal.bounds-rows-next
 bounds-rows-next g c =
+    let can = c.requires.1 in
     let n = count-length g.I.Index.value c.args.rows.now in
     let i = row-in g.b c.args.j c.args.s c.args.next.now c.args.mark.now (naturals (map g.I.Index.value c.args.rows.now))
-    c.requires.1.row.laws
-    c.requires.1.row.place c.requires.1.climbs c.requires.1.new in
+    can.row.laws can.row.place can.climbs can.new in
     omega (arith, i, n)
 
 pub overflow_add-next : goal.overflow_add-next
 overflow_add-next g c =
+    let can = c.requires.1 in
     let n = count-length g.I.Index.value c.args.rows.now in
     let i = row-in g.b c.args.j c.args.s c.args.next.now c.args.mark.now (naturals (map g.I.Index.value c.args.rows.now))
-    c.requires.1.row.laws
-    c.requires.1.row.place c.requires.1.climbs c.requires.1.new in
+    can.row.laws can.row.place can.climbs can.new in
     omega (arith, i, n)
 
 pub unwrap-requires : goal.unwrap-requires
 unwrap-requires g c =
-    subst (λ xs. IsSome (slice_index_or xs c.args.s None)) (sym c.requires.1.row.parents)
-    (told g.b c.args.j c.args.s c.args.next.now c.args.mark.now (naturals (map g.I.Index.value c.args.rows.now)) c.requires.1.row.laws
-    c.requires.1.row.place c.requires.1.climbs c.requires.1.new)
+    let can = c.requires.1 in
+    subst (λ xs. IsSome (slice_index_or xs c.args.s None)) (sym can.row.parents)
+    (told g.b c.args.j c.args.s c.args.next.now c.args.mark.now (naturals (map g.I.Index.value c.args.rows.now)) can.row.laws
+    can.row.place can.climbs can.new)
 
 pub returns-clause-told : goal.returns-clause-told
 returns-clause-told g c =
-    told-more g.I.Index.value c.args.rows.now (slice_index c.args.next.now c.args.s) c.args.j c.args.number c.requires.1.row.is
-    c.requires.1.told
+    let can = c.requires.1 in
+    told-more g.I.Index.value c.args.rows.now (slice_index c.args.next.now c.args.s) c.args.j c.args.number can.row.is
+    can.told
 
 pub returns-clause-climbs : goal.returns-clause-climbs
 returns-clause-climbs g c =
+    let can = c.requires.1 in
     subst (Climbs g.b c.args.j c.unwrap.result _ _)
-    (sym (set-count g.I.Index.value c.args.rows.now (slice_index c.args.next.now c.args.s) c.args.j c.args.number c.requires.1.row.is))
-    (climbs-on g.b c.args.j c.args.s c.args.next.now c.args.mark.now (naturals (map g.I.Index.value c.args.rows.now)) c.requires.1.row.laws
-    c.requires.1.row.place
-    c.requires.1.climbs c.requires.1.new c.unwrap.result
-    (ap (λ xs. slice_index_or xs c.args.s None) (sym c.requires.1.row.parents) ∙ c.unwrap.ensures))
+    (sym (set-count g.I.Index.value c.args.rows.now (slice_index c.args.next.now c.args.s) c.args.j c.args.number can.row.is))
+    (climbs-on g.b c.args.j c.args.s c.args.next.now c.args.mark.now (naturals (map g.I.Index.value c.args.rows.now)) can.row.laws
+    can.row.place can.climbs can.new c.unwrap.result
+    (ap (λ xs. slice_index_or xs c.args.s None) (sym can.row.parents) ∙ c.unwrap.ensures))
 
 pub returns-clause-higher : goal.returns-clause-higher
 returns-clause-higher g c =
-    higher g.b c.args.j c.args.s c.args.next.now c.args.mark.now (naturals (map g.I.Index.value c.args.rows.now)) c.requires.1.row.laws
-    c.requires.1.row.place c.requires.1.climbs c.requires.1.new c.unwrap.result
-    (ap (λ xs. slice_index_or xs c.args.s None) (sym c.requires.1.row.parents) ∙ c.unwrap.ensures)
+    let can = c.requires.1 in
+    higher g.b c.args.j c.args.s c.args.next.now c.args.mark.now (naturals (map g.I.Index.value c.args.rows.now)) can.row.laws
+    can.row.place can.climbs can.new c.unwrap.result
+    (ap (λ xs. slice_index_or xs c.args.s None) (sym can.row.parents) ∙ c.unwrap.ensures)
