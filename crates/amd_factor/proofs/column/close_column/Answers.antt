@@ -32,39 +32,40 @@ module _ (o : Order) (k : ℕ) (rows : List ℕ) (begin end : ℕ) (low : begin 
 
 pub returns-then-begin-end-clause-columns : goal.returns-then-begin-end-clause-columns
 returns-then-begin-end-clause-columns g c =
-    hold_next g.o c.args.k c.args.ptr.now (naturals (map g.N.Index.value c.args.rows.now)) c.args.end c.requires.1.columns
-    c.requires.1.place c.requires.1.range
-    (stands_within g.N.Index.value c.args.rows.now c.args.end c.requires.1.within) c.requires.1.column
+    let can = c.requires.1 in
+    hold_next g.o c.args.k c.args.ptr.now (naturals (map g.N.Index.value c.args.rows.now)) c.args.end can.columns can.place can.range
+    (stands_within g.N.Index.value c.args.rows.now c.args.end can.within) can.column
 
 pub place_at-first-requires-clause-small : goal.place_at-first-requires-clause-small
 place_at-first-requires-clause-small g c =
+    let can = c.requires.1 in
     parent_small g.o c.args.k (naturals (map g.N.Index.value c.args.rows.now)) (slice_index c.args.ptr.now c.args.k) c.args.end
-    (below (slice_index c.args.ptr.now c.args.k) c.args.end c.requires.1.range c.if-begin-end.false)
-    (stands_within g.N.Index.value c.args.rows.now c.args.end c.requires.1.within)
-    c.requires.1.column (length c.args.parent.now) c.requires.1.parents.room (grind (arith, common_steps))
+    (below (slice_index c.args.ptr.now c.args.k) c.args.end can.range c.if-begin-end.false)
+    (stands_within g.N.Index.value c.args.rows.now c.args.end can.within)
+    can.column (length c.args.parent.now) can.parents.room (grind (arith, common_steps))
 
 pub link_child-requires : goal.link_child-requires
-link_child-requires g c = (
+link_child-requires g c = let can = c.requires.1 in (
   parent_is g.o c.args.k (naturals (map g.N.Index.value c.args.rows.now)) (slice_index c.args.ptr.now c.args.k) c.args.end
-      (below (slice_index c.args.ptr.now c.args.k) c.args.end c.requires.1.range c.if-begin-end.false)
-      (stands_within g.N.Index.value c.args.rows.now c.args.end c.requires.1.within) c.requires.1.column
+      (below (slice_index c.args.ptr.now c.args.k) c.args.end can.range c.if-begin-end.false)
+      (stands_within g.N.Index.value c.args.rows.now c.args.end can.within) can.column
       c.place_at-first.result c.place_at-first.ensures,
-  c.requires.1.links,
+  can.links,
 )
 
 pub returns-clause-columns : goal.returns-clause-columns
 returns-clause-columns g c =
-    hold_next g.o c.args.k c.args.ptr.now (naturals (map g.N.Index.value c.args.rows.now)) c.args.end c.requires.1.columns
-    c.requires.1.place c.requires.1.range
-    (stands_within g.N.Index.value c.args.rows.now c.args.end c.requires.1.within) c.requires.1.column
+    let can = c.requires.1 in
+    hold_next g.o c.args.k c.args.ptr.now (naturals (map g.N.Index.value c.args.rows.now)) c.args.end can.columns can.place can.range
+    (stands_within g.N.Index.value c.args.rows.now c.args.end can.within) can.column
 
 pub returns-clause-parents : goal.returns-clause-parents
 returns-clause-parents g c =
-    tell_first_next g.o c.args.k c.args.ptr.now (naturals (map g.N.Index.value c.args.rows.now)) c.args.end c.requires.1.columns
-    c.requires.1.place c.requires.1.range
-    (stands_within g.N.Index.value c.args.rows.now c.args.end c.requires.1.within) c.requires.1.column
-    c.args.parent.now (Some c.place_at-first.result) c.requires.1.parents
+    let can = c.requires.1 in
+    tell_first_next g.o c.args.k c.args.ptr.now (naturals (map g.N.Index.value c.args.rows.now)) c.args.end can.columns can.place can.range
+    (stands_within g.N.Index.value c.args.rows.now c.args.end can.within) can.column
+    c.args.parent.now (Some c.place_at-first.result) can.parents
     (sym (first_is g.o c.args.k (naturals (map g.N.Index.value c.args.rows.now)) (slice_index c.args.ptr.now c.args.k) c.args.end
-    (below (slice_index c.args.ptr.now c.args.k) c.args.end c.requires.1.range c.if-begin-end.false)
-    (stands_within g.N.Index.value c.args.rows.now c.args.end c.requires.1.within)
+    (below (slice_index c.args.ptr.now c.args.k) c.args.end can.range c.if-begin-end.false)
+    (stands_within g.N.Index.value c.args.rows.now c.args.end can.within)
     c.place_at-first.result c.place_at-first.ensures))

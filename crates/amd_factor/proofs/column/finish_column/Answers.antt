@@ -14,38 +14,42 @@ use Rattle.amd_types.specs.Naturals.{naturals}
 
 pub write_merged-requires-clause-numbers : goal.write_merged-requires-clause-numbers
 write_merged-requires-clause-numbers g c =
+    let planned = c.requires.1.1 in
     let value = g.N.Index.value in let done = c.split_at_mut-done.result.0.now in
     are_range value done c.args.plan.from c.args.plan.to
-    (subst (λ ys. AreNonNegative (map value ys)) (sym c.split_at_mut-done.ensures.front) c.requires.1.1.numbers)
+    (subst (λ ys. AreNonNegative (map value ys)) (sym c.split_at_mut-done.ensures.front) planned.numbers)
 
 pub write_merged-requires-clause-small : goal.write_merged-requires-clause-small
 write_merged-requires-clause-small g c =
+    let planned = c.requires.1.1 in
     let value = g.N.Index.value in let done = c.split_at_mut-done.result.0.now in
     let plans = subst (λ ys. Plans g.o c.args.k (naturals (map value ys)) c.args.plan.from c.args.plan.to c.args.fresh.now)
-    (sym c.split_at_mut-done.ensures.front) c.requires.1.1.plans in λ k l. (
+    (sym c.split_at_mut-done.ensures.front) planned.plans in λ k l. (
     let part = slice_range done c.args.plan.from c.args.plan.to in
     let x = slice_index (naturals (map value part)) k in
     let entry = (plans.completes.members x).0 (inl (subst (λ ys. Contains ys x) (counts_range value done c.args.plan.from c.args.plan.to)
     (place_of value part k l))) in
-    let low = entry.1 in let room = c.requires.1.1.parents.room in omega (arith, low, room))
+    let low = entry.1 in let room = planned.parents.room in omega (arith, low, room))
 
 pub write_merged-requires-clause-fits : goal.write_merged-requires-clause-fits
 write_merged-requires-clause-fits g c =
+    let fits = c.requires.1.0 in let planned = c.requires.1.1 in
     λ k l. (
-    let entry = (c.requires.1.1.plans.completes.members (slice_index c.args.fresh.now k)).0
+    let entry = (planned.plans.completes.members (slice_index c.args.fresh.now k)).0
     (inr (Contains-get_or c.args.fresh.now k 0 l)) in
-    c.requires.1.0 (slice_index c.args.fresh.now k) entry.1)
+    fits (slice_index c.args.fresh.now k) entry.1)
 
 pub close_column-requires : goal.close_column-requires
 close_column-requires g c κs inside =
+    let planned = c.requires.1.1 in
     let value = g.N.Index.value in let done = c.split_at_mut-done.result.0.now in
     let front = sym c.split_at_mut-done.ensures.front in
     let plans = subst (λ ys. Plans g.o c.args.k (naturals (map value ys)) c.args.plan.from c.args.plan.to c.args.fresh.now) front
-    c.requires.1.1.plans in
-    let numbers = subst (λ ys. AreNonNegative (map value ys)) front c.requires.1.1.numbers in
-    let columns = subst (λ ys. HoldBefore g.o c.args.k c.args.ptr.now (naturals (map value ys))) front c.requires.1.1.columns in
+    planned.plans in
+    let numbers = subst (λ ys. AreNonNegative (map value ys)) front planned.numbers in
+    let columns = subst (λ ys. HoldBefore g.o c.args.k c.args.ptr.now (naturals (map value ys))) front planned.columns in
     let parents = subst (λ ys. TellFirst g.o c.args.k c.args.ptr.now (naturals (map value ys)) c.args.parent.now) front
-    c.requires.1.1.parents in
+    planned.parents in
     let rows = naturals (map value done) in
     let fresh = c.args.fresh.now in
     let part = slice_range rows c.args.plan.from c.args.plan.to in
@@ -61,12 +65,12 @@ close_column-requires g c κs inside =
     let kept = range_before rows (merged part fresh) new _ is begin in (
       inside,
       record {
-        laws = c.requires.1.1.laws;
-        place = c.requires.1.1.place;
+        laws = planned.laws;
+        place = planned.place;
         numbers = are_append value done out (merged part fresh) numbers written;
         columns = hold_same g.o c.args.k c.args.ptr.now rows new columns kept (omega (arith, all, sum));
         parents = tell_same g.o c.args.k c.args.ptr.now rows new columns kept (omega (arith, all, sum)) c.args.parent.now parents;
-        links = c.requires.1.1.links;
+        links = planned.links;
         range = omega (arith, size, begin, all, sum);
         within = omega arith;
         column = subst (IsColumn g.o.graph g.o.rows c.args.k) (sym (range_last rows (merged part fresh) new _ _ is begin size))
@@ -76,10 +80,11 @@ close_column-requires g c κs inside =
 
 pub returns-clause-numbers : goal.returns-clause-numbers
 returns-clause-numbers g c =
+    let planned = c.requires.1.1 in
     let value = g.N.Index.value in let done = c.split_at_mut-done.result.0.now in
     are_append value done c.write_merged.new.out
     (merged (naturals (map value (slice_range done c.args.plan.from c.args.plan.to))) c.args.fresh.now)
-    (subst (λ ys. AreNonNegative (map value ys)) (sym c.split_at_mut-done.ensures.front) c.requires.1.1.numbers) c.write_merged.ensures
+    (subst (λ ys. AreNonNegative (map value ys)) (sym c.split_at_mut-done.ensures.front) planned.numbers) c.write_merged.ensures
 
 pub returns-clause-columns : goal.returns-clause-columns
 returns-clause-columns g c = c.close_column.ensures.columns

@@ -12,19 +12,20 @@ use Rattle.amd_factor.proofs.column.gather_children.Goals.{then-child-base, else
 
 pub gather-count-requires : goal.gather-count-requires
 gather-count-requires g c κs within =
+    let can = c.requires.1 in
     let value = g.N.Index.value in
     let from = c.inherited-from.result.0 in let to = c.inherited-from.result.1 in
     let is : IsChild g.c c.in-Some.child = subst (LeadsTo g.c.order g.c.place) c.in-Some.is c.children.invariant.leads in
-    let stand = c.requires.1.columns.stand in let rows = naturals (map value c.args.columns.rows.now) in
+    let stand = can.columns.stand in let rows = naturals (map value c.args.columns.rows.now) in
     let has = (c.inherited-from.ensures.takes g.c rows stand is).inherits.1 in (
       within,
       (
-        are_range value c.args.columns.rows.now from to c.requires.1.columns.numbers,
+        are_range value c.args.columns.rows.now from to can.columns.numbers,
         record {
           entries = λ j h. let e = (has j).0 (subst (λ xs. Contains xs j) (counts_range value c.args.columns.rows.now from to) h) in
-              entry_by_child g.c.order.graph g.c.order.rows c.requires.1.laws g.c.place j e.0 e.1.1 c.in-Some.child is e.1;
+              entry_by_child g.c.order.graph g.c.order.rows can.laws g.c.place j e.0 e.1.1 c.in-Some.child is e.1;
           listed = record {
-            room = c.children.auto.fresh ∙ c.requires.1.long;
+            room = c.children.auto.fresh ∙ can.long;
             within = c.children.invariant.count;
             marks = c.children.invariant.marks;
           };
@@ -34,11 +35,12 @@ gather-count-requires g c κs within =
 
 pub children-preserved : goal.children-preserved
 children-preserved g c =
+    let can = c.requires.1 in
     let value = g.N.Index.value in
     let child = c.in-Some.child in
     let is : IsChild g.c child = subst (LeadsTo g.c.order g.c.place) c.in-Some.is c.children.invariant.leads in
     let previous : IsLastChild g.c.order g.c.place child (slice_index_or c.args.columns.link.now child None) =
-    c.requires.1.columns.links.previous child g.c.place is.entry.0 is in
+    can.columns.links.previous child g.c.place is.entry.0 is in
     let leads' = leads g.c.order g.c.place child (slice_index_or c.args.columns.link.now child None) previous in
     let past : (m : ℕ) → IsChild g.c m → IsAhead c.children.next m →
     (m ≡ child) ⊎ IsAhead (slice_index_or c.args.columns.link.now child None) m =
@@ -60,7 +62,7 @@ children-preserved g c =
             | inl q ↦ inr (w.gather-count.ensures.all j
                 (subst (λ xs. Contains xs j) (sym (counts_range value c.args.columns.rows.now w.inherited-from.result.0
                 w.inherited-from.result.1))
-                (((w.inherited-from.ensures.takes g.c (naturals (map value c.args.columns.rows.now)) c.requires.1.columns.stand
+                (((w.inherited-from.ensures.takes g.c (naturals (map value c.args.columns.rows.now)) can.columns.stand
                 is).inherits.1 j).1 (behind, at m j q entry))))
             | inr a ↦ inl a
           ]
@@ -75,7 +77,7 @@ children-preserved g c =
         done = λ m j p behind entry. elim (c.children.invariant.done m j p behind entry) [
           | inl x ↦ elim (past m p x) [
             | inl q ↦ inr (c.children.invariant.kept j
-                (c.requires.1.base_marked (subst (λ y. IsChild g.c y) w.if-child-base.false is) j behind
+                (can.base_marked (subst (λ y. IsChild g.c y) w.if-child-base.false is) j behind
                 (subst (λ y. Entry g.c.order.graph g.c.order.rows y j) w.if-child-base.false (at m j q entry))))
             | inr a ↦ inl a
           ]
@@ -113,14 +115,16 @@ offset_bounds-columns-k g c =
 
 pub bounds-columns-child : goal.bounds-columns-child
 bounds-columns-child g c =
+    let can = c.requires.1 in
     let is : IsChild g.c c.in-Some.child = subst (LeadsTo g.c.order g.c.place) c.in-Some.is c.children.invariant.leads in
-    let behind = is.entry.0 in let low = c.requires.1.inside in let room = c.requires.1.columns.links.room in
+    let behind = is.entry.0 in let low = can.inside in let room = can.columns.links.room in
     omega (arith, behind, low, room)
 
 pub offset_bounds-columns-child : goal.offset_bounds-columns-child
 offset_bounds-columns-child g c =
+    let can = c.requires.1 in
     let is : IsChild g.c c.in-Some.child = subst (LeadsTo g.c.order g.c.place) c.in-Some.is c.children.invariant.leads in
-    let behind = is.entry.0 in let low = c.requires.1.inside in let room = c.requires.1.columns.links.room in
+    let behind = is.entry.0 in let low = can.inside in let room = can.columns.links.room in
     omega (arith, behind, low, room)
 
 pub children-init : goal.children-init

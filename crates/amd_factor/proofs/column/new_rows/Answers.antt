@@ -22,9 +22,9 @@ tell_later o k column stamp mark h = record {
 
 pub returns-then-not-tells-clause-completes : goal.returns-then-not-tells-clause-completes
 returns-then-not-tells-clause-completes g c =
+    let can = c.requires.1 in
     let empty = c.is_empty.ensures in let t = c.if-is_empty.true in
-    completes_alone g.c c.requires.1.laws c.args.taken.base c.args.neighbours.now c.requires.1.inherits
-    c.requires.1.base c.requires.1.later
+    completes_alone g.c can.laws c.args.taken.base c.args.neighbours.now can.inherits can.base can.later
     (eqb-true (length c.args.neighbours.now) 0 (sym empty ∙ t)) (c.has_only_child.ensures.only c.if-has_only_child.true)
 
 pub mark_base-stamp-requires : goal.mark_base-stamp-requires
@@ -58,10 +58,10 @@ gather_children-count-requires g c κs within =
     )
 
 pub gather_places-count-requires : goal.gather_places-count-requires
-gather_places-count-requires g c = record {
-  entries = neighbour_gives g.c c.requires.1.laws c.args.neighbours.now c.requires.1.later;
+gather_places-count-requires g c = let can = c.requires.1 in record {
+  entries = neighbour_gives g.c can.laws c.args.neighbours.now can.later;
   listed = record {
-    room = c.gather_children-count.auto.fresh ∙ c.requires.1.long;
+    room = c.gather_children-count.auto.fresh ∙ can.long;
     within = c.gather_children-count.ensures.count;
     marks = c.gather_children-count.ensures.marks;
   };
@@ -69,6 +69,7 @@ gather_places-count-requires g c = record {
 
 pub returns-clause-completes : goal.returns-clause-completes
 returns-clause-completes g c =
+    let can = c.requires.1 in
     let ys = c.sort_unstable.new.self in
     let long : length ys ≡ c.gather_places-count.result =
     c.sort_unstable.ensures.len ∙ length-take-le c.gather_places-count.result c.gather_places-count.new.fresh
@@ -77,17 +78,18 @@ returns-clause-completes g c =
     (completes g.c c.mark_base-stamp.result (take c.gather_places-count.result c.gather_places-count.new.fresh)
     c.gather_places-count.new.mark c.gather_places-count.ensures.marks ys
     c.sort_unstable.ensures.permutation (IsNonDecreasingBy-from_sort (λ x. x) ys c.sort_unstable.ensures.sorted)
-    (inherited_gives g.c c.requires.1.laws c.args.taken.base c.requires.1.inherits)
-    (all_marked g.c c.requires.1.laws c.args.neighbours.now c.gather_places-count.new.mark c.mark_base-stamp.result
-    c.requires.1.later c.gather_places-count.ensures.all
+    (inherited_gives g.c can.laws c.args.taken.base can.inherits)
+    (all_marked g.c can.laws c.args.neighbours.now c.gather_places-count.new.mark c.mark_base-stamp.result
+    can.later c.gather_places-count.ensures.all
     (λ m j p behind x. c.gather_places-count.ensures.kept j (c.gather_children-count.ensures.children m j p behind x))))
 
 pub returns-clause-marks : goal.returns-clause-marks
 returns-clause-marks g c =
-    tell_next g.c c.requires.1.laws c.args.taken.base c.requires.1.inherits c.args.k c.mark_base-stamp.result _
-    c.gather_places-count.new.mark c.requires.1.place c.gather_places-count.ensures.marks
-    (all_marked g.c c.requires.1.laws c.args.neighbours.now c.gather_places-count.new.mark c.mark_base-stamp.result
-    c.requires.1.later c.gather_places-count.ensures.all
+    let can = c.requires.1 in
+    tell_next g.c can.laws c.args.taken.base can.inherits c.args.k c.mark_base-stamp.result _
+    c.gather_places-count.new.mark can.place c.gather_places-count.ensures.marks
+    (all_marked g.c can.laws c.args.neighbours.now c.gather_places-count.new.mark c.mark_base-stamp.result
+    can.later c.gather_places-count.ensures.all
     (λ m j p behind x. c.gather_places-count.ensures.kept j (c.gather_children-count.ensures.children m j p behind x)))
 
 pub returns-then-not-tells-clause-marks : goal.returns-then-not-tells-clause-marks

@@ -16,37 +16,39 @@ ends_within : {N : Type 0} (value : N → ℤ) (numbers : List N) (to : ℕ) →
 ends_within value numbers to l = let n = counts_long value numbers in omega (arith, l, n)
 
 pub greatest_child-base-requires : goal.greatest_child-base-requires
-greatest_child-base-requires g c = record {
+greatest_child-base-requires g c = let can = c.requires.1.0 in let columns = c.requires.1.1 in record {
   place = refl;
-  inside = c.requires.1.0.place;
-  links = c.requires.1.1.links;
+  inside = can.place;
+  links = columns.links;
   rows = naturals (map g.N.Index.value c.args.columns.rows.now);
-  stand = c.requires.1.1.stand;
+  stand = columns.stand;
 }
 
 pub inherited-from-requires : goal.inherited-from-requires
 inherited-from-requires g c =
+    let columns = c.requires.1.1 in
     let column : Column = record { order = g.o; place = c.args.k; inherited = [] } in record {
       stands = (
         column,
         naturals (map g.N.Index.value c.args.columns.rows.now),
-        c.requires.1.1.stand,
+        columns.stand,
         is_child column c.greatest_child-base.result c.greatest_child-base.ensures.child,
       );
     }
 
 pub new_rows-count-requires : goal.new_rows-count-requires
 new_rows-count-requires g c κs inside =
+    let columns = c.requires.1.1 in
     let can = c.requires.1.0 in let rows = naturals (map g.N.Index.value c.args.columns.rows.now) in
     let column : Column = record { order = g.o; place = c.args.k; inherited = [] } in
-    let takes = c.inherited-from.ensures.takes column rows c.requires.1.1.stand
+    let takes = c.inherited-from.ensures.takes column rows columns.stand
     (is_child column c.greatest_child-base.result c.greatest_child-base.ensures.child) in (
       inside,
       record {
         laws = can.laws;
         place = refl;
         inside = can.place;
-        columns = c.requires.1.1;
+        columns = columns;
         base = c.greatest_child-base.ensures.child;
         rows = refl;
         range = c.inherited-from.ensures.range;
@@ -60,9 +62,10 @@ new_rows-count-requires g c κs inside =
 
 pub returns-clause-plans : goal.returns-clause-plans
 returns-clause-plans g c =
+    let columns = c.requires.1.1 in
     let rows = naturals (map g.N.Index.value c.args.columns.rows.now) in
     let column : Column = record { order = g.o; place = c.args.k; inherited = [] } in
-    let takes = c.inherited-from.ensures.takes column rows c.requires.1.1.stand
+    let takes = c.inherited-from.ensures.takes column rows columns.stand
     (is_child column c.greatest_child-base.result c.greatest_child-base.ensures.child) in record {
       range = c.inherited-from.ensures.range;
       within = takes.within;
