@@ -23,13 +23,14 @@ returns-in_err-lists-clause-fault g c =
 
 pub written_factor-requires : goal.written_factor-requires
 written_factor-requires g c κs within =
+    let posed = c.requires.1.1 in
     let a_p : List ℤ = map g.I.Index.value c.args.a_p.now in
     let a_i : List ℤ = map g.I.Index.value c.args.a_i.now in
     let p : List ℤ = map g.I.Index.value c.args.p.now in (
       within,
       (
-        laws c.args.size a_p a_i p g.o c.requires.1.1.graph c.requires.1.1.rows,
-        later_of c.args.size a_p a_i p g.o c.requires.1.1.graph c.requires.1.1.rows c.deref-2.result.now c.deref-3.result.now
+        laws c.args.size a_p a_i p g.o posed.graph posed.rows,
+        later_of c.args.size a_p a_i p g.o posed.graph posed.rows c.deref-2.result.now c.deref-3.result.now
             (rw (c.deref-2.ensures.value, c.deref-3.ensures.value)
             (c.in_ok-lists.ensures (naturals p) (rw c.deref.ensures.value (rw c.in-Some.is at c.in_ok-places.ensures.places)))),
       ),
@@ -44,14 +45,16 @@ returns-in_err-factor-clause-fault g c =
 
 pub returns-in-Some-2-clause-factor : goal.returns-in-Some-2-clause-factor
 returns-in-Some-2-clause-factor g c =
+    let posed = c.requires.1.1 in
     factor_of c.args.size (map g.I.Index.value c.args.a_p.now) (map g.I.Index.value c.args.a_i.now) (map g.I.Index.value c.args.p.now)
-    g.o c.requires.1.1.graph c.requires.1.1.rows c.requires.1.1.form
+    g.o posed.graph posed.rows posed.form
     (rw c.in-Some.is at c.in_ok-places.ensures.permutation) c.in-Some-2.factor.ptr.items c.in-Some-2.factor.rows.items
     c.in-Some-2.factor.parent.items
     (rw c.in-Some-2.is at c.in_ok-factor.ensures.factor)
 
 pub returns-clause-fault : goal.returns-clause-fault
 returns-clause-fault g c =
+    let posed = c.requires.1.1 in
     too_many c.args.size (map g.I.Index.value c.args.a_p.now) (map g.I.Index.value c.args.a_i.now) (map g.I.Index.value c.args.p.now) g.o
-    c.requires.1.1.graph c.requires.1.1.rows c.requires.1.1.form
+    posed.graph posed.rows posed.form
     (rw c.in-Some.is at c.in_ok-places.ensures.permutation) c.args.room (rw c.in-None.is at c.in_ok-factor.ensures.factor)

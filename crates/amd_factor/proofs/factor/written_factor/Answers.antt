@@ -5,10 +5,11 @@ use Rattle.amd_factor.specs.Columns.{HoldFactor}
 use Rattle.amd_factor.proofs.factor.written_factor.Goals as goal
 
 pub factor_lists-requires : goal.factor_lists-requires
-factor_lists-requires g c κs inside = (inside, let room = c.requires.1.1.room in omega (arith, room))
+factor_lists-requires g c κs inside = (inside, let later = c.requires.1.1 in let room = later.room in omega (arith, room))
 
 pub fill-requires : goal.fill-requires
 fill-requires g c κs inside =
+    let laws = c.requires.1.0 in
     let h = c.requires.1.1 in
     let ptr : c.deref_mut.result.now ≡ c.in_ok-lists.lists.ptr.items = search rules in
     let parent : c.deref_mut-2.result.now ≡ c.in_ok-lists.lists.parent.items = search rules in
@@ -19,7 +20,7 @@ fill-requires g c κs inside =
       (
         inside,
         record {
-          lists = record { laws = c.requires.1.0; most = λ j l. (let room = h.room in omega (arith, l, room)); later_are = h };
+          lists = record { laws = laws; most = λ j l. (let room = h.room in omega (arith, l, room)); later_are = h };
           sizes = rw (ptr, parent, mark, link, fresh) c.in_ok-lists.ensures;
           empty = c.in_ok-rows.ensures.items;
           capacity_is = (let e = c.in_ok-rows.ensures.exact in omega (arith, e));

@@ -40,7 +40,7 @@ size_is rows fresh begin taken count low fits few =
 
 pub plan_behind-plan-requires : goal.plan_behind-plan-requires
 plan_behind-plan-requires g c κs inside =
-    let q = c.requires.1 in let can = q.0 in let front = q.1 in (
+    let can = c.requires.1.0 in let front = c.requires.1.1 in (
       inside,
       (
         record { laws = can.laws; place = can.place; later = can.later; marks = front.filled.marks; long = can.long },
@@ -50,30 +50,32 @@ plan_behind-plan-requires g c κs inside =
 
 pub overflow_add-size : goal.overflow_add-size
 overflow_add-size g c =
+    let can = c.requires.1.0 in
     let filled = c.requires.1.1 in
     let plan = c.plan_behind-plan.result in let count = c.plan_behind-plan.ensures.count in
     let ptr = c.args.lists.now.ptr.now in
     let short = taken_short g.o c.args.k (naturals (map g.N.Index.value (take (slice_index ptr c.args.k) c.args.rows.now)))
     (take plan.count c.plan_behind-plan.new.fresh) plan.from plan.to c.plan_behind-plan.ensures.plans in
-    let room = filled.filled.parents.room in let same = c.plan_behind-plan.auto.fresh in let all = c.requires.1.0.long in
+    let room = filled.filled.parents.room in let same = c.plan_behind-plan.auto.fresh in let all = can.long in
     omega (arith, short, count, room, same, all)
 
 pub returns-then-rows-begin-clause-filled : goal.returns-then-rows-begin-clause-filled
 returns-then-rows-begin-clause-filled g c =
+    let can = c.requires.1.0 in
     let filled = c.requires.1.1 in
     let plan = c.plan_behind-plan.result in let count = length-take-le plan.count c.plan_behind-plan.new.fresh
     c.plan_behind-plan.ensures.count in
     let more = c.if-rows-begin.true in let within = filled.within in
-    passes g.o c.requires.1.0.laws c.args.k c.args.lists.now.ptr.now
+    passes g.o can.laws c.args.k c.args.lists.now.ptr.now
     (naturals (map g.N.Index.value (take (slice_index c.args.lists.now.ptr.now c.args.k) c.args.rows.now)))
-    (take plan.count c.plan_behind-plan.new.fresh) plan.from plan.to (length c.args.rows.now) c.requires.1.0.place filled.filled.columns
+    (take plan.count c.plan_behind-plan.new.fresh) plan.from plan.to (length c.args.rows.now) can.place filled.filled.columns
     c.plan_behind-plan.ensures.plans
     (omega (arith, count, more, within))
 
 pub finish_column-requires : goal.finish_column-requires
 finish_column-requires g c κs inside =
     let plan = c.plan_behind-plan.result in
-    let size : ℕ = plan.to - plan.from + plan.count in let q = c.requires.1 in let can = q.0 in let front = q.1 in
+    let size : ℕ = plan.to - plan.from + plan.count in let can = c.requires.1.0 in let front = c.requires.1.1 in
     let value = g.N.Index.value in let ptr = c.args.lists.now.ptr.now in let rows = c.args.rows.now in (
       inside,
       (

@@ -5,16 +5,16 @@ use Rattle.amd_factor.proofs.fill.fill_into.Goals as goal
 
 pub add_column_into-requires : goal.add_column_into-requires
 add_column_into-requires g c κs inside =
-    let q = c.requires.1 in
+    let sizes = c.requires.1.0 in let can = c.requires.1.1 in
     let i = c.columns.invariant in let r = i.filled.filled.parents.room in let t = c.columns-test.true in (
       inside,
       (
         record {
-          laws = q.1.laws;
+          laws = can.laws;
           place = omega (arith, r, t);
-          fit = q.1.most;
-          later = q.1.later_are.each c.columns.k (omega (arith, r, t));
-          long = c.columns.auto.fresh ∙ q.0.fresh;
+          fit = can.most;
+          later = can.later_are.each c.columns.k (omega (arith, r, t));
+          long = c.columns.auto.fresh ∙ sizes.fresh;
         },
         i.filled,
       ),
@@ -32,14 +32,14 @@ columns-preserved g c =
 
 pub returns : goal.returns
 returns g c =
-    let q = c.requires.1 in
+    let sizes = c.requires.1.0 in let can = c.requires.1.1 in
     let i = c.columns.invariant in
     let r = i.filled.filled.parents.room in let t = c.columns-test.false in
     let end = c.columns.auto.k-end in
-    let from = q.0.parents in
+    let from = sizes.parents in
     let lists = c.columns.lists in
     record {
       factor = rw (c.ptr-2-1.given.1.1 (sym i.loans.0), c.parent-2-1.given.1.1 (sym i.loans.1))
-          (front_written g.N.Index.value g.o q.1.laws c.columns.k (length lists.parent.now) lists c.columns.rows c.columns.marked
+          (front_written g.N.Index.value g.o can.laws c.columns.k (length lists.parent.now) lists c.columns.rows c.columns.marked
           c.columns.mark i.filled (omega (arith, t, end, from)) (omega (arith, t, end, from, r)) c.args.rows.now i.rest);
     }

@@ -5,7 +5,8 @@ use Rattle.amd_factor.proofs.lent.lent_columns.Goals as goal
 
 pub fill_into-requires : goal.fill_into-requires
 fill_into-requires g c κs inside =
-    let placed = c.requires.1.0.placed in
+    let matrix = c.requires.1.0 in
+    let placed = matrix.placed in
     let all = rows_long g.o _ _ _ c.args.places.now placed in
     let lists = c.requires.1.1 in
     let room = lists.words in
@@ -25,7 +26,7 @@ fill_into-requires g c κs inside =
         },
         record {
           laws = is_graph g.o _ _ _ c.args.places.now placed;
-          most = λ j l. c.requires.1.0.fit j (omega (arith, l, all));
+          most = λ j l. matrix.fit j (omega (arith, l, all));
           later_are = later_lists g.o _ _ _ c.args.places.now placed c.list_later.new.starts c.list_later.new.neighbours
               c.list_later.ensures;
         },
