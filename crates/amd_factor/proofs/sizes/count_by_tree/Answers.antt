@@ -5,8 +5,9 @@ use Rattle.amd_factor.proofs.sizes.count_by_tree.Goals as goal
 
 pub sweep-requires : goal.sweep-requires
 sweep-requires g c =
-    let laws = c.requires.0.laws in let thins = c.requires.0.thins in let tells = c.requires.0.parents in
-    let sizes = c.requires.1.1.counts_room in let work = c.requires.1.1.work_room in
+    let tree = c.requires.0 in let later = c.requires.1.0 in let room = c.requires.1.1 in
+    let laws = tree.laws in let thins = tree.thins in let tells = tree.parents in
+    let sizes = room.counts_room in let work = room.work_room in
     let goes = c.go_up.ensures in let parent = c.args.parent.now in let up = c.go_up.new.up in
     let size = c.measure.new.size in let rank = c.rank_places.new.rank in
     let all = places g.at.0 laws parent up tells goes in
@@ -25,7 +26,7 @@ sweep-requires g c =
         ranks = refl;
       },
       (
-        c.requires.1.0,
+        later,
         record {
           order_room = omega (arith, order-long, sizes, all);
           link_room = omega (arith, link-same, link-long, sizes, all);
@@ -39,9 +40,9 @@ sweep-requires g c =
 
 pub returns : goal.returns
 returns g c =
-    let laws = c.requires.0.laws in let tells = c.requires.0.parents in let goes = c.go_up.ensures in
+    let tree = c.requires.0 in let room = c.requires.1.1 in
+    let laws = tree.laws in let tells = tree.parents in let goes = c.go_up.ensures in
     let parent = c.args.parent.now in let up = c.go_up.new.up in let size = c.measure.new.size in let rank = c.rank_places.new.rank in
     sizes-held g.at.0 laws parent up tells goes size rank c.measure.ensures.measured c.measure.ensures.all c.rank_places.ensures
-    c.sweep.new.counts (c.sweep.auto.counts ∙ c.requires.1.1.counts_room) (λ k l. whole-targets g.at.0 g.at.1 laws
-    c.requires.0.thins parent up tells
+    c.sweep.new.counts (c.sweep.auto.counts ∙ room.counts_room) (λ k l. whole-targets g.at.0 g.at.1 laws tree.thins parent up tells
     goes size rank c.measure.ensures.measured c.measure.ensures.all c.rank_places.ensures k _ (c.sweep.ensures k l))

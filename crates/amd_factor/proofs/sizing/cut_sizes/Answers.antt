@@ -8,5 +8,6 @@ number_places-supernodes-requires-clause-parents g c =
 
 pub returns : goal.returns
 returns g c =
-    sizes-told g.o c.requires.0 c.args.sizes.now c.number_places-supernodes.new.owner c.args.parent.now c.requires.1.0
+    let laws = c.requires.0 in let counts = c.requires.1.0 in
+    sizes-told g.o laws c.args.sizes.now c.number_places-supernodes.new.owner c.args.parent.now counts
     c.number_places-supernodes.result c.in-Some.rows c.number_places-supernodes.ensures c.in-Some.ensures

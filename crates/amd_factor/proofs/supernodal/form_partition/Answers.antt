@@ -43,13 +43,14 @@ ordered_lists-requires g c = record { form = c.requires.1.1.form }
 
 pub thinned_sizes-requires : goal.thinned_sizes-requires
 thinned_sizes-requires g c κs within =
+    let posed = c.requires.1.1 in
     let a_p : List ℤ = map g.I.Index.value c.args.a_p.now in
     let a_i : List ℤ = map g.I.Index.value c.args.a_i.now in
     let p : List ℤ = map g.I.Index.value c.args.p.now in (
       within,
       (
-        laws c.args.size a_p a_i p g.o c.requires.1.1.graph c.requires.1.1.rows,
-        earlier_of c.args.size a_p a_i p g.o c.requires.1.1.graph c.requires.1.1.rows c.deref_mut.result.now c.deref_mut-2.result.now
+        laws c.args.size a_p a_i p g.o posed.graph posed.rows,
+        earlier_of c.args.size a_p a_i p g.o posed.graph posed.rows c.deref_mut.result.now c.deref_mut-2.result.now
             (rw (c.deref_mut.ensures.value, c.deref_mut-2.ensures.value) c.in_ok-lists.ensures.lists),
       ),
     )
@@ -58,8 +59,10 @@ pub cut_places-requires : goal.cut_places-requires
 cut_places-requires g c κs within = (within, rw (c.deref.ensures.value, c.deref-2.ensures.value) c.in_ok-sized.ensures.sizes)
 
 pub returns-clause-partition : goal.returns-clause-partition
-returns-clause-partition g c = partition_of c.args.size (map g.I.Index.value c.args.a_p.now) (map g.I.Index.value c.args.a_i.now)
-    (map g.I.Index.value c.args.p.now) g.o c.requires.1.1.graph c.requires.1.1.rows _ _ _ _ _ _ c.requires.1.1.form
+returns-clause-partition g c =
+    let posed = c.requires.1.1 in
+    partition_of c.args.size (map g.I.Index.value c.args.a_p.now) (map g.I.Index.value c.args.a_i.now)
+    (map g.I.Index.value c.args.p.now) g.o posed.graph posed.rows _ _ _ _ _ _ posed.form
     c.in_ok-lists.ensures.permutes (
     let starts : length c.thinned_sizes.new.starts ≡ c.in_ok-lists.lists.starts.len = search rules in
     let earlier : length c.thinned_sizes.new.earlier ≡ c.in_ok-lists.lists.neighbours.len = search rules in
