@@ -11,7 +11,8 @@ use Rattle.amd_factor.proofs.meeting.take_arcs.Goals as goal
 -- the place that the arc leads to has an arc before it, or none
 arc_low : (g : Over) (c : In-arcs g) → slice_index c.args.later.now c.arcs.i-index < length c.arcs.last
 arc_low g c =
-    let i = item g.at.0 c.requires.0.scene g.at.1 c.args.j c.args.later.now c.requires.0.place c.requires.0.here c.requires.0.later_are
+    let next = c.requires.0 in
+    let i = item g.at.0 next.scene g.at.1 c.args.j c.args.later.now next.place next.here next.later_are
     c.arcs.i-index c.arcs-test.true in
     let most = i.most in let room = c.arcs.invariant.met.last_room in omega (arith, most, room)
 
@@ -22,26 +23,25 @@ after : (g : Over) (c : After-meet-meeting g) → (c.meet-meeting.result < lengt
     (bump c.arcs.plus (slice_index c.args.rank.now c.args.j))
     (bump c.arcs.minus (slice_index c.args.rank.now c.meet-meeting.result))
 after g c =
-    this-arc g.at.0 c.requires.0.scene g.at.1 c.args.j c.args.later.now c.requires.0.place c.requires.0.here c.requires.0.later_are
-    c.arcs.i-index
-    c.arcs-test.true c.arcs.last c.arcs.plus c.arcs.minus c.arcs.invariant.met c.meet-meeting.result (length c.args.last.now)
-    c.args.rank.now c.requires.1.met.last_room c.requires.0.ranks c.meet-meeting.ensures.first c.meet-meeting.ensures.lowest
+    let next = c.requires.0 in let lists = c.requires.1 in
+    this-arc g.at.0 next.scene g.at.1 c.args.j c.args.later.now next.place next.here next.later_are
+    c.arcs.i-index c.arcs-test.true c.arcs.last c.arcs.plus c.arcs.minus c.arcs.invariant.met c.meet-meeting.result (length c.args.last.now)
+    c.args.rank.now lists.met.last_room next.ranks c.meet-meeting.ensures.first c.meet-meeting.ensures.lowest
 
 -- the place where it meets the arc before it has a counter
 there_low : (g : Over) (c : After-meet-meeting g) → slice_index c.args.rank.now c.meet-meeting.result < length c.arcs.minus
 there_low g c =
-    minus-low g.at.0 c.requires.0.scene g.at.1 c.args.j c.args.later.now c.requires.0.place c.requires.0.here c.requires.0.later_are
-    c.arcs.i-index
-    c.arcs-test.true c.arcs.last c.arcs.plus c.arcs.minus c.arcs.invariant.met c.meet-meeting.result c.args.rank.now c.requires.0.ranks
-    (after g c).0
+    let next = c.requires.0 in
+    minus-low g.at.0 next.scene g.at.1 c.args.j c.args.later.now next.place next.here next.later_are
+    c.arcs.i-index c.arcs-test.true c.arcs.last c.arcs.plus c.arcs.minus c.arcs.invariant.met c.meet-meeting.result c.args.rank.now
+    next.ranks (after g c).0
 
 pub arcs-init : goal.arcs-init
 arcs-init g c =
-    record {
-      links = c.requires.1.links;
-      met = taken-none g.at.0 c.requires.0.scene g.at.1 c.args.j c.args.later.now c.requires.0.place c.requires.0.here
-          c.requires.0.later_are _ _ _
-          c.requires.1.met;
+    let next = c.requires.0 in let lists = c.requires.1 in record {
+      links = lists.links;
+      met = taken-none g.at.0 next.scene g.at.1 c.args.j c.args.later.now next.place next.here next.later_are _ _ _
+          lists.met;
       sum = omega arith;
     }
 
@@ -59,10 +59,11 @@ offset_bounds-last-i-in-arcs g c = let low = arc_low g (goal.at.offset_bounds-la
 
 pub overflow_add-plus : goal.overflow_add-plus
 overflow_add-plus g c =
-    let a = plus-more g.at.0 c.requires.0.scene g.at.1 c.args.j c.args.later.now c.requires.0.place c.requires.0.here c.requires.0.later_are
+    let next = c.requires.0 in let lists = c.requires.1 in
+    let a = plus-more g.at.0 next.scene g.at.1 c.args.j c.args.later.now next.place next.here next.later_are
     c.arcs.i-index c.arcs-test.true
-    c.arcs.last c.arcs.plus c.arcs.minus c.arcs.invariant.met c.meet-meeting.result c.args.rank.now c.requires.0.ranks in
-    let sum = c.arcs.invariant.sum in let room = c.requires.1.room in let t = c.arcs-test.true in omega (arith, a, sum, room, t)
+    c.arcs.last c.arcs.plus c.arcs.minus c.arcs.invariant.met c.meet-meeting.result c.args.rank.now next.ranks in
+    let sum = c.arcs.invariant.sum in let room = lists.room in let t = c.arcs-test.true in omega (arith, a, sum, room, t)
 
 pub bounds-minus-there : goal.bounds-minus-there
 bounds-minus-there g c = there_low g (goal.at.bounds-minus-there g c).After-meet-meeting
@@ -75,29 +76,29 @@ offset_bounds-minus-there g c = let low = there_low g (goal.at.offset_bounds-min
 
 pub overflow_add-minus : goal.overflow_add-minus
 overflow_add-minus g c =
+    let next = c.requires.0 in let lists = c.requires.1 in
     let low = (after g (goal.at.overflow_add-minus g c).After-meet-meeting).0 in
-    let m = minus-more g.at.0 c.requires.0.scene g.at.1 c.args.j c.args.later.now c.requires.0.place c.requires.0.here
-    c.requires.0.later_are
+    let m = minus-more g.at.0 next.scene g.at.1 c.args.j c.args.later.now next.place next.here next.later_are
     c.arcs.i-index c.arcs-test.true c.arcs.last c.arcs.plus c.arcs.minus c.arcs.invariant.met c.meet-meeting.result
-    c.args.rank.now c.requires.0.ranks low in
-    let sum = c.arcs.invariant.sum in let enough = c.requires.1.room in let t = c.arcs-test.true in omega (arith, m, sum, enough, t)
+    c.args.rank.now next.ranks low in
+    let sum = c.arcs.invariant.sum in let enough = lists.room in let t = c.arcs-test.true in omega (arith, m, sum, enough, t)
 
 pub arcs-preserved : goal.arcs-preserved
 arcs-preserved g c =
-    record {
+    let next = c.requires.0 in record {
       links = c.meet-meeting.ensures.links;
       met = (after g (goal.at.arcs-preserved g c).After-meet-meeting).1;
-      sum = (let m = sum-more g.at.0 c.requires.0.scene g.at.1 c.args.j c.args.later.now c.requires.0.place c.requires.0.here
-          c.requires.0.later_are c.arcs.i-index c.arcs-test.true c.arcs.last c.arcs.plus c.arcs.minus c.arcs.invariant.met
-          c.meet-meeting.result c.args.rank.now c.requires.0.ranks in
+      sum = (let m = sum-more g.at.0 next.scene g.at.1 c.args.j c.args.later.now next.place next.here
+          next.later_are c.arcs.i-index c.arcs-test.true c.arcs.last c.arcs.plus c.arcs.minus c.arcs.invariant.met
+          c.meet-meeting.result c.args.rank.now next.ranks in
           let sum = c.arcs.invariant.sum in omega (arith, m, sum));
     }
 
 pub returns-clause-met : goal.returns-clause-met
 returns-clause-met g c =
-    taken-all g.at.0 c.requires.0.scene g.at.1 c.args.j c.args.later.now c.requires.0.place c.requires.0.here c.requires.0.later_are
-    c.arcs.i-index
-    c.arcs-test.false _ _ _
+    let next = c.requires.0 in
+    taken-all g.at.0 next.scene g.at.1 c.args.j c.args.later.now next.place next.here next.later_are
+    c.arcs.i-index c.arcs-test.false _ _ _
     c.arcs.invariant.met
 
 pub bounds-rank-meeting : goal.bounds-rank-meeting

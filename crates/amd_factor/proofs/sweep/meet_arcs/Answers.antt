@@ -8,64 +8,68 @@ use Rattle.amd_factor.proofs.sweep.meet_arcs.Goals as goal
 
 pub ranks-init : goal.ranks-init
 ranks-init g c =
-    let ups = c.requires.0.ups in
+    let tree = c.requires.0 in let later = c.requires.1.0 in let lists = c.requires.1.1 in
+    let ups = tree.ups in
     let last : c.fill.new.self ≡ replicate (length c.args.last.now) (length c.args.tree.now.up.now) = c.fill.ensures.after (λ y e. e) in
     let plus : c.fill-2.new.self ≡ replicate (length c.args.plus.now) 0 = c.fill-2.ensures.after (λ y e. e) in
     let minus : c.fill-3.new.self ≡ replicate (length c.args.minus.now) 0 = c.fill-3.ensures.after (λ y e. e) in
-    let link-room = c.requires.1.1.link_room in let same = c.links.auto.link in let past = c.links-test.false in
-    let plus-room = c.requires.1.1.plus_room in let minus-room = c.requires.1.1.minus_room in record {
+    let link-room = lists.link_room in let same = c.links.auto.link in let past = c.links-test.false in
+    let plus-room = lists.plus_room in let minus-room = lists.minus_room in record {
       links = unlinked g.s c.links.link (same ∙ link-room) (λ x l. c.links.invariant x (omega (arith, l, past, link-room)));
-      met = met-none g.s c.requires.0.scene c.fill.new.self c.fill-2.new.self c.fill-3.new.self (length c.args.plus.now) plus-room
-          (rank-inside g.s c.requires.0.scene)
-          (last ∙ ap (λ m. replicate m (length c.args.tree.now.up.now)) c.requires.1.1.last_room ∙ ap (λ m. replicate (length g.s.up) m)
+      met = met-none g.s tree.scene c.fill.new.self c.fill-2.new.self c.fill-3.new.self (length c.args.plus.now) plus-room
+          (rank-inside g.s tree.scene)
+          (last ∙ ap (λ m. replicate m (length c.args.tree.now.up.now)) lists.last_room ∙ ap (λ m. replicate (length g.s.up) m)
           (ap length ups)) plus
           (minus ∙ ap (λ m. replicate m 0) (minus-room ∙ sym plus-room));
-      room = (let a = remaining-first g.s c.requires.0.scene c.args.later.now.starts.now c.args.later.now.places.now c.requires.1.0 in
+      room = (let a = remaining-first g.s tree.scene c.args.later.now.starts.now c.args.later.now.places.now later in
           let b = zeros-sum c.fill-2.new.self (length c.args.plus.now) plus (length g.s.up + 1) (omega (arith, plus-room)) in
           omega (arith, a, b));
     }
 
 pub take_arcs-requires : goal.take_arcs-requires
 take_arcs-requires g c =
-    let order = c.requires.1.1.by_rank in let order-room = order.room in let t = c.ranks-test.true in
-    let ups = c.requires.0.ups in let has = c.requires.1.0 in
+    let tree = c.requires.0 in let lists = c.requires.1.1 in
+    let order = lists.by_rank in let order-room = order.room in let t = c.ranks-test.true in
+    let ups = tree.ups in let has = c.requires.1.0 in
     let o = order.each c.ranks.t (omega (arith, order-room, t)) in
     let j = slice_index c.args.order.now c.ranks.t in (
       record {
-        scene = c.requires.0.scene;
-        ranks = c.requires.0.ranks;
+        scene = tree.scene;
+        ranks = tree.ranks;
         place = o.0;
         here = refl;
-        later_are = has.each j (let low = o.0 in let places = c.requires.0.scene.places in omega (arith, low, places));
+        later_are = has.each j (let low = o.0 in let places = tree.scene.places in omega (arith, low, places));
       },
       record {
         links = subst (λ v. Links g.s v c.ranks.link) (sym o.1) c.ranks.invariant.links;
         met = subst (λ v. Met g.s (Taken g.s v) c.ranks.last c.ranks.plus c.ranks.minus) (sym o.1) c.ranks.invariant.met;
-        room = (let a = list-long g.s c.requires.0.scene c.args.later.now.starts.now c.args.later.now.places.now has j o.0 in
-            let b = remaining-next g.s c.requires.0.scene c.args.later.now.starts.now c.args.later.now.places.now has c.ranks.t j o.0 o.1 in
+        room = (let a = list-long g.s tree.scene c.args.later.now.starts.now c.args.later.now.places.now has j o.0 in
+            let b = remaining-next g.s tree.scene c.args.later.now.starts.now c.args.later.now.places.now has c.ranks.t j o.0 o.1 in
             let d = c.ranks.invariant.room in omega (arith, a, b, d));
       },
     )
 
 pub ranks-preserved : goal.ranks-preserved
 ranks-preserved g c =
-    let order = c.requires.1.1.by_rank in let order-room = order.room in let t = c.ranks-test.true in
-    let ups = c.requires.0.ups in let has = c.requires.1.0 in
+    let tree = c.requires.0 in let lists = c.requires.1.1 in
+    let order = lists.by_rank in let order-room = order.room in let t = c.ranks-test.true in
+    let ups = tree.ups in let has = c.requires.1.0 in
     let o = order.each c.ranks.t (omega (arith, order-room, t)) in
     let j = slice_index c.args.order.now c.ranks.t in
     record {
       links = subst (λ v. Links g.s (c.ranks.t + 1) (set c.take_arcs.new.link j (slice_index v j))) (sym ups)
-          (linked g.s c.requires.0.scene c.ranks.t c.take_arcs.new.link
+          (linked g.s tree.scene c.ranks.t c.take_arcs.new.link
           (subst (λ v. Links g.s v c.take_arcs.new.link) o.1 c.take_arcs.ensures.links) j o.0 o.1);
       met = subst (λ v. Met g.s (Taken g.s (v + 1)) c.take_arcs.new.last c.take_arcs.new.plus c.take_arcs.new.minus) o.1
           c.take_arcs.ensures.met;
-      room = (let a = list-long g.s c.requires.0.scene c.args.later.now.starts.now c.args.later.now.places.now has j o.0 in
-          let b = remaining-next g.s c.requires.0.scene c.args.later.now.starts.now c.args.later.now.places.now has c.ranks.t j o.0 o.1 in
+      room = (let a = list-long g.s tree.scene c.args.later.now.starts.now c.args.later.now.places.now has j o.0 in
+          let b = remaining-next g.s tree.scene c.args.later.now.starts.now c.args.later.now.places.now has c.ranks.t j o.0 o.1 in
           let d = c.ranks.invariant.room in let sum = c.take_arcs.ensures.sum in omega (arith, a, b, d, sum));
     }
 
 pub returns-clause-met : goal.returns-clause-met
 returns-clause-met g c =
-    let order-room = c.requires.1.1.by_rank.room in
+    let lists = c.requires.1.1 in
+    let order-room = lists.by_rank.room in
     let all : c.ranks.t ≡ length g.s.up = (let a = c.ranks-test.false in let b = c.ranks.auto.t-end in omega (arith, a, b, order-room)) in
     subst (λ v. Met g.s (Taken g.s v) c.ranks.last c.ranks.plus c.ranks.minus) all c.ranks.invariant.met
