@@ -10,12 +10,12 @@ earlier-init g c = λ n all arcs more held.
 
 pub arc-requires : goal.arc-requires
 arc-requires g c =
-    let h = c.requires.3 in (
-      c.requires.0,
-      c.requires.1,
+    let n = c.requires.0 in let all = c.requires.1 in let arcs = c.requires.2 in let h = c.requires.3 in let held = c.requires.4 in (
+      n,
+      all,
       _,
-      c.earlier.invariant c.requires.0 c.requires.1 c.requires.2 c.requires.3 c.requires.4,
-      to_is_next c.args.j c.args.earlier.now c.requires.0 c.requires.1 c.requires.2 h.place h.below (h.rest, h.is) c.earlier.i-index
+      c.earlier.invariant n all arcs h held,
+      to_is_next c.args.j c.args.earlier.now n all arcs h.place h.below (h.rest, h.is) c.earlier.i-index
           c.earlier-test.true,
     )
 
