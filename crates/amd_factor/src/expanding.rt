@@ -100,7 +100,7 @@ fn expanded<A: Allocator + Copy>(
     below: &[usize],
     over: &[Option<usize>],
 ) -> Result<Factor<A>, AllocError>
-    requires { (columns : List (List ℕ)) × AreBlocksOf columns first.now ptr.now below.now over.now }
+    requires blocks { (columns : List (List ℕ)) × AreBlocksOf columns first.now ptr.now below.now over.now }
     ensures { IfOk result (λ f. (columns : List (List ℕ)) → AreBlocksOf columns first.now ptr.now below.now over.now →
         HoldColumns columns f.ptr.items f.rows.items f.parent.items) }
 {

@@ -8,11 +8,13 @@ use Rattle.amd_factor.proofs.expanding.expand.Goals as goal
 
 pub expanded-requires : goal.expanded-requires
 expanded-requires g c =
-    let s = c.requires.4 in (
-      s.holds.columns,
-      rw (c.deref.ensures.value, c.deref-2.ensures.value, c.deref-3.ensures.value, c.deref-4.ensures.value)
-          (record { runs = s.holds.runs; holds = s.holds.holds }),
-    )
+    let s = c.requires.4 in record {
+      blocks = (
+        s.holds.columns,
+        rw (c.deref.ensures.value, c.deref-2.ensures.value, c.deref-3.ensures.value, c.deref-4.ensures.value)
+            (record { runs = s.holds.runs; holds = s.holds.holds }),
+      );
+    }
 
 pub returns : goal.returns
 returns g c =

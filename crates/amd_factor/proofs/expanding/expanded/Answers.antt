@@ -7,22 +7,22 @@ use Rattle.amd_factor.proofs.expanding.expanded.Goals as goal
 
 pub rows_of-block-requires-clause-inside : goal.rows_of-block-requires-clause-inside
 rows_of-block-requires-clause-inside g c =
-    let h = c.requires.1.holds in let p = h.pointers in let q = h.parents in let t = c.supernodes-test.true in omega (arith, p, q, t)
+    let h = c.requires.blocks.1.holds in let p = h.pointers in let q = h.parents in let t = c.supernodes-test.true in omega (arith, p, q, t)
 
 pub rows_of-block-requires-clause-ascending : goal.rows_of-block-requires-clause-ascending
 rows_of-block-requires-clause-ascending g c =
-    let h = c.requires.1.holds in let q = h.parents in let t = c.supernodes-test.true in
+    let h = c.requires.blocks.1.holds in let q = h.parents in let t = c.supernodes-test.true in
     h.ascending c.supernodes.s (omega (arith, q, t))
 
 pub rows_of-block-requires-clause-within : goal.rows_of-block-requires-clause-within
 rows_of-block-requires-clause-within g c =
-    let q = c.requires.1.holds.parents in let t = c.supernodes-test.true in
-    ptr-most c.requires.0 _ _ _ _ c.requires.1.runs c.requires.1.holds (c.supernodes.s + 1) (omega (arith, q, t))
+    let q = c.requires.blocks.1.holds.parents in let t = c.supernodes-test.true in
+    ptr-most c.requires.blocks.0 _ _ _ _ c.requires.blocks.1.runs c.requires.blocks.1.holds (c.supernodes.s + 1) (omega (arith, q, t))
 
 pub push_block-requires : goal.push_block-requires
 push_block-requires g c =
-    let q = c.requires.1.holds.parents in let t = c.supernodes-test.true in
-    let up = c.requires.1.runs.rises c.supernodes.s (omega (arith, q, t)) in omega (arith, up)
+    let q = c.requires.blocks.1.holds.parents in let t = c.supernodes-test.true in
+    let up = c.requires.blocks.1.runs.rises c.supernodes.s (omega (arith, q, t)) in omega (arith, up)
 
 pub supernodes-preserved : goal.supernodes-preserved
 supernodes-preserved g c = λ columns b.
