@@ -6,7 +6,7 @@ use Rattle.std.proofs.lemmas.Bool.{cases_eq}
 use Rattle.std.proofs.lemmas.Nat.{div-mul-add, mod_below, div-add-mod'}
 use Rattle.amd_report.specs.declared.grids.Grid.{Grid}
 use Rattle.amd_report.specs.Grids.{ShowsPlaces}
-use Rattle.amd_report.specs.Fills.{AddsFill, IsBlockFill, IsColumnFill, IsFillOf, IsPartFill, ShowsFill}
+use Rattle.amd_report.specs.Fills.{AddsFill, IsBlockFill, IsColumnFill, IsFillOf, IsFillRow, IsPartFill, ShowsFill}
 use Rattle.amd_report.specs.Patterns.{column_rows}
 use Rattle.amd_report.proofs.Cells.{cells-then}
 use Rattle.amd_report.proofs.Sifting.{both-kept, cell-back}
@@ -51,6 +51,14 @@ part-none g n first end below starts later =
     adds-none g n (IsPartFill first first end below starts later)
     (λ k j is. (let x = is.0 in let y = is.1 in omega (arith, x, y)))
 
+-- a row that is fill of a column is so of the same column by another name, with the same later neighbours
+fill-row : (k m end j : ℕ) (below later near : List ℕ) → k ≡ m → near ≡ later → IsFillRow k end below later j → IsFillRow m end below near j
+fill-row k m end j below later near e is fill =
+    let under = fill.0 in (
+      (subst (λ z. z < j) e under.0, under.1),
+      (λ has. fill.1 (subst (λ z. Contains z j) is has)),
+    )
+
 -- one column of a supernode more
 pub part-next : {A : Type 0} (f g h : Grid A) (n first m end : ℕ) (below starts later near : List ℕ) → first ≤ m →
     near ≡ column_rows starts later m → AddsFill f g n (IsPartFill first m end below starts later) →
@@ -59,22 +67,14 @@ part-next f g h n first m end below starts later near low is a b =
     adds-then f g h n (IsPartFill first m end below starts later) (IsColumnFill m end below near)
     (IsPartFill first (m + 1) end below starts later) a b
     (λ k j fill. ⊎_elim
-    (λ e. inr (
-      e,
-      (
-        (subst (λ z. z < j) e fill.2.0.0, fill.2.0.1),
-        (λ has. fill.2.1 (subst (λ z. Contains z j) (is ∙ ap (column_rows starts later) (sym e)) has)),
-      ),
-    ))
+    (λ e. inr (e, fill-row k m end j below (column_rows starts later k) near e (is ∙ ap (column_rows starts later) (sym e)) fill.2))
     (λ ne. inl (fill.0, (let x = fill.1 in omega (arith, x, ne)), fill.2)) (cases_eq k m))
     (λ k j fill. (fill.0, (let x = fill.1 in omega (arith, x)), fill.2))
     (λ k j fill. (
       (let e = fill.0 in omega (arith, low, e)),
       (let e = fill.0 in omega (arith, e)),
-      (
-        (subst (λ z. z < j) (sym fill.0) fill.1.0.0, fill.1.0.1),
-        (λ has. fill.1.1 (subst (λ z. Contains z j) (sym (is ∙ ap (column_rows starts later) (sym fill.0))) has)),
-      ),
+      fill-row m k end j below near (column_rows starts later k) (sym fill.0)
+          (sym (is ∙ ap (column_rows starts later) (sym fill.0))) fill.1,
     ))
 
 -- one supernode more
