@@ -12,22 +12,22 @@ returns-in_err-front c = rw c.from_residual.ensures
 
 pub returns-in_err-per_line : goal.returns-in_err-per_line
 returns-in_err-per_line c =
-    let parts = c.in_ok-front.ensures in
+    let parts = c.in_ok-front.ensures in let split = parts.1.1 in
     rw c.from_residual-in_err-per_line.ensures (λ k w h.
-    let same = item-parts c.args.text.now _ _ parts.0 parts.1.1.0 parts.1.0 parts.1.1.1 k w h in
+    let same = item-parts c.args.text.now _ _ parts.0 split.0 parts.1.0 split.1 k w h in
     c.in_err-per_line.ensures k (subst (λ z. SpellsRepeat z k) (sym same.0) h.repeated))
 
 pub returns-in_err-width : goal.returns-in_err-width
 returns-in_err-width c =
-    let parts = c.in_ok-front.ensures in
+    let parts = c.in_ok-front.ensures in let split = parts.1.1 in
     rw c.from_residual-in_err-width.ensures (λ k w h.
-    let same = item-parts c.args.text.now _ _ parts.0 parts.1.1.0 parts.1.0 parts.1.1.1 k w h in
+    let same = item-parts c.args.text.now _ _ parts.0 split.0 parts.1.0 split.1 k w h in
     c.in_err-width.ensures w (subst (λ z. SpellsWidth z w) (sym same.1) h.wide))
 
 pub returns-then-per_line-eq0 : goal.returns-then-per_line-eq0
 returns-then-per_line-eq0 c k w h =
-    let parts = c.in_ok-front.ensures in
-    let same = item-parts c.args.text.now _ _ parts.0 parts.1.1.0 parts.1.0 parts.1.1.1 k w h in
+    let parts = c.in_ok-front.ensures in let split = parts.1.1 in
+    let same = item-parts c.args.text.now _ _ parts.0 split.0 parts.1.0 split.1 k w h in
     let is = item-same c.args.text.now _ _ _ _ k w c.in_ok-per_line.ensures c.in_ok-width.ensures h same in
     let one = is.0 in
     let two = is.1 in
@@ -40,7 +40,7 @@ returns-then-per_line-eq0 c k w h =
 
 pub returns : goal.returns
 returns c =
-    let parts = c.in_ok-front.ensures in
+    let parts = c.in_ok-front.ensures in let split = parts.1.1 in
     let some = c.if-per_line-eq0.false in
     let room = c.if-width-eq0.false in (
       refl,
@@ -48,7 +48,7 @@ returns c =
         front = c.in_ok-front.front.now;
         letter = parts.0;
         back = c.in_ok-front.back.now;
-        parts = parts.1.1.0;
+        parts = split.0;
         is_whole = parts.1.0;
         repeated = c.in_ok-per_line.ensures;
         wide = c.in_ok-width.ensures;
