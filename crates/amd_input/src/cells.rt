@@ -6,17 +6,22 @@ ghost use Rattle.amd_model.specs.Below.{sum_below};
 
 use amd_words::{Cell, Unsigned, cell_of, number_of};
 use std::alloc::{AllocError, Allocator};
+use std::mem::replace;
 
-/// Puts `size` zeros in the place of the numbers.
-pub fn zeros<U: Unsigned, A: Allocator>(cells: &mut Vec<Cell<U>, A>, size: usize)
+/// Puts `size` zeros in the place of the numbers. The list is taken out of its place while it is filled, since behind a
+/// reference each push loads and stores its length.
+pub fn zeros<U: Unsigned, A: Allocator + Copy>(cells: &mut Vec<Cell<U>, A>, size: usize)
     requires { size ≤ vec_capacity cells.old }
     ensures zeros { cells.new.items ≡ replicate size 0 }
     ensures room { vec_capacity cells.new ≡ vec_capacity cells.old }
 {
-    cells.clear();
+    let alloc = *cells.allocator();
+    let mut own = replace(cells, Vec::new(alloc));
+    own.clear();
     'cells: for _ in 0..size {
-        cells.push_reserved(cell_of(0));
+        own.push_reserved(cell_of(0));
     }
+    *cells = own;
 }
 
 /// The sum of the numbers, where it is at most the greatest `usize`.

@@ -1,15 +1,19 @@
 -- the goals of cells::zeros.
 use Rattle.std.proofs.Common.{◌≡◌, ◌∙◌, ◌++◌, ◌∷◌, [], arith, ap, length, replicate}
 use Rattle.std.proofs.lemmas.List.{length-replicate, replicate_more}
+use Rattle.std.specs.Vec.{vec_capacity}
 use borrow.Author.Count.{falls}
 use Rattle.amd_input.proofs.cells.zeros.Goals as goal
 
 pub cells-init : goal.cells-init
-cells-init g c = record { room = c.clear.ensures.capacity; items = c.clear.ensures.items }
+cells-init g c = record {
+  room = c.clear.ensures.capacity ∙ ap vec_capacity c.replace-own.ensures.value;
+  items = c.clear.ensures.items;
+}
 
 pub push_reserved-requires : goal.push_reserved-requires
 push_reserved-requires g c =
-    let len = c.cells.cells.ok.0 in let long = ap length c.cells.invariant.items ∙ length-replicate c.cells.counter 0 in
+    let len = c.cells.own.ok.0 in let long = ap length c.cells.invariant.items ∙ length-replicate c.cells.counter 0 in
     let room = c.cells.invariant.room in let most = c.requires in let more = c.cells-test.true in omega (arith, len, long, room, most, more)
 
 pub cells-smaller : goal.cells-smaller
