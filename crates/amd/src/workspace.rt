@@ -42,12 +42,22 @@ pub enum Widths<A: Allocator> {
 }
 
 /// The memory of the orderings of all matrices with at most so many rows and entries.
-#[derive(Drop)]
 pub struct Workspace<A: Allocator> {
     rows: usize,
     entries: usize,
     widths: Widths<A>,
     ghost made: { IsMadeFor rows entries widths },
+}
+
+/// The lists of each width are given back in one function, not anew wherever a workspace ends.
+impl<A: Allocator> Drop for Workspace<A> {
+    fn drop(self) {
+        let Workspace {
+            rows: _,
+            entries: _,
+            widths: _,
+        } = self;
+    }
 }
 
 /// The lists of a workspace for so many rows and entries.

@@ -33,7 +33,6 @@ pub struct Lists<U: Unsigned, A: Allocator> {
 }
 
 /// All memory of an elimination.
-#[derive(Drop)]
 pub struct Memory<S: Signed, P: Signed, U: Unsigned, A: Allocator> {
     /// The words of all lists, and the bound of each class.
     pub words: Words<S, U, A>,
@@ -48,6 +47,20 @@ pub struct Memory<S: Signed, P: Signed, U: Unsigned, A: Allocator> {
     pub e_len: Vec<Word<P>, A>,
     /// The other lists.
     pub lists: Lists<U, A>,
+}
+
+/// The lists are given back in one function, not anew wherever a memory ends.
+impl<S: Signed, P: Signed, U: Unsigned, A: Allocator> Drop for Memory<S, P, U, A> {
+    fn drop(self) {
+        let Memory {
+            words: _,
+            pe: _,
+            len: _,
+            nv: _,
+            e_len: _,
+            lists: _,
+        } = self;
+    }
 }
 
 impl<U: Unsigned, A: Allocator + Copy> Lists<U, A> {
@@ -69,8 +82,8 @@ impl<U: Unsigned, A: Allocator + Copy> Lists<U, A> {
 }
 
 impl<S: Signed, P: Signed, U: Unsigned, A: Allocator + Copy> Memory<S, P, U, A> {
-    /// Memory for eliminations of up to `rows` rows in up to `words` words, but for the numbers of rows and of elements:
-    /// other lists serve in their place.
+    /// Memory for eliminations of up to `rows` rows in up to `words` words, but for the numbers of rows and of
+    /// elements: other lists serve in their place.
     ///
     /// # Errors
     ///
