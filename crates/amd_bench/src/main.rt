@@ -43,9 +43,27 @@ pub struct Outcome<I> {
     pub times: Vec<Duration>,
 }
 
-/// Orders a matrix by the default control some times. It is compiled apart from its caller, so that no other loop takes
-/// its registers.
+/// Orders a matrix by the default control, and says how long that took. It is compiled apart from its caller, so that
+/// no other loop takes its registers.
 #[inline(never)]
+fn time_order<R: Clock + Alloc<A = Global>, I: PrimInt>(
+    rt: &R,
+    matrix: &BinaryMatrix<I, Global>,
+) -> Result<(Vec<I>, Info, Duration)>
+    requires { I.fits (I.value matrix.now.n) }
+{
+    let control = Control::default();
+    let start = Instant::now(rt)?;
+    let answer = order(rt.alloc(), matrix.n, &matrix.a_p, &matrix.a_i, &control);
+    let time = start.elapsed(rt)?;
+    match answer {
+        Ok((p, _, info)) => Ok((p, info, time)),
+        Err(Status::Invalid) => bail!("the file holds no column form"),
+        Err(_) => bail!("out of memory"),
+    }
+}
+
+/// Orders a matrix by the default control some times.
 fn order_often<R: Clock + Alloc<A = Global>, I: PrimInt>(
     rt: &R,
     matrix: &BinaryMatrix<I, Global>,
@@ -53,18 +71,12 @@ fn order_often<R: Clock + Alloc<A = Global>, I: PrimInt>(
 ) -> Result<Outcome<I>>
     requires { I.fits (I.value matrix.now.n) }
 {
-    let control = Control::default();
     let mut times = Vec::new(rt.alloc());
     let mut last = None;
     'repeats: for _ in 0..repeats {
-        let start = Instant::now(rt)?;
-        let answer = order(rt.alloc(), matrix.n, &matrix.a_p, &matrix.a_i, &control);
-        times.push(start.elapsed(rt)?)?;
-        match answer {
-            Ok((p, _, info)) => last = Some((p, info)),
-            Err(Status::Invalid) => bail!("the file holds no column form"),
-            Err(_) => bail!("out of memory"),
-        }
+        let (p, info, time) = time_order(rt, matrix)?;
+        last = Some((p, info));
+        times.push(time)?;
     }
     let (p, info) = last.context("no repeats")?;
     Ok(Outcome { p, info, times })
@@ -217,40 +229,35 @@ fn request_of(words: &[String]) -> Option<Request<'_>> {
     })
 }
 
+/// Times a call on a matrix, and prints what it returned.
+fn time_call<R: Runtime + Alloc<A = Global>, I: PrimInt>(
+    rt: &R,
+    request: &Request<'_>,
+    name: &str,
+    matrix: &BinaryMatrix<I, Global>,
+) -> Result<()>
+    requires { I.fits (I.value matrix.now.n) }
+{
+    let (kind, call, repeats) = (request.kind, request.call, request.repeats);
+    match call {
+        "columns" => print_factored(rt, kind, name, call, columns_often(rt, matrix, repeats)?),
+        "analyze" => print_factored(rt, kind, name, call, analyze_often(rt, matrix, repeats)?),
+        "within" => print_outcome(rt, kind, name, order_within_often(rt, matrix, repeats)?),
+        "stages" => print_staged(rt, kind, name, &stages_often(rt, matrix, repeats)?),
+        "peak" => print_taken(rt, kind, name, &most_taken(rt, matrix, repeats)?),
+        _ => print_outcome(rt, kind, name, order_often(rt, matrix, repeats)?),
+    }
+}
+
 /// Times a call on the matrix of a file in one type of numbers.
 fn time_file<R: Runtime + Alloc<A = Global>, I: PrimInt>(
     rt: &R,
     request: &Request<'_>,
 ) -> Result<()> {
-    let (path, kind, repeats) = (request.path, request.kind, request.repeats);
+    let path = request.path;
     let matrix: BinaryMatrix<I, Global> = read_file(rt, path)?;
     let name = path.rsplit('/').next().unwrap_or(path);
-    match request.call {
-        "columns" => {
-            let factored = columns_often(rt, &matrix, repeats)?;
-            print_factored(rt, kind, name, "columns", factored)
-        }
-        "analyze" => {
-            let factored = analyze_often(rt, &matrix, repeats)?;
-            print_factored(rt, kind, name, "analyze", factored)
-        }
-        "within" => {
-            let outcome = order_within_often(rt, &matrix, repeats)?;
-            print_outcome(rt, kind, name, outcome)
-        }
-        "stages" => {
-            let staged = stages_often(rt, &matrix, repeats)?;
-            print_staged(rt, kind, name, &staged)
-        }
-        "peak" => {
-            let taken = most_taken(rt, &matrix, repeats)?;
-            print_taken(rt, kind, name, &taken)
-        }
-        _ => {
-            let outcome = order_often(rt, &matrix, repeats)?;
-            print_outcome(rt, kind, name, outcome)
-        }
-    }
+    time_call(rt, request, name, &matrix)
 }
 
 /// Times what is asked for.
