@@ -133,7 +133,7 @@ macro_rules! can_24 {
 }
 
 /// Matrices with their answers.
-pub static MATRICES: [EngineCase<'static>; 26] = [
+static MATRICES: [EngineCase<'static>; 26] = [
     one_row!("one row without entries", &[0, 0], &[], 10000),
     one_row!("one row without entries, no dense rows", &[0, 0], &[], -1),
     EngineCase {
@@ -388,3 +388,8 @@ pub static MATRICES: [EngineCase<'static>; 26] = [
         ]
     ),
 ];
+
+/// The worked matrices. A proof of each function that names the list itself would hold all of it.
+pub fn matrices() -> &'static [EngineCase<'static>] {
+    &MATRICES
+}

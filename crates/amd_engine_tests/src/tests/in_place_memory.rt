@@ -2,7 +2,7 @@
 // widths, and nothing left behind; workspaces that no memory holds. How many requests there are does not depend on the
 // number of rounds, and on the workspace only where it is larger than what an allocator keeps as one list.
 
-use crate::tests::in_place_matrices::{EngineCase, MATRICES};
+use crate::tests::in_place_matrices::{EngineCase, matrices};
 use crate::tests::in_place_rows::{control_of, is_answer, matrix_of};
 use crate::tests::sorted::{Sorted, order_in_place, order_sparing, unmarked};
 use amd_testing::check;
@@ -45,7 +45,7 @@ fn check_requests(rt: &impl Abort, heap: Global, flag: usize, case: &EngineCase)
 /// The first flag 2 has words of 32 bits, and the other one has wider words.
 #[test]
 fn each_request_of_the_engine_in_place(rt: HostRuntime) {
-    for case in &MATRICES {
+    for case in matrices() {
         check_requests(&rt, rt.alloc(), 2, case);
         check_requests(&rt, rt.alloc(), 1 << 32, case);
     }
@@ -61,7 +61,7 @@ fn check_workspace(rt: &impl Abort, alloc: Global, more: usize, case: &EngineCas
 /// So many words are refused as memory is, and what was granted before comes back.
 #[test]
 fn workspaces_that_no_memory_holds(rt: HostRuntime) {
-    for case in &MATRICES {
+    for case in matrices() {
         check_workspace(&rt, rt.alloc(), 1 << 58, case);
         check_workspace(&rt, rt.alloc(), (1 << 60) - 1, case);
     }

@@ -3,7 +3,7 @@
 // `amd_2_from` by themselves, the latter over lists that were laid. The answers were worked by hand, and come from the
 // Rust crate `amd` and from a plain program that follows the rules.
 
-use crate::tests::in_place_matrices::{EngineCase, MATRICES};
+use crate::tests::in_place_matrices::{EngineCase, matrices};
 use crate::tests::laid::{are_words, order_laid};
 use crate::tests::sorted::{Sorted, first_flags, order_exactly, order_in_place, order_plainly};
 use amd_testing::check;
@@ -111,7 +111,7 @@ fn check_amd_2_from<S: Signed, P: Signed, U: Unsigned>(
 /// words at least.
 #[test]
 fn worked_matrices(rt: HostRuntime) {
-    for case in &MATRICES {
+    for case in matrices() {
         check(&rt, rt.alloc(), case, 0);
         check(&rt, rt.alloc(), case, 1);
         check(&rt, rt.alloc(), case, 5);
@@ -120,7 +120,7 @@ fn worked_matrices(rt: HostRuntime) {
 
 #[test]
 fn worked_matrices_through_each_call(rt: HostRuntime) {
-    for case in &MATRICES {
+    for case in matrices() {
         check_plainly(&rt, rt.alloc(), case);
         check_amd_1(&rt, rt.alloc(), case);
         check_amd_2_from::<i32, i32, u32>(&rt, rt.alloc(), case);

@@ -3,7 +3,7 @@
 
 ghost use Rattle.std.specs.Prelude.{◌≡◌};
 
-use crate::tests::in_place_matrices::{EngineCase, MATRICES};
+use crate::tests::in_place_matrices::{EngineCase, matrices};
 use crate::tests::in_place_rows::{control_of, is_answer, matrix_of};
 use crate::tests::laid::laid_of;
 use crate::tests::sorted::Sorted;
@@ -105,7 +105,7 @@ fn check_case(rt: &impl Abort, alloc: Global, case: &EngineCase) {
 
 #[test]
 fn worked_matrices_over_numbers(rt: HostRuntime) {
-    for case in &MATRICES {
+    for case in matrices() {
         if case.hold.is_none() {
             check_case(&rt, rt.alloc(), case);
         }
