@@ -2,7 +2,7 @@
 // refusal answers `OutOfMemory`, and the first one without gives the answer. After each of them as many blocks came
 // back as were granted. How many requests there are does not depend on the number of rounds.
 
-use crate::tests::small_matrices::SMALL_MATRICES;
+use crate::tests::small_matrices::matrices;
 use crate::tests::worked::{DENSE_ROW, OrderingCase, check_answer, with_dense};
 use amd::aat::aat;
 use amd::preprocess::preprocess;
@@ -107,8 +107,8 @@ pub fn check_requests(rt: &impl Abort, what: &str, refusals: Result<u64, Slip>, 
     }
 }
 
-/// The number of requests of `order`: a block that is given back at once; eight lists with a place for each row, and the
-/// buckets; the words of the lists; and two for the result. A jumbled matrix takes two more for its transpose.
+/// The number of requests of `order`: a block that is given back at once; eight lists with a place for each row, and
+/// the buckets; the words of the lists; and two for the result. A jumbled matrix takes two more for its transpose.
 fn requests_of(case: &OrderingCase) -> u64 {
     if case.jumbled { 15 } else { 13 }
 }
@@ -128,7 +128,7 @@ fn check_order(rt: &impl Abort, alloc: Global, control: &Control, case: &Orderin
 /// The inputs are shared references, so no run can change them.
 #[test]
 fn each_request_of_order(rt: HostRuntime) {
-    for case in &SMALL_MATRICES {
+    for case in matrices() {
         check_order(&rt, rt.alloc(), &Control::default(), case);
     }
     check_order(&rt, rt.alloc(), &with_dense(0), &DENSE_ROW);

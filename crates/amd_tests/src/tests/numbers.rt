@@ -152,7 +152,8 @@ macro_rules! assert_ends {
         $(
             for end in &$ends {
                 let alloc = $rt.alloc();
-                assert!($rt; is_refused_end(alloc, end) && is_ignored(alloc, end), "{}", end.end);
+                let is_end = is_refused_end(alloc, end) && is_ignored(alloc, end);
+                check!(&$rt; is_end, stringify!($ends));
             }
         )*
     };

@@ -4,7 +4,7 @@
 use crate::tests::worked::OrderingCase;
 
 /// Small matrices with their answers.
-pub static SMALL_MATRICES: [OrderingCase<'static>; 18] = [
+static SMALL_MATRICES: [OrderingCase<'static>; 18] = [
     OrderingCase {
         what: "one row without entries",
         n: 1,
@@ -186,3 +186,8 @@ pub static SMALL_MATRICES: [OrderingCase<'static>; 18] = [
         symmetric: false,
     },
 ];
+
+/// The small matrices. A proof of each function that names the list itself would hold all of it.
+pub fn matrices() -> &'static [OrderingCase<'static>] {
+    &SMALL_MATRICES
+}

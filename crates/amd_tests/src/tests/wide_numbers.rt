@@ -2,11 +2,13 @@
 // place of each pointer and of each row it makes the input no column form, and after the end it is ignored. The answers
 // are those of `small_matrices`.
 
-use crate::tests::small_matrices::SMALL_MATRICES;
+use crate::tests::small_matrices::matrices;
 use crate::tests::worked::OrderingCase;
 use amd::{Control, Status, order};
+use amd_testing::check;
 use num_traits::PrimInt;
 use std::alloc::{AllocError, Global};
+use std::process::Abort;
 use std::test::Fail;
 
 /// The numbers of pointers and of rows of a case, without those after the end.
@@ -84,26 +86,69 @@ fn has_order<I: PrimInt>(alloc: Global, n: I, a_p: &[I], a_i: &[I], p: &[I]) -> 
     }
 }
 
-/// Asserts that numbers are refused in the small matrices in some type, and ignored after their end.
+/// The lists of a matrix in some type, and its order.
+#[derive(Drop)]
+struct WideMatrix<I> {
+    a_p: Vec<I>,
+    a_i: Vec<I>,
+    p: Vec<I>,
+}
+
+/// Whether each of some numbers is refused in the place of each pointer and of each row.
+fn are_refused<I: PrimInt>(alloc: Global, n: I, matrix: &mut WideMatrix<I>, numbers: &[I]) -> bool
+    requires { I.fits (I.value n) }
+{
+    for &number in numbers {
+        if !is_no_pointer(alloc, n, &mut matrix.a_p, &matrix.a_i, number) {
+            return false;
+        }
+        if !is_no_row(alloc, n, &matrix.a_p, &mut matrix.a_i, number) {
+            return false;
+        }
+    }
+    true
+}
+
+/// Appends numbers to the pointers and to the rows.
+fn append<I: PrimInt>(matrix: &mut WideMatrix<I>, numbers: &[I]) -> Result<(), AllocError> {
+    for &number in numbers {
+        matrix.a_p.push(number)?;
+        matrix.a_i.push(number)?;
+    }
+    Ok(())
+}
+
+/// Asserts that numbers are refused in a small matrix, and ignored after its end.
+fn check_numbers<I: PrimInt>(
+    rt: &impl Abort,
+    alloc: Global,
+    case: &OrderingCase,
+    n: I,
+    matrix: &mut WideMatrix<I>,
+    numbers: &[I],
+) -> Result<(), AllocError>
+    requires { I.fits (I.value n) }
+{
+    check!(rt; are_refused(alloc, n, matrix, numbers), case.what);
+    append(matrix, numbers)?;
+    let is_ordered = has_order(alloc, n, &matrix.a_p, &matrix.a_i, &matrix.p);
+    check!(rt; is_ordered, case.what);
+    Ok(())
+}
+
+/// Asserts so of each small matrix in some type.
 macro_rules! assert_wide {
     ($rt:ident; $number:ty, $widen:ident, $wide:expr) => {
-        for case in &SMALL_MATRICES {
+        for case in matrices() {
             let alloc = $rt.alloc();
             let n = <$number>::try_from(case.n).unwrap_or(0);
             let (pointers, rows) = lengths_of(case);
-            let mut a_p = $widen(alloc, case.a_p, pointers)?;
-            let mut a_i = $widen(alloc, case.a_i, rows)?;
-            let p = $widen(alloc, case.p, pointers)?;
-            for number in $wide {
-                let is_pointer = !is_no_pointer(alloc, n, &mut a_p, &a_i, number);
-                let is_row = !is_no_row(alloc, n, &a_p, &mut a_i, number);
-                assert!($rt; !is_pointer && !is_row, "{number} in {}", case.what);
-            }
-            for number in $wide {
-                a_p.push(number)?;
-                a_i.push(number)?;
-            }
-            assert!($rt; has_order(alloc, n, &a_p, &a_i, &p), "{}", case.what);
+            let mut matrix = WideMatrix {
+                a_p: $widen(alloc, case.a_p, pointers)?,
+                a_i: $widen(alloc, case.a_i, rows)?,
+                p: $widen(alloc, case.p, pointers)?,
+            };
+            check_numbers(&$rt, alloc, case, n, &mut matrix, &$wide)?;
         }
     };
 }

@@ -5,7 +5,7 @@
 use crate::tests::can_24::{JUMBLED_POINTERS, JUMBLED_ROWS, POINTERS, ROWS};
 use crate::tests::factors::check_bounds;
 use crate::tests::holding::check_nothing_held;
-use crate::tests::small_matrices::SMALL_MATRICES;
+use crate::tests::small_matrices::matrices;
 use amd::{Control, Info, Status, order};
 use amd_testing::check;
 use amd_testing::inputs::cycle;
@@ -92,7 +92,7 @@ pub fn with_dense(dense: i32) -> Control {
 
 #[test]
 fn small_matrices(rt: HostRuntime) -> Result<(), Fail> {
-    for case in &SMALL_MATRICES {
+    for case in matrices() {
         check(&rt, rt.alloc(), &Control::default(), case)?;
     }
     Ok(())
