@@ -10,7 +10,7 @@ use crate::tests::sorted::Sorted;
 use amd_engine::amd_2::amd_2;
 use amd_testing::check;
 use amd_types::amd::{Control, Info};
-use amd_words::{Cell, Word, cell_at, word_at};
+use amd_words::{Cell, Word, number_of, word_at};
 use std::alloc::Global;
 use std::process::Abort;
 
@@ -18,11 +18,11 @@ use std::process::Abort;
 fn words_of(rt: &impl Abort, alloc: Global, words: &[Word<isize>]) -> Vec<isize>
     ensures { result.items ≡ words.now }
 {
-    let mut numbers = Vec::new(alloc);
+    let Ok(mut numbers) = Vec::with_capacity(alloc, words.len()) else {
+        panic!(rt; "no memory");
+    };
     'words: for k in 0..words.len() {
-        let Ok(()) = numbers.push(word_at(words, k)) else {
-            panic!(rt; "no memory");
-        };
+        numbers.push_reserved(word_at(words, k));
     }
     numbers
 }
@@ -31,11 +31,11 @@ fn words_of(rt: &impl Abort, alloc: Global, words: &[Word<isize>]) -> Vec<isize>
 fn cells_of(rt: &impl Abort, alloc: Global, cells: &[Cell<usize>]) -> Vec<usize>
     ensures { result.items ≡ cells.now }
 {
-    let mut numbers = Vec::new(alloc);
-    'cells: for k in 0..cells.len() {
-        let Ok(()) = numbers.push(cell_at(cells, k)) else {
-            panic!(rt; "no memory");
-        };
+    let Ok(mut numbers) = Vec::with_capacity(alloc, cells.len()) else {
+        panic!(rt; "no memory");
+    };
+    'cells: for cell in cells {
+        numbers.push_reserved(number_of(cell));
     }
     numbers
 }
