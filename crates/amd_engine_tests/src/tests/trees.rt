@@ -1,7 +1,7 @@
 // The postorder of forests: a worked one and hundreds that are drawn, in plain lists and in those of a workspace, and
 // refused memory.
 
-ghost use Rattle.std.specs.Prelude.{◌≡◌, ◌≤ℤ◌, ◌<◌, ◌⊎◌, ℕ, IsTrue, true, length, pos, negsuc, slice_index};
+ghost use Rattle.std.specs.Prelude.{◌≡◌, ◌≤ℤ◌, ◌<◌, ◌≤◌, ◌⊎◌, ℕ, IsTrue, true, length, pos, negsuc, slice_index};
 ghost use Rattle.amd_model.specs.Input.Columns.{at};
 ghost use Rattle.amd_postorder.specs.Trees.{IsElementForest, is_tree_element};
 
@@ -10,7 +10,7 @@ use amd_engine::internal::{EMPTY, link_at};
 use amd_engine::post_tree::post_tree;
 use amd_engine::postorder::{postorder, postorder_in};
 use amd_postorder::link::Link;
-use amd_testing::forests::{drawn_forest, listing_of};
+use amd_testing::forests::{Forest, drawn_forest, listing_of};
 use amd_testing::refusing::{Refusing, each_refused};
 use amd_words::{Cell, Signed, Unsigned, Word, word_of};
 use amd_workspace::filling::cells;
@@ -75,16 +75,23 @@ fn places<A: Allocator + Copy>(
     postorder(alloc, parent.len(), parent, nv, f_size)
 }
 
+/// The word of a number, which a word of this width must hold.
+fn checked<S: Signed>(rt: &impl Abort, number: isize) -> Word<S>
+    ensures { result ≡ number }
+{
+    assert!(rt; number.unsigned_abs() <= S::MOST);
+    word_of(number)
+}
+
 /// Words of a workspace with these numbers.
 fn words_of<S: Signed>(rt: &impl Abort, alloc: Global, numbers: &[isize]) -> Vec<Word<S>>
     ensures { result.items ≡ numbers.now }
 {
-    let mut words = Vec::new(alloc);
+    let Ok(mut words) = Vec::with_capacity(alloc, numbers.len()) else {
+        panic!(rt; "no words");
+    };
     'numbers: for &number in numbers {
-        assert!(rt; number.unsigned_abs() <= S::MOST);
-        let Ok(()) = words.push(word_of(number)) else {
-            panic!(rt; "no words");
-        };
+        words.push_reserved(checked(rt, number));
     }
     words
 }
@@ -99,6 +106,54 @@ fn cells_of<U: Unsigned>(rt: &impl Abort, alloc: Global, count: usize) -> Vec<Ce
     list
 }
 
+/// The links of a postorder of a forest, in lists of a workspace.
+fn links_of<S: Signed, U: Unsigned>(
+    rt: &impl Abort,
+    alloc: Global,
+    parent: &[Word<S>],
+    nv: &[Word<S>],
+    f_size: &[Word<S>],
+) -> Vec<Cell<U>>
+    requires forest { IsElementForest (length parent.now) parent.now nv.now f_size.now }
+    requires numbers { length parent.now ≤ U.MOST }
+{
+    let nn = parent.len();
+    let mut child: Vec<Cell<U>> = cells_of(rt, alloc, nn);
+    let mut sibling: Vec<Cell<U>> = cells_of(rt, alloc, nn);
+    let mut order: Vec<Cell<U>> = cells_of(rt, alloc, nn);
+    let mut stack: Vec<Cell<U>> = cells_of(rt, alloc, nn);
+    postorder_in(
+        nn,
+        parent,
+        nv,
+        f_size,
+        &mut child,
+        &mut sibling,
+        &mut order,
+        &mut stack,
+    );
+    order
+}
+
+/// The place that a link names, or `EMPTY` where it names none.
+fn place_at<U: Unsigned>(links: &[Cell<U>], e: usize) -> isize
+    requires { e < length links.now }
+{
+    match Link::link_at(links, e) {
+        Some(k) => isize::try_from(k).unwrap_or(isize::MAX),
+        None => EMPTY,
+    }
+}
+
+/// The places that links name, and `EMPTY` where one names none.
+fn places_of<U: Unsigned>(alloc: Global, links: &[Cell<U>]) -> Result<Vec<isize>, Fail> {
+    let mut places = Vec::new(alloc);
+    for e in 0..links.len() {
+        places.push(place_at(links, e))?;
+    }
+    Ok(places)
+}
+
 /// The places of a forest's elements, in lists of a workspace whose words have these widths. The ranks show that it
 /// is one.
 fn places_in<S: Signed, U: Unsigned>(
@@ -109,35 +164,13 @@ fn places_in<S: Signed, U: Unsigned>(
     f_size: &[isize],
     rank: &[usize],
 ) -> Result<Vec<isize>, Fail> {
-    let nn = parent.len();
-    assert!(rt; nn < 1000 && nn <= U::MOST);
+    assert!(rt; parent.len() < 1000 && parent.len() <= U::MOST);
     assert!(rt; is_forest(parent, nv, f_size, rank));
     let parents: Vec<Word<S>> = words_of(rt, alloc, parent);
     let counts: Vec<Word<S>> = words_of(rt, alloc, nv);
     let sizes: Vec<Word<S>> = words_of(rt, alloc, f_size);
-    let mut child: Vec<Cell<U>> = cells_of(rt, alloc, nn);
-    let mut sibling: Vec<Cell<U>> = cells_of(rt, alloc, nn);
-    let mut order: Vec<Cell<U>> = cells_of(rt, alloc, nn);
-    let mut stack: Vec<Cell<U>> = cells_of(rt, alloc, nn);
-    postorder_in(
-        nn,
-        &parents,
-        &counts,
-        &sizes,
-        &mut child,
-        &mut sibling,
-        &mut order,
-        &mut stack,
-    );
-    let mut places = Vec::new(alloc);
-    for e in 0..order.len() {
-        let place = match Link::link_at(&order, e) {
-            Some(k) => isize::try_from(k).unwrap_or(isize::MAX),
-            None => EMPTY,
-        };
-        places.push(place)?;
-    }
-    Ok(places)
+    let links: Vec<Cell<U>> = links_of(rt, alloc, &parents, &counts, &sizes);
+    places_of(alloc, &links)
 }
 
 /// Seven places, of which the last holds no element, and the place of each in the postorder. Elements 0 to 3 are
@@ -250,35 +283,33 @@ fn are_places(order: &[isize], listing: &[usize]) -> bool {
     numbered == listing.len()
 }
 
+/// Asserts that the places of a forest's elements are those of a listing, in plain lists and in those of a workspace.
+fn check_forest(
+    rt: &impl Abort,
+    alloc: Global,
+    forest: &Forest,
+    listing: &[usize],
+) -> Result<(), Fail> {
+    let (parent, nv) = (forest.parent.as_slice(), forest.nv.as_slice());
+    let (f_size, rank) = (forest.f_size.as_slice(), forest.rank.as_slice());
+    let Ok(order) = places(rt, alloc, parent, nv, f_size, rank) else {
+        panic!(rt; "no postorder");
+    };
+    assert!(rt;
+        order.len() == nv.len() && are_places(&order, listing),
+        "{order:?} {listing:?}"
+    );
+    let lent = places_in::<i32, u32>(rt, alloc, parent, nv, f_size, rank)?;
+    assert!(rt; lent.as_slice() == order.as_slice());
+    Ok(())
+}
+
 #[test]
 fn drawn_forests(rt: HostRuntime) -> Result<(), Fail> {
     for seed in 0..400 {
         let forest = drawn_forest(rt.alloc(), seed)?;
         let listing = listing_of(rt.alloc(), &forest.parent, &forest.nv, &forest.f_size)?;
-        let Ok(order) = places(
-            &rt,
-            rt.alloc(),
-            &forest.parent,
-            &forest.nv,
-            &forest.f_size,
-            &forest.rank,
-        ) else {
-            panic!(rt; "no postorder at {seed}");
-        };
-        let is_whole = order.len() == forest.nv.len();
-        assert!(rt;
-            is_whole && are_places(&order, &listing),
-            "{order:?} {listing:?}"
-        );
-        let lent = places_in::<i32, u32>(
-            &rt,
-            rt.alloc(),
-            &forest.parent,
-            &forest.nv,
-            &forest.f_size,
-            &forest.rank,
-        )?;
-        assert!(rt; lent.as_slice() == order.as_slice());
+        check_forest(&rt, rt.alloc(), &forest, &listing)?;
     }
     Ok(())
 }
