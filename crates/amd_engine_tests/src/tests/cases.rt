@@ -3,7 +3,7 @@
 use crate::tests::readings::{Reading, reading_of};
 use amd_cases::cases::Case;
 use amd_cases::faults::CaseFault;
-use amd_cases::matrix::{BinaryMatrix, MatrixError, read_matrix};
+use amd_cases::matrix::{MatrixError, read_matrix};
 use amd_cases::reader::CaseReader;
 use amd_testing::check;
 use amd_testing::refusing::{Refusing, each_refused};
@@ -96,9 +96,17 @@ fn items_that_may_be_left_out(rt: HostRuntime) {
     let marks = [false, true, true].as_slice();
     check!(&rt; next_has_items(&mut cases, Some(marks), None, None));
     check!(&rt; next_has_items(&mut cases, Some(&[]), Some(&[1, 0]), Some(-7)));
-    let mut again = CaseReader::new(rt.alloc(), MORE_ITEMS);
-    check!(&rt; reading_of(&mut again) == Reading::Case(1, 3));
-    check_case(&rt, &mut again, (2, 2, 10000, true), &[0], &[]);
+}
+
+#[test]
+fn what_stands_beside_items_that_may_be_left_out(rt: HostRuntime) {
+    let mut cases = CaseReader::new(rt.alloc(), MORE_ITEMS);
+    check!(&rt; reading_of(&mut cases) == Reading::Case(1, 3));
+    check_case(&rt, &mut cases, (2, 2, 10000, true), &[0], &[]);
+}
+
+#[test]
+fn items_that_are_left_out(rt: HostRuntime) {
     let mut cases = CaseReader::new(rt.alloc(), TWO_CASES);
     check!(&rt; next_has_items(&mut cases, None, None, None));
 }
@@ -240,17 +248,18 @@ fn fault_of<I: PrimInt, R: Read>(alloc: Global, input: &mut R) -> Option<MatrixE
     read_matrix::<I, _, _>(alloc, input).err()
 }
 
+/// Checks the matrix of a file.
+fn check_matrix(rt: &impl Abort, alloc: Global, mut file: &[u8], n: i64, a_p: &[i64], a_i: &[i64]) {
+    let Ok(matrix) = read_matrix::<i64, _, _>(alloc, &mut file) else {
+        panic!(rt; "refused");
+    };
+    check!(rt; matrix.n == n && matrix.a_p.as_slice() == a_p && matrix.a_i.as_slice() == a_i);
+}
+
 #[test]
 fn a_matrix_file(rt: HostRuntime) -> Result<(), Fail> {
     let bytes = file_of(rt.alloc(), &[2, 3, 0, 2, 3], &[0, 1, -300])?;
-    let Ok(BinaryMatrix { n, a_p, a_i }) = read_matrix::<i64, _, _>(
-        rt.alloc(),
-        &mut bytes.as_slice(),
-    ) else {
-        panic!(rt; "refused");
-    };
-    check!(&rt; n == 2 && a_p.as_slice() == [0, 2, 3].as_slice());
-    check!(&rt; a_i.as_slice() == [0, 1, -300].as_slice());
+    check_matrix(&rt, rt.alloc(), &bytes, 2, &[0, 2, 3], &[0, 1, -300]);
     Ok(())
 }
 
