@@ -85,6 +85,44 @@ fn are_same(one: &Answer, other: &Answer) -> bool {
         && numbers_of(&one.info) == numbers_of(&other.info)
 }
 
+/// Asserts that an answer for a sorted matrix is the one that is wanted. Returns how often lists were packed.
+fn packings_of(
+    rt: &impl Abort,
+    mut found: Answer,
+    wanted: &Answer,
+    matrix: &Sorted,
+    control: &Control,
+) -> usize {
+    let packings = take_packings(rt, &mut found);
+    assert!(rt;
+        are_same(&found, wanted),
+        "{control:?} {:?} {:?}",
+        matrix.a_p,
+        matrix.a_i
+    );
+    packings
+}
+
+/// Asserts that the engine in place has this answer from each first flag on.
+fn check_first_flags(
+    rt: &impl Abort,
+    alloc: Global,
+    matrix: &Sorted,
+    control: &Control,
+    answer: &Answer,
+) {
+    check_flags(
+        rt,
+        alloc,
+        &first_flags(rt, answer.p.len()),
+        0,
+        matrix,
+        control,
+        (&answer.p, &answer.p_inv),
+        numbers_of(&answer.info),
+    );
+}
+
 /// Asserts that there is one answer for a matrix, of which a sorted form is given too, with one choice of a caller.
 /// Returns how often lists were packed with no word to spare.
 fn compare_choice(
@@ -96,27 +134,14 @@ fn compare_choice(
     control: &Control,
 ) -> usize {
     let mut answer = ordered(rt, alloc, matrix.n, a_p, a_i, control);
-    let mut exact = ordered_exactly(rt, alloc, matrix, control);
-    let mut over = ordered_over_numbers(rt, alloc, matrix, control);
-    let plain = ordered_plainly(rt, alloc, matrix, control);
     take_packings(rt, &mut answer);
-    let packings = take_packings(rt, &mut exact);
-    check!(rt; take_packings(rt, &mut over) == packings);
-    let are_one = are_same(&answer, &over)
-        && are_same(&answer, &exact)
-        && are_same(&answer, &plain);
-    assert!(rt; are_one, "{control:?} {a_p:?} {a_i:?}");
-    let wanted = (answer.p.as_slice(), answer.p_inv.as_slice());
-    check_flags(
-        rt,
-        alloc,
-        &first_flags(rt, answer.p.len()),
-        0,
-        matrix,
-        control,
-        wanted,
-        numbers_of(&answer.info),
-    );
+    let exact = ordered_exactly(rt, alloc, matrix, control);
+    let packings = packings_of(rt, exact, &answer, matrix, control);
+    let over = ordered_over_numbers(rt, alloc, matrix, control);
+    check!(rt; packings_of(rt, over, &answer, matrix, control) == packings);
+    let plain = ordered_plainly(rt, alloc, matrix, control);
+    check!(rt; packings_of(rt, plain, &answer, matrix, control) == 0);
+    check_first_flags(rt, alloc, matrix, control, &answer);
     packings
 }
 
@@ -138,19 +163,24 @@ fn compare_choices(
     least
 }
 
+/// Asserts that there is one answer for a matrix with jumbled columns. Returns how often lists were packed at least.
+fn compare_jumbled(rt: &impl Abort, alloc: Global, n: i64, a_p: &[i64], a_i: &[i64]) -> usize {
+    assert!(rt; n > 0 && valid(n, n, a_p, a_i) == Status::OkButJumbled);
+    let Ok((c_p, c_i)) = preprocess(alloc, n, a_p, a_i) else {
+        panic!(rt; "no transpose");
+    };
+    compare_choices(rt, alloc, a_p, a_i, &unmarked(n, &c_p, &c_i))
+}
+
 /// Asserts that there is one answer for a matrix, by the sorted form that `order` takes. Returns how often lists were
 /// packed at least.
 fn compare(rt: &impl Abort, alloc: Global, n: i64, a_p: &[i64], a_i: &[i64]) -> usize {
-    check!(rt; n > 0);
     match valid(n, n, a_p, a_i) {
-        Status::OK => compare_choices(rt, alloc, a_p, a_i, &unmarked(n, a_p, a_i)),
-        Status::OkButJumbled => {
-            let Ok((c_p, c_i)) = preprocess(alloc, n, a_p, a_i) else {
-                panic!(rt; "no transpose");
-            };
-            compare_choices(rt, alloc, a_p, a_i, &unmarked(n, &c_p, &c_i))
+        Status::OK => {
+            check!(rt; n > 0);
+            compare_choices(rt, alloc, a_p, a_i, &unmarked(n, a_p, a_i))
         }
-        _ => panic!(rt; "no column form"),
+        _ => compare_jumbled(rt, alloc, n, a_p, a_i),
     }
 }
 
@@ -174,13 +204,18 @@ static FAMILIES: [(Family, i64, i64); 7] = [
     (Family::Drawn, 1, 64),
 ];
 
+/// Asserts that there is one answer for a matrix of a family.
+fn check_member(rt: &impl Abort, alloc: Global, family: Family, n: i64, a_p: &[i64], a_i: &[i64]) {
+    let packings = compare(rt, alloc, n, a_p, a_i);
+    check!(rt; n < packed_from(family) || packings >= 1);
+}
+
 #[test]
 fn engines_of_families(rt: HostRuntime) -> Result<(), Fail> {
     let alloc = rt.alloc();
     for &(family, first, last) in &FAMILIES {
         each_member(alloc, family, first, last, |n, a_p, a_i| {
-            let packings = compare(&rt, alloc, n, a_p, a_i);
-            check!(&rt; n < packed_from(family) || packings >= 1);
+            check_member(&rt, alloc, family, n, a_p, a_i);
             Ok(())
         })?;
     }
