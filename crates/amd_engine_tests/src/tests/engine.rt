@@ -9,6 +9,29 @@ use amd_types::amd::{Control, Info, Status};
 use std::alloc::Global;
 use std::process::Abort;
 
+/// An order of rows and its inverse, with memory that may be refused.
+type Outcome<'a> = Result<
+    (
+        Vec<i64, &'a Refusing<Global>>,
+        Vec<i64, &'a Refusing<Global>>,
+    ),
+    Status,
+>;
+
+/// Whether there is an answer, which must be the one that is wanted.
+fn is_answered(rt: &impl Abort, outcome: &Outcome, wanted: (&[i64], &[i64])) -> bool {
+    match outcome {
+        Ok((p, p_inv)) => {
+            check!(rt; p.as_slice() == wanted.0 && p_inv.as_slice() == wanted.1);
+            true
+        }
+        Err(status) => {
+            check!(rt; *status == Status::OutOfMemory);
+            false
+        }
+    }
+}
+
 /// Orders a sorted matrix, whose degrees are counted with memory of their own, and says whether there was an answer,
 /// which must be the one that is wanted.
 fn orders(
@@ -23,16 +46,8 @@ fn orders(
     let mut info = Info::new(0);
     let (degrees, _) = degrees_of(rt, alloc, n, a_p, a_i, 0, &mut info);
     let control = Control::default();
-    match plain_1(heap, n, a_p, a_i, &degrees, &control, None, &mut info) {
-        Ok((p, p_inv)) => {
-            check!(rt; p.as_slice() == wanted.0 && p_inv.as_slice() == wanted.1);
-            true
-        }
-        Err(status) => {
-            check!(rt; status == Status::OutOfMemory);
-            false
-        }
-    }
+    let outcome = plain_1(heap, n, a_p, a_i, &degrees, &control, None, &mut info);
+    is_answered(rt, &outcome, wanted)
 }
 
 /// The five rows of the demo.
