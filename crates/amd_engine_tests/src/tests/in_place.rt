@@ -2,14 +2,14 @@
 // spare and in one with more, in both widths of words, and from first flags with and without a reset of the counters.
 // Cycles, whose lists are packed, are in `families`.
 
-use crate::tests::sorted::{Sorted, first_flags, order_in_place, order_plainly};
+use crate::tests::sorted::{Sorted, first_flags, order_in_place, order_plainly, unmarked};
 use amd_input::preprocess::preprocess;
 use amd_input::valid::valid;
 use amd_testing::check;
 use amd_testing::inputs::{drawn, drawn_with_hub};
 use amd_testing::records::numbers_of;
 use amd_types::amd::{Control, Info, Status};
-use std::alloc::Global;
+use std::alloc::{AllocError, Global};
 use std::process::Abort;
 use std::test::Fail;
 
@@ -62,6 +62,34 @@ fn agree(rt: &impl Abort, alloc: Global, matrix: &Sorted, control: &Control) {
     }
 }
 
+/// Compares the engines on a sorted matrix, with each way of absorption.
+fn agree_with(rt: &impl Abort, alloc: Global, matrix: &Sorted, dense: i32) {
+    for aggressive in [false, true] {
+        agree(rt, alloc, matrix, &Control { dense, aggressive });
+    }
+}
+
+/// Compares the engines on a sorted matrix with nothing marked, and with these marks.
+fn agree_marked(rt: &impl Abort, alloc: Global, matrix: &Sorted, marks: &[bool], dense: i32) {
+    agree_with(rt, alloc, matrix, dense);
+    let marked = Sorted {
+        n: matrix.n,
+        a_p: matrix.a_p,
+        a_i: matrix.a_i,
+        hold: Some(marks),
+    };
+    agree_with(rt, alloc, &marked, dense);
+}
+
+/// Which of `n` rows are each third one.
+fn third_rows(alloc: Global, n: i64) -> Result<Vec<bool>, AllocError> {
+    let mut marks = Vec::new(alloc);
+    for k in 0..n {
+        marks.push(k % 3 == 0)?;
+    }
+    Ok(marks)
+}
+
 /// Cleans a matrix, and compares the engines with nothing marked and with each third row marked.
 fn compare(
     rt: &impl Abort,
@@ -72,36 +100,36 @@ fn compare(
     dense: i32,
 ) -> Result<(), Fail> {
     assert!(rt; n > 0 && valid(n, n, a_p, a_i) != Status::Invalid);
+    let marks = third_rows(alloc, n)?;
     let Ok((c_p, c_i)) = preprocess(alloc, n, a_p, a_i) else {
         panic!(rt; "no transpose");
     };
-    let mut marks = Vec::new(alloc);
-    for k in 0..n {
-        marks.push(k % 3 == 0)?;
-    }
-    for aggressive in [false, true] {
-        let control = Control { dense, aggressive };
-        for hold in [None, Some(marks.as_slice())] {
-            let matrix = Sorted {
-                n,
-                a_p: &c_p,
-                a_i: &c_i,
-                hold,
-            };
-            agree(rt, alloc, &matrix, &control);
-        }
+    agree_marked(rt, alloc, &unmarked(n, &c_p, &c_i), &marks, dense);
+    Ok(())
+}
+
+/// Compares the engines on a matrix that was drawn.
+fn compare_drawn(
+    rt: &impl Abort,
+    alloc: Global,
+    matrix: (i64, Vec<i64>, Vec<i64>),
+    dense: i32,
+) -> Result<(), Fail> {
+    compare(rt, alloc, matrix.0, &matrix.1, &matrix.2, dense)
+}
+
+#[test]
+fn engines_agree(rt: HostRuntime) -> Result<(), Fail> {
+    let alloc = rt.alloc();
+    for seed in 1..10 {
+        compare_drawn(&rt, alloc, drawn(alloc, seed)?, 10000)?;
+        compare_drawn(&rt, alloc, drawn_with_hub(alloc, seed)?, 0)?;
     }
     Ok(())
 }
 
 #[test]
-fn engines_agree(rt: HostRuntime) -> Result<(), Fail> {
-    for seed in 1..10 {
-        let (n, a_p, a_i) = drawn(rt.alloc(), seed)?;
-        compare(&rt, rt.alloc(), n, &a_p, &a_i, 10000)?;
-        let (n, a_p, a_i) = drawn_with_hub(rt.alloc(), seed)?;
-        compare(&rt, rt.alloc(), n, &a_p, &a_i, 0)?;
-    }
+fn engines_agree_on_empty_rows(rt: HostRuntime) -> Result<(), Fail> {
     let a_p = vec![in rt.alloc(); 0; 256]?;
     compare(&rt, rt.alloc(), 255, &a_p, &[], 10000)
 }
