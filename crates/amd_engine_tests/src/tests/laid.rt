@@ -172,10 +172,11 @@ pub fn laid_of<S: Signed, P: Signed, U: Unsigned>(
         (length result.memory.words.iw.items) }
 {
     let (degrees, room) = degrees_of(rt, alloc, n, a_p, a_i, more, info);
-    let size = degrees.len();
+    let len = degrees.as_slice();
+    let size = len.len();
     assert!(rt; holds::<S, P, U>(size, room, 2));
     assert!(rt; count_at(a_p, size) <= U::MOST);
-    let Ok(mut memory) = memory_for::<S, P, U, Global>(alloc, &degrees, room) else {
+    let Ok(mut memory) = memory_for::<S, P, U, Global>(alloc, len, room) else {
         panic!(rt; "no memory");
     };
     let free = lay(size, a_p, a_i, room, &mut memory);
