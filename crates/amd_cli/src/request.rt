@@ -253,13 +253,22 @@ fn symmetric_argument<'a>(alloc: Global, beside: &'a str) -> Result<Arg<'a>, All
     flag_argument(alloc, "symmetric", "Draw A + A' before, and not A").requires_all(&[beside])
 }
 
+/// A subcommand with one more argument, where memory was not refused for either.
+fn with_argument_too<'a>(
+    command: Result<Command<'a>, AllocError>,
+    argument: Result<Arg<'a>, AllocError>,
+) -> Result<Command<'a>, AllocError> {
+    let argument = argument?;
+    command?.arg(argument)
+}
+
 /// A subcommand with these options too.
 fn with_choices<'a>(
     alloc: Global,
-    command: Command<'a>,
+    command: Result<Command<'a>, AllocError>,
     choices: &'static [Choice],
 ) -> Result<Command<'a>, AllocError> {
-    let mut command = command;
+    let mut command = command?;
     for choice in choices {
         let argument = if choice.has_path {
             path_argument(alloc, choice.name, choice.help)
@@ -279,9 +288,9 @@ fn matrix_command<'a>(
 ) -> Result<Command<'a>, AllocError> {
     let command = Command::new(alloc, name)
         .about(about)
-        .arg(file_argument(alloc))?
-        .arg(dense_argument(alloc))?
-        .arg(memory_argument(alloc))?;
+        .arg(file_argument(alloc));
+    let command = with_argument_too(command, Ok(dense_argument(alloc)));
+    let command = with_argument_too(command, Ok(memory_argument(alloc)));
     with_choices(alloc, command, &COMMON)
 }
 
@@ -292,21 +301,21 @@ fn ordering_command<'a>(
     about: &'a str,
     out: &'a str,
 ) -> Result<Command<'a>, AllocError> {
-    let command = matrix_command(alloc, name, about)?;
-    with_choices(alloc, command, &ORDERING)?.arg(path_argument(alloc, "out", out))
+    let command = matrix_command(alloc, name, about);
+    let command = with_choices(alloc, command, &ORDERING);
+    with_argument_too(command, Ok(path_argument(alloc, "out", out)))
 }
 
 /// A subcommand with the options that compare orders.
 fn comparing_command<'a>(
     alloc: Global,
-    command: Command<'a>,
+    command: Result<Command<'a>, AllocError>,
     name: &'a str,
 ) -> Result<Command<'a>, AllocError> {
     let help = "Count what the factor needs as the rows stand, and as they are ordered";
-    let with = with_argument(alloc, name)?;
-    let with_inverse = with_inverse_argument(alloc, name)?;
-    let flag = flag_argument(alloc, name, help);
-    command.arg(flag)?.arg(with)?.arg(with_inverse)
+    let command = with_argument_too(command, Ok(flag_argument(alloc, name, help)));
+    let command = with_argument_too(command, with_argument(alloc, name));
+    with_argument_too(command, with_inverse_argument(alloc, name))
 }
 
 /// The subcommand `order`.
@@ -316,10 +325,11 @@ fn order_command<'a>(alloc: Global) -> Result<Command<'a>, AllocError> {
         "order",
         "Order the rows and write the permutation, one row a line, counted from 1",
         "Write the permutation to PATH and not to standard output, which is -",
-    )?;
-    let command = with_choices(alloc, command, &WRITING)?;
-    let command = comparing_command(alloc, command, "compare")?;
-    with_choices(alloc, command, &DRAWING)?.arg(symmetric_argument(alloc, "picture")?)
+    );
+    let command = with_choices(alloc, command, &WRITING);
+    let command = comparing_command(alloc, command, "compare");
+    let command = with_choices(alloc, command, &DRAWING);
+    with_argument_too(command, symmetric_argument(alloc, "picture"))
 }
 
 /// The subcommand `analyze`.
@@ -334,16 +344,17 @@ fn analyze_command<'a>(alloc: Global) -> Result<Command<'a>, AllocError> {
 
 /// The subcommand `info`.
 fn info_command<'a>(alloc: Global) -> Result<Command<'a>, AllocError> {
-    let command = matrix_command(alloc, "info", "Tell what the matrix is")?;
+    let command = matrix_command(alloc, "info", "Tell what the matrix is");
     comparing_command(alloc, command, "exact")
 }
 
-/// A command with one more subcommand.
+/// A command with one more subcommand, where memory was not refused for either.
 fn with_subcommand<'a>(
-    command: Command<'a>,
+    command: Result<Command<'a>, AllocError>,
     subcommand: Result<Command<'a>, AllocError>,
 ) -> Result<Command<'a>, AllocError> {
-    command.subcommand(subcommand?)
+    let subcommand = subcommand?;
+    command?.subcommand(subcommand)
 }
 
 /// The whole command.
@@ -353,8 +364,8 @@ fn whole_command<'a>(alloc: Global) -> Result<Command<'a>, AllocError> {
         .about("Approximate minimum degree orderings of sparse matrices")
         .subcommand_required(true)
         .arg_required_else_help(true);
-    let command = with_subcommand(command, order_command(alloc))?;
-    let command = with_subcommand(command, analyze_command(alloc))?;
+    let command = with_subcommand(Ok(command), order_command(alloc));
+    let command = with_subcommand(command, analyze_command(alloc));
     with_subcommand(command, info_command(alloc))
 }
 
