@@ -55,14 +55,27 @@ fn archive_at<'a>(path: &'a str) -> Option<Advice<'a>> {
     Some(Advice::Archive { path, name })
 }
 
+/// What leads on after a fault of a line of the matrix.
+fn advice_on_fault<'a>(subject: &'a str, fault: &ReadFault) -> Option<Advice<'a>> {
+    match fault {
+        ReadFault::Gzip => Some(unpacked(subject)),
+        ReadFault::NotSquare { .. } => Some(Advice::Square),
+        _ => None,
+    }
+}
+
+/// What leads on after an error of a text.
+fn advice_on_error<'a>(subject: &'a str, error: &ReadError) -> Option<Advice<'a>> {
+    match error {
+        ReadError::Line { fault, .. } => advice_on_fault(subject, fault),
+        ReadError::Input { .. } => None,
+    }
+}
+
 /// What leads on after a complaint.
 pub fn advice_on<'a>(complaint: &Complaint<'a>) -> Option<Advice<'a>> {
     match &complaint.cause {
-        Cause::Text(ReadError::Line { fault, .. }) => match fault {
-            ReadFault::Gzip => Some(unpacked(complaint.subject)),
-            ReadFault::NotSquare { .. } => Some(Advice::Square),
-            _ => None,
-        },
+        Cause::Text(error) => advice_on_error(complaint.subject, error),
         _ => None,
     }
 }
