@@ -2,6 +2,7 @@
 // there. Files are tested alone: no contract can speak of them.
 
 use crate::causes::Cause;
+use std::alloc::{AllocError, Global};
 use std::fs::{Metadata, OpenOptions};
 use std::io::ErrorKind;
 use std::os::unix::fs::MetadataExt;
@@ -57,22 +58,34 @@ pub fn folder_and_name(path: &str) -> (&str, &str) {
     }
 }
 
+/// Whether a path names a link.
+fn is_link<R: Files>(rt: &R, path: &str) -> bool {
+    fs::symlink_metadata(rt, path).is_ok_and(|found| found.is_symlink())
+}
+
+/// The path of what a link tells whose path is `place`.
+fn path_from(alloc: Global, place: &str, target: &str) -> Result<String, AllocError> {
+    if target.starts_with('/') {
+        return String::from_str(alloc, target);
+    }
+    let (folder, _) = folder_and_name(place);
+    format!(in alloc; "{folder}/{target}")
+}
+
+/// Where a link leads whose path is `place`.
+fn target_of<R: Files + AllocGlobal>(rt: &R, place: &str) -> Result<String, Cause> {
+    let target = fs::read_link(rt, place)?;
+    Ok(path_from(rt.alloc(), place, target.as_str())?)
+}
+
 /// Where a path leads over links, the last of which may lead to nothing yet.
 pub fn end_of<R: Files + AllocGlobal>(rt: &R, path: &str) -> Result<String, Cause> {
     let mut place = String::from_str(rt.alloc(), path)?;
     'links: for _ in 0..LINKS {
-        match fs::symlink_metadata(rt, place.as_str()) {
-            Ok(found) if found.is_symlink() => {}
-            _ => return Ok(place),
+        if !is_link(rt, place.as_str()) {
+            return Ok(place);
         }
-        let target = fs::read_link(rt, place.as_str())?;
-        let (folder, _) = folder_and_name(place.as_str());
-        let target = target.as_str();
-        place = if target.starts_with('/') {
-            String::from_str(rt.alloc(), target)?
-        } else {
-            format!(in rt.alloc(); "{folder}/{target}")?
-        };
+        place = target_of(rt, place.as_str())?;
     }
     Err(Cause::Write(io::Error::from(ErrorKind::Other)))
 }
@@ -92,18 +105,29 @@ fn name_one_place<R: Files>(rt: &R, first: &str, second: &str) -> bool {
     name == other_name && are_one_folder(rt, one, other)
 }
 
+/// Whether two files are one regular file.
+fn are_one_file(one: &Metadata, other: &Metadata) -> bool {
+    let number = number_of(one);
+    number.is_some() && number == number_of(other)
+}
+
+/// Whether two paths, at which nothing is yet, lead to one place.
+fn lead_to_one_place<R: Files + AllocGlobal>(
+    rt: &R,
+    first: &str,
+    second: &str,
+) -> Result<bool, Cause> {
+    let one = end_of(rt, first)?;
+    let other = end_of(rt, second)?;
+    Ok(name_one_place(rt, one.as_str(), other.as_str()))
+}
+
 /// Whether two paths name one regular file, or one place where nothing is yet. A device or a pipe may be written to
 /// more than once.
 fn lead_to_one<R: Files + AllocGlobal>(rt: &R, first: &str, second: &str) -> Result<bool, Cause> {
     match (found_at(rt, first)?, found_at(rt, second)?) {
-        (Some(one), Some(other)) => match number_of(&one) {
-            Some(number) => Ok(number_of(&other) == Some(number)),
-            None => Ok(false),
-        },
-        (None, None) => {
-            let (one, other) = (end_of(rt, first)?, end_of(rt, second)?);
-            Ok(name_one_place(rt, one.as_str(), other.as_str()))
-        }
+        (Some(one), Some(other)) => Ok(are_one_file(&one, &other)),
+        (None, None) => lead_to_one_place(rt, first, second),
         _ => Ok(false),
     }
 }
