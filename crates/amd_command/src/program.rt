@@ -311,17 +311,26 @@ fn order_file<'a, R: Runtime + AllocGlobal>(
     told
 }
 
+/// Orders what a task has, counts the columns of its factor, and writes what comes of it.
+fn analyze_read<'a, R: Runtime + AllocGlobal>(
+    rt: &R,
+    options: &Options<'a>,
+    task: &Task,
+) -> Result<(), Complaint<'a>> {
+    let texts = analysis_texts(rt.alloc(), task, options.json);
+    tell_ordering(rt, &task.progress, Moment::End, &task.matrix);
+    let texts = about(options.file, texts)?;
+    put_texts(rt, options, &texts)?;
+    tell_figures(rt, options.quiet, texts.figures)
+}
+
 /// Orders a file, and counts the columns of its factor. All memory is taken before an output is written.
 fn analyze_file<'a, R: Runtime + AllocGlobal>(
     rt: &R,
     options: &Options<'a>,
 ) -> Result<(), Complaint<'a>> {
     let task = read_task(rt, options, Work::Factor)?;
-    let texts = analysis_texts(rt.alloc(), &task, options.json);
-    tell_ordering(rt, &task.progress, Moment::End, &task.matrix);
-    let texts = about(options.file, texts)?;
-    put_texts(rt, options, &texts)?;
-    tell_figures(rt, options.quiet, texts.figures)
+    analyze_read(rt, options, &task)
 }
 
 /// What the factor of a matrix needs as its rows stand, as they are ordered and as a file lists them, where that is
