@@ -1,6 +1,7 @@
 -- Texts: pieces, members, items and lines, and what a writer took.
 pub mod Pieces
 pub mod Mirrors
+pub mod Pushed
 pub mod Passing
 pub mod Signing
 pub mod Widths
