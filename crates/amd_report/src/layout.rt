@@ -2,7 +2,7 @@
 // columns wide. A block is as wide as its subtree has columns. The blocks under it lie one after another from its left
 // edge on, and its own columns behind them: so columns stand in a postorder of the elimination tree.
 
-ghost use Rattle.std.specs.Prelude.{◌≡◌, ◌<◌, ◌≤◌, ◌+◌, ℕ, List, true, IfOk, length, slice_index};
+ghost use Rattle.std.specs.Prelude.{◌≡◌, ◌<◌, ◌≤◌, ◌+◌, ℕ, List, true, IfOk, OnOk, length, slice_index};
 ghost use Rattle.amd_count_laws.specs.Parts.{part_size};
 ghost use Rattle.amd_count_laws.specs.Rising.{GoesUp};
 ghost use Rattle.amd_report.specs.Layouts.{AddsUnder, AreLaid, AreWidths, GoesToParents, IsLayout, IsOver};
@@ -150,6 +150,41 @@ fn write_layout(
     true
 }
 
+/// A layout of so many places, in which nothing is laid yet.
+fn blank<A: Allocator + Copy>(alloc: A, places: usize) -> Result<Layout<A>, AllocError>
+    ensures left { IfOk result (λ l. length l.left.items ≡ places) }
+    ensures width { IfOk result (λ l. length l.width.items ≡ places) }
+    ensures level { IfOk result (λ l. length l.level.items ≡ places) }
+{
+    let left = vec![in alloc; 0; places]?;
+    let width = vec![in alloc; 0; places]?;
+    let level = vec![in alloc; 0; places]?;
+    Ok(Layout { left, width, level })
+}
+
+/// Lays the supernodes that begin at these columns and have these parents in a layout with places for them and for
+/// what is over all.
+fn fill_layout<A: Allocator + Copy>(
+    alloc: A,
+    first: &[usize],
+    parents: &[Option<usize>],
+    layout: &mut Layout<A>,
+) -> Result<(), AllocError>
+    requires left { length layout.old.left.items ≡ length parents.now + 1 }
+    requires width { length layout.old.width.items ≡ length parents.now + 1 }
+    requires level { length layout.old.level.items ≡ length parents.now + 1 }
+    ensures { OnOk result (IsLayout first.now parents.now layout.new.left.items layout.new.width.items
+        layout.new.level.items) }
+{
+    let Layout { left, width, level } = layout;
+    let mut up = vec![in alloc; 0; parents.len()]?;
+    let mut next = vec![in alloc; 0; left.len()]?;
+    if !write_layout(first, parents, &mut up, width, left, level, &mut next) {
+        return Err(AllocError);
+    }
+    Ok(())
+}
+
 /// Lays the supernodes that begin at these columns and have these parents.
 ///
 /// # Errors
@@ -165,15 +200,7 @@ pub fn layout_of<A: Allocator + Copy>(
     let Some(places) = parents.len().checked_add(1) else {
         return Err(AllocError);
     };
-    let mut up = vec![in alloc; 0; parents.len()]?;
-    let mut width = vec![in alloc; 0; places]?;
-    let mut left = vec![in alloc; 0; places]?;
-    let mut level = vec![in alloc; 0; places]?;
-    let mut next = vec![in alloc; 0; places]?;
-    if !write_layout(
-        first, parents, &mut up, &mut width, &mut left, &mut level, &mut next,
-    ) {
-        return Err(AllocError);
-    }
-    Ok(Layout { left, width, level })
+    let mut layout = blank(alloc, places)?;
+    fill_layout(alloc, first, parents, &mut layout)?;
+    Ok(layout)
 }
