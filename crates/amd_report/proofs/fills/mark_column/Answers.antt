@@ -1,8 +1,36 @@
 -- Rows that are opened, or were ready, are sifted.
-use Rattle.std.proofs.Common.{⊎_elim, length, subst, sym, ap, ◌+◌, List, ℕ}
+use Rattle.std.proofs.Common.{⊎_elim, length, subst, sym, ap, arith, ◌+◌, ◌≤◌, ◌∙◌, List, ℕ}
+use Rattle.std.specs.Prelude.{slice_index}
+use Rattle.amd_report.specs.Grids.{HasCells}
 use Rattle.amd_report.specs.Fills.{AddsFill, IsColumnFill, IsReady}
+use Rattle.amd_report.proofs.Pushed.{written-over}
 use Rattle.amd_report.proofs.Sifting.{ready-opened}
 use Rattle.amd_report.proofs.fills.mark_column.Goals as goal
+
+pub sift_column-requires-clause-covers : goal.sift_column-requires-clause-covers
+sift_column-requires-clause-covers g c = subst (HasCells c.args.grid.now) (sym (ap length c.deref_mut.ensures.value)) c.requires.covers
+
+pub sift_column-requires-clause-column : goal.sift_column-requires-clause-column
+sift_column-requires-clause-column g c =
+    let room = ap length c.deref_mut.ensures.value in let column = c.requires.column in omega (arith, room, column)
+
+pub sift_column-requires-clause-stamps : goal.sift_column-requires-clause-stamps
+sift_column-requires-clause-stamps g c =
+    λ j. subst (λ z. slice_index z j ≤ c.args.k) (sym c.deref_mut.ensures.value) (c.requires.stamps j)
+
+pub returns-clause-room : goal.returns-clause-room
+returns-clause-room g c =
+    let edge = c.args.work.now.edge in let new : List ℕ = c.sift_column.new.edge in
+    let room = c.in_ok-sift_column.ensures.room ∙ ap length c.deref_mut.ensures.value in
+    let all = written-over new edge.items edge.len (let a = edge.ok.0 in omega (arith, room, a)) in
+    ap length all ∙ room
+
+pub returns-clause-stamps : goal.returns-clause-stamps
+returns-clause-stamps g c =
+    let edge = c.args.work.now.edge in let new : List ℕ = c.sift_column.new.edge in
+    let room = c.in_ok-sift_column.ensures.room ∙ ap length c.deref_mut.ensures.value in
+    let all = written-over new edge.items edge.len (let a = edge.ok.0 in omega (arith, room, a)) in
+    λ j. subst (λ z. slice_index z j ≤ c.args.k + 1) (sym all) (c.in_ok-sift_column.ensures.stamps j)
 
 pub returns-clause-adds : goal.returns-clause-adds
 returns-clause-adds g c =
