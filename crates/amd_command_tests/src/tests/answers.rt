@@ -14,7 +14,7 @@ use amd_report::json::{write_facts_json, write_order_json};
 use amd_report::pattern::write_matrix;
 use amd_report::tree::{write_supernodes, write_tree};
 use amd_report::tree_picture::write_tree_picture;
-use amd_symbolic::{Fault, counts, supernodes};
+use amd_symbolic::{Fault, Supernodes, counts, supernodes};
 use amd_testing::check;
 use serde_json::Value;
 use std::alloc::Global;
@@ -76,20 +76,36 @@ fn path(alloc: Global) -> Result<Matrix<Global>, Fail> {
     Ok(read_matrix(alloc, PATH.as_bytes())?)
 }
 
+/// The supernodes of the path in its order.
+fn supernodes_of(rt: &impl Abort, alloc: Global) -> Result<Supernodes<Global>, Fail> {
+    let matrix = path(alloc)?;
+    let Ok(made) = supernodes(alloc, 3, &matrix.a_p, &matrix.a_i, &ORDER) else {
+        panic!(rt; "no supernodes");
+    };
+    Ok(made)
+}
+
 /// The first column of the path in its order is a supernode with the row 3, and the other two are its parent.
 #[test]
 fn supernodes_of_the_path(rt: HostRuntime) -> Result<(), Fail> {
-    let alloc = rt.alloc();
-    let matrix = path(alloc)?;
-    let Ok(made) = supernodes(alloc, 3, &matrix.a_p, &matrix.a_i, &ORDER) else {
-        panic!(&rt; "no supernodes");
-    };
-    let mut lines = Vec::new(alloc);
+    let made = supernodes_of(&rt, rt.alloc())?;
+    let mut lines = Vec::new(rt.alloc());
     check!(&rt; write_supernodes(&made.first, &made.ptr, &made.parent, &mut lines).is_ok());
     check!(&rt; lines.as_slice() == b"1 1 2 1\n2 3 0 0\n".as_slice());
+    Ok(())
+}
+
+/// The text of the picture of their tree.
+fn supernodes_drawn(rt: &impl Abort, alloc: Global) -> Result<String, Fail> {
+    let made = supernodes_of(rt, alloc)?;
     let mut blocks = Vec::new(alloc);
-    check!(&rt; write_tree_picture(alloc, "path", &made.first, &made.ptr, &made.parent, &mut blocks).is_ok());
-    let text = String::from_utf8_lossy(alloc, &blocks)?;
+    check!(rt; write_tree_picture(alloc, "path", &made.first, &made.ptr, &made.parent, &mut blocks).is_ok());
+    Ok(String::from_utf8_lossy(alloc, &blocks)?)
+}
+
+#[test]
+fn picture_of_the_supernodes(rt: HostRuntime) -> Result<(), Fail> {
+    let text = supernodes_drawn(&rt, rt.alloc())?;
     check!(&rt; text.contains(">path: 3 rows, 2 supernodes on 2 levels, largest front 2 rows<"));
     Ok(())
 }
@@ -123,21 +139,35 @@ fn needs_under_orders(rt: HostRuntime) -> Result<(), Fail> {
 }
 
 #[test]
-fn files_beside_the_permutation(rt: HostRuntime) -> Result<(), Fail> {
+fn the_path_in_its_order(rt: HostRuntime) -> Result<(), Fail> {
     let alloc = rt.alloc();
     let matrix = path(alloc)?;
-    let (Ok(other), Ok(counted)) = (
-        permuted(alloc, &matrix, &ORDER),
-        counts(alloc, 3, &matrix.a_p, &matrix.a_i, &ORDER),
-    ) else {
+    let Ok(other) = permuted(alloc, &matrix, &ORDER) else {
         panic!(&rt; "no order");
     };
     let mut out = Vec::new(alloc);
     check!(&rt; write_matrix(&other, &mut out).is_ok());
     check!(&rt; out.as_slice() == PERMUTED.as_bytes());
+    Ok(())
+}
+
+#[test]
+fn tree_of_the_path(rt: HostRuntime) -> Result<(), Fail> {
+    let alloc = rt.alloc();
+    let matrix = path(alloc)?;
+    let Ok(counted) = counts(alloc, 3, &matrix.a_p, &matrix.a_i, &ORDER) else {
+        panic!(&rt; "no order");
+    };
     let mut tree = Vec::new(alloc);
     check!(&rt; write_tree(&counted.parent, &mut tree).is_ok());
     check!(&rt; tree.as_slice() == b"3\n3\n0\n".as_slice());
+    Ok(())
+}
+
+#[test]
+fn picture_of_the_path(rt: HostRuntime) -> Result<(), Fail> {
+    let alloc = rt.alloc();
+    let matrix = path(alloc)?;
     let mut drawn = Vec::new(alloc);
     check!(&rt; write_picture(alloc, &matrix, &ORDER, &SOURCE, &mut drawn).is_ok());
     check!(&rt; drawn.as_slice() == PICTURE.as_bytes());
@@ -186,21 +216,31 @@ fn check_numbers(
 }
 
 #[test]
-fn answers_as_json(rt: HostRuntime) -> Result<(), Fail> {
+fn an_order_as_json(rt: HostRuntime) -> Result<(), Fail> {
     let alloc = rt.alloc();
     let matrix = path(alloc)?;
-    let control = Default::default();
-    let (Ok((p, info)), Ok(facts), Ok(compared)) = (
-        order_matrix(alloc, &matrix, &control, None),
-        facts_of(alloc, &matrix, &control),
+    let (Ok((p, info)), Ok(compared)) = (
+        order_matrix(alloc, &matrix, &Default::default(), None),
         three_needs(alloc, &matrix),
     ) else {
         panic!(&rt; "no answer");
     };
     let mut order = Vec::new(alloc);
     check!(&rt; write_order_json(&info, 4, Some(compared), &p, &mut order).is_ok());
+    check_numbers(&rt, alloc, &order, &ORDER_NUMBERS)
+}
+
+#[test]
+fn facts_as_json(rt: HostRuntime) -> Result<(), Fail> {
+    let alloc = rt.alloc();
+    let matrix = path(alloc)?;
+    let (Ok(facts), Ok(compared)) = (
+        facts_of(alloc, &matrix, &Default::default()),
+        three_needs(alloc, &matrix),
+    ) else {
+        panic!(&rt; "no answer");
+    };
     let mut matrix_facts = Vec::new(alloc);
     check!(&rt; write_facts_json(&facts, Some(compared), &mut matrix_facts).is_ok());
-    check_numbers(&rt, alloc, &order, &ORDER_NUMBERS)?;
     check_numbers(&rt, alloc, &matrix_facts, &FACT_NUMBERS)
 }

@@ -3,12 +3,12 @@
 use amd::{Control, Info};
 use amd_cli::causes::Cause;
 use amd_cli::held::read_held;
-use amd_command::analysis::analyze_matrix;
+use amd_command::analysis::{Analysis, analyze_matrix};
 use amd_command::faults::cause_of;
 use amd_command::ordering::order_matrix;
 use amd_command::permuted::permuted;
 use amd_command::picture::{MOST_ROWS, Source, write_picture};
-use amd_market::reader::read_matrix;
+use amd_market::reader::{Matrix, read_matrix};
 use amd_report::description::write_facts;
 use amd_report::factor_text::{write_columns, write_comparison};
 use amd_report::facts::facts_of;
@@ -90,32 +90,99 @@ const FIVE_FIGURES: &str = "    rows                                            
     largest column, with its diagonal                   3, at most 3
 ";
 
-/// Reads the path, orders it with the second row held last, tells what it is, works out the factor and its supernodes,
-/// and draws it.
-fn write_all_of<W: Write, A: Allocator + Copy>(alloc: A, out: &mut W) -> Result<(), Cause> {
-    let matrix = read_matrix(alloc, PATH.as_bytes()).map_err(Cause::Text)?;
-    let marks = read_held(alloc, matrix.n, "2\n".as_bytes()).map_err(Cause::Text)?;
-    let control = Control::default();
-    let (p, info) = order_matrix(alloc, &matrix, &control, Some(&marks))?;
-    write_rows(&p, out)?;
-    write_figures(&info, matrix.repeats, out)?;
-    write_facts(&facts_of(alloc, &matrix, &control)?, out)?;
-    let analysis = analyze_matrix(alloc, &matrix, &control, Some(&marks)).map_err(cause_of)?;
+/// Writes an order and its figures, and what the matrix is.
+fn write_order_of<W: Write, A: Allocator + Copy>(
+    alloc: A,
+    matrix: &Matrix<A>,
+    p: &[usize],
+    info: &Info,
+    out: &mut W,
+) -> Result<(), Cause> {
+    let facts = facts_of(alloc, matrix, &Control::default())?;
+    write_rows(p, out)?;
+    write_figures(info, matrix.repeats, out)?;
+    write_facts(&facts, out)?;
+    Ok(())
+}
+
+/// Writes the columns of a factor and what it needs.
+fn write_factor_of<W: Write, A: Allocator + Copy>(
+    analysis: &Analysis<A>,
+    repeats: usize,
+    out: &mut W,
+) -> Result<(), Cause> {
     let counts = &analysis.counts;
     write_columns(&analysis.p, &counts.parent, &counts.sizes, out)?;
-    write_comparison(&counts.need, &analysis.info, matrix.repeats, out)?;
-    write_matrix(&permuted(alloc, &matrix, &p)?, out)?;
-    write_tree(&counts.parent, out)?;
-    let made = supernodes(alloc, matrix.n, &matrix.a_p, &matrix.a_i, &p).map_err(cause_of)?;
+    write_comparison(&counts.need, &analysis.info, repeats, out)?;
+    Ok(())
+}
+
+/// Works out the factor of a matrix with marked rows held last, and writes it, the matrix in an order, and the tree.
+fn write_factor_and_tree<W: Write, A: Allocator + Copy>(
+    alloc: A,
+    matrix: &Matrix<A>,
+    marks: &[bool],
+    p: &[usize],
+    out: &mut W,
+) -> Result<(), Cause> {
+    let analysis = analyze_matrix(alloc, matrix, &Control::default(), Some(marks)).map_err(
+        cause_of,
+    )?;
+    write_factor_of(&analysis, matrix.repeats, out)?;
+    write_matrix(&permuted(alloc, matrix, p)?, out)?;
+    write_tree(&analysis.counts.parent, out)?;
+    Ok(())
+}
+
+/// Writes the supernodes of a matrix in an order.
+fn write_supernodes_of<W: Write, A: Allocator + Copy>(
+    alloc: A,
+    matrix: &Matrix<A>,
+    p: &[usize],
+    out: &mut W,
+) -> Result<(), Cause> {
+    let made = supernodes(alloc, matrix.n, &matrix.a_p, &matrix.a_i, p).map_err(cause_of)?;
     write_supernodes(&made.first, &made.ptr, &made.parent, out)?;
+    Ok(())
+}
+
+/// Draws a matrix with so many edges in an order.
+fn write_picture_of<W: Write, A: Allocator + Copy>(
+    alloc: A,
+    matrix: &Matrix<A>,
+    p: &[usize],
+    edges: usize,
+    out: &mut W,
+) -> Result<(), Cause> {
     let source = Source {
         name: "path",
-        edges: info.nz_a_plus_at / 2,
+        edges,
         symmetric: false,
         most: MOST_ROWS,
     };
-    let _drawn = write_picture(alloc, &matrix, &p, &source, out)?;
+    let _drawn = write_picture(alloc, matrix, p, &source, out)?;
     Ok(())
+}
+
+/// Orders a matrix with marked rows held last, tells what it is, works out the factor and its supernodes, and draws it.
+fn write_all_held<W: Write, A: Allocator + Copy>(
+    alloc: A,
+    matrix: &Matrix<A>,
+    marks: &[bool],
+    out: &mut W,
+) -> Result<(), Cause> {
+    let (p, info) = order_matrix(alloc, matrix, &Control::default(), Some(marks))?;
+    write_order_of(alloc, matrix, &p, &info, out)?;
+    write_factor_and_tree(alloc, matrix, marks, &p, out)?;
+    write_supernodes_of(alloc, matrix, &p, out)?;
+    write_picture_of(alloc, matrix, &p, info.nz_a_plus_at / 2, out)
+}
+
+/// Reads the path and writes all of it, with the second row held last.
+fn write_all_of<W: Write, A: Allocator + Copy>(alloc: A, out: &mut W) -> Result<(), Cause> {
+    let matrix = read_matrix(alloc, PATH.as_bytes()).map_err(Cause::Text)?;
+    let marks = read_held(alloc, matrix.n, "2\n".as_bytes()).map_err(Cause::Text)?;
+    write_all_held(alloc, &matrix, &marks, out)
 }
 
 /// Row 2 is held last. Row 3 comes first and joins the rows 1 and 2, so that there is one entry of fill, and one
@@ -134,25 +201,39 @@ fn what_is_written(rt: HostRuntime) -> Result<(), Fail> {
     Ok(())
 }
 
+/// The factor of the five rows.
+fn five_analyzed(rt: &impl Abort, alloc: Global) -> Analysis<Global> {
+    let Ok(matrix) = read_matrix(alloc, FIVE.as_bytes()) else {
+        panic!(rt; "no matrix");
+    };
+    let Ok(analysis) = analyze_matrix(alloc, &matrix, &Control::default(), None) else {
+        panic!(rt; "no factor");
+    };
+    analysis
+}
+
+/// Asserts what is written of its columns.
+fn check_columns(rt: &impl Abort, alloc: Global, analysis: &Analysis<Global>) {
+    let counts = &analysis.counts;
+    let mut columns = Vec::new(alloc);
+    check!(rt; write_columns(&analysis.p, &counts.parent, &counts.sizes, &mut columns).is_ok());
+    check!(rt; columns.as_slice() == FIVE_COLUMNS.as_bytes());
+}
+
+/// Asserts what is told of it.
+fn check_figures(rt: &impl Abort, alloc: Global, analysis: &Analysis<Global>) {
+    let mut figures = Vec::new(alloc);
+    check!(rt; write_comparison(&analysis.counts.need, &analysis.info, 0, &mut figures).is_ok());
+    check!(rt; figures.as_slice() == FIVE_FIGURES.as_bytes());
+}
+
 #[test]
-fn columns_worked_by_hand(rt: HostRuntime) -> Result<(), Fail> {
-    let Ok(matrix) = read_matrix(rt.alloc(), FIVE.as_bytes()) else {
-        panic!(&rt; "no matrix");
-    };
-    let Ok(analysis) = analyze_matrix(rt.alloc(), &matrix, &Control::default(), None) else {
-        panic!(&rt; "no factor");
-    };
+fn columns_worked_by_hand(rt: HostRuntime) {
+    let analysis = five_analyzed(&rt, rt.alloc());
     check!(&rt; analysis.p.as_slice() == [0, 3, 2, 4, 1].as_slice());
     check!(&rt; analysis.counts.sizes.as_slice() == [1, 1, 2, 1, 0].as_slice());
-    let mut columns = Vec::new(rt.alloc());
-    let mut figures = Vec::new(rt.alloc());
-    let counts = &analysis.counts;
-    check!(&rt; write_columns(&analysis.p, &counts.parent, &counts.sizes, &mut columns).is_ok());
-    check!(&rt; write_comparison(&counts.need, &analysis.info, 0, &mut figures).is_ok());
-    let columns = String::from_utf8_lossy(rt.alloc(), &columns)?;
-    let figures = String::from_utf8_lossy(rt.alloc(), &figures)?;
-    check!(&rt; columns.as_str() == FIVE_COLUMNS && figures.as_str() == FIVE_FIGURES);
-    Ok(())
+    check_columns(&rt, rt.alloc(), &analysis);
+    check_figures(&rt, rt.alloc(), &analysis);
 }
 
 /// The first call of a writer fails, the fourth, the seventh, and so on, in a run each.
