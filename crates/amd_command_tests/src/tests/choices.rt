@@ -13,6 +13,7 @@ use amd_report::facts::facts_of;
 use amd_report::figures::write_figures;
 use amd_testing::check;
 use std::alloc::{AllocError, Global};
+use std::process::Abort;
 use std::test::Fail;
 
 /// What the file of a matrix would say that has a pattern alone.
@@ -80,21 +81,31 @@ fn with_dense(dense: i32) -> Control {
     }
 }
 
+/// Orders these rows and writes the figures.
+fn write_ordered(rt: &impl Abort, heap: Global, matrix: &Matrix<Global>, out: &mut Vec<u8>) {
+    let Ok((p, info)) = order_matrix(heap, matrix, &with_dense(0), Some(&[false; 20])) else {
+        panic!(rt; "no ordering");
+    };
+    check!(rt; p.as_slice() == ORDER.as_slice());
+    check!(rt; write_figures(&info, 0, out).is_ok());
+}
+
+/// Works out their factor and writes its figures.
+fn write_analyzed(rt: &impl Abort, heap: Global, matrix: &Matrix<Global>, out: &mut Vec<u8>) {
+    let Ok(analysis) = analyze_matrix(heap, matrix, &with_dense(0), None) else {
+        panic!(rt; "no factor");
+    };
+    check!(rt; analysis.p.as_slice() == ORDER.as_slice());
+    check!(rt; write_comparison(&analysis.counts.need, &analysis.info, 3, out).is_ok());
+}
+
 #[test]
 fn a_dense_row_by_choice(rt: HostRuntime) -> Result<(), Fail> {
     let heap = rt.alloc();
     let matrix = twenty_rows(heap)?;
-    let Ok((p, info)) = order_matrix(heap, &matrix, &with_dense(0), Some(&[false; 20])) else {
-        panic!(&rt; "no ordering");
-    };
-    let Ok(analysis) = analyze_matrix(heap, &matrix, &with_dense(0), None) else {
-        panic!(&rt; "no factor");
-    };
-    check!(&rt; p.as_slice() == ORDER.as_slice() && analysis.p.as_slice() == ORDER.as_slice());
     let mut out = Vec::new(heap);
-    let is_written = write_figures(&info, 0, &mut out).is_ok();
-    let is_compared = write_comparison(&analysis.counts.need, &analysis.info, 3, &mut out).is_ok();
-    check!(&rt; is_written && is_compared);
+    write_ordered(&rt, heap, &matrix, &mut out);
+    write_analyzed(&rt, heap, &matrix, &mut out);
     check!(&rt; out.as_slice() == FIGURES.as_bytes());
     Ok(())
 }

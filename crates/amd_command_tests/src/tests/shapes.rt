@@ -4,9 +4,11 @@
 use amd::{Control, Status};
 use amd_market::reader::read_matrix;
 use amd_report::description::write_facts;
-use amd_report::facts::facts_of;
+use amd_report::facts::{Facts, facts_of};
 use amd_report::json::write_facts_json;
 use amd_testing::check;
+use std::alloc::Global;
+use std::process::Abort;
 use std::test::Fail;
 
 /// The pattern.
@@ -85,16 +87,27 @@ const DRAWN_MEMBERS: &str =
 \"mean_degree\":2.00,\"rows_of_degree_0\":2,\"dense_threshold\":24,\"rows_above_the_threshold\":0}
 ";
 
+/// The facts of a file.
+fn facts_in(rt: &impl Abort, alloc: Global, file: &str) -> Result<Facts, Fail> {
+    let matrix = read_matrix(alloc, file.as_bytes())?;
+    let Ok(facts) = facts_of(alloc, &matrix, &Control::default()) else {
+        panic!(rt; "no facts");
+    };
+    Ok(facts)
+}
+
+/// Asserts what is told of facts.
+fn check_facts(rt: &impl Abort, alloc: Global, facts: &Facts, wanted: &str) {
+    let mut text = Vec::new(alloc);
+    check!(rt; write_facts(facts, &mut text).is_ok());
+    check!(rt; text.as_slice() == wanted.as_bytes());
+}
+
 #[test]
 fn shape_of_a_drawn_pattern(rt: HostRuntime) -> Result<(), Fail> {
     let alloc = rt.alloc();
-    let matrix = read_matrix(alloc, DRAWN.as_bytes())?;
-    let Ok(facts) = facts_of(alloc, &matrix, &Control::default()) else {
-        panic!(&rt; "no facts");
-    };
-    let mut text = Vec::new(alloc);
-    check!(&rt; write_facts(&facts, &mut text).is_ok());
-    check!(&rt; text.as_slice() == DRAWN_FACTS.as_bytes());
+    let facts = facts_in(&rt, alloc, DRAWN)?;
+    check_facts(&rt, alloc, &facts, DRAWN_FACTS);
     let mut members = Vec::new(alloc);
     check!(&rt; write_facts_json(&facts, None, &mut members).is_ok());
     check!(&rt; members.as_slice() == DRAWN_MEMBERS.as_bytes());
@@ -185,14 +198,8 @@ const ONE_WAY_FACTS: &str =
 
 #[test]
 fn shape_of_a_pattern_with_few_mirrors(rt: HostRuntime) -> Result<(), Fail> {
-    let alloc = rt.alloc();
-    let matrix = read_matrix(alloc, ONE_WAY.as_bytes())?;
-    let Ok(facts) = facts_of(alloc, &matrix, &Control::default()) else {
-        panic!(&rt; "no facts");
-    };
-    let mut text = Vec::new(alloc);
-    check!(&rt; write_facts(&facts, &mut text).is_ok());
-    check!(&rt; text.as_slice() == ONE_WAY_FACTS.as_bytes());
+    let facts = facts_in(&rt, rt.alloc(), ONE_WAY)?;
+    check_facts(&rt, rt.alloc(), &facts, ONE_WAY_FACTS);
     Ok(())
 }
 
@@ -208,9 +215,7 @@ fn shape_of_a_jumbled_pattern(rt: HostRuntime) -> Result<(), Fail> {
         panic!(&rt; "no facts");
     };
     check!(&rt; facts.info.status == Status::OkButJumbled);
-    let mut text = Vec::new(alloc);
-    check!(&rt; write_facts(&facts, &mut text).is_ok());
-    check!(&rt; text.as_slice() == DRAWN_FACTS.as_bytes());
+    check_facts(&rt, alloc, &facts, DRAWN_FACTS);
     Ok(())
 }
 
@@ -250,10 +255,7 @@ static SOURCES: [(&str, &str); 4] = [
 fn what_files_say(rt: HostRuntime) -> Result<(), Fail> {
     let alloc = rt.alloc();
     for (file, wanted) in &SOURCES {
-        let matrix = read_matrix(alloc, file.as_bytes())?;
-        let Ok(facts) = facts_of(alloc, &matrix, &Control::default()) else {
-            panic!(&rt; "no facts");
-        };
+        let facts = facts_in(&rt, alloc, file)?;
         let mut text = Vec::new(alloc);
         check!(&rt; write_facts(&facts, &mut text).is_ok());
         check!(&rt; text.starts_with(wanted.as_bytes()), file);
