@@ -114,6 +114,30 @@ pub fn run_at_desk(
     })
 }
 
+/// The status of a run on an input.
+pub fn status_of(rt: &HostRuntime, words: &[&str], input: &str) -> Result<u8, Fail> {
+    let end = run_at_desk(rt, words, input, 0, Broken::Neither)?;
+    Ok(end.status)
+}
+
+/// Whether a run on an input ends well and shows a text, and no more.
+pub fn shows(rt: &HostRuntime, words: &[&str], input: &str, text: &str) -> Result<bool, Fail> {
+    let end = run_at_desk(rt, words, input, 0, Broken::Neither)?;
+    Ok(end.status == 0 && end.shown.as_str() == text)
+}
+
+/// Whether a run on an input ends with a status, shows nothing, and tells a text among others.
+pub fn refuses(
+    rt: &HostRuntime,
+    words: &[&str],
+    input: &str,
+    status: u8,
+    text: &str,
+) -> Result<bool, Fail> {
+    let end = run_at_desk(rt, words, input, 0, Broken::Neither)?;
+    Ok(end.status == status && end.shown.is_empty() && end.told.contains(text))
+}
+
 /// Words, an input, the status, and a part of what is told, where something is at fault.
 type Refused = (&'static [&'static str], &'static str, u8, &'static str);
 
@@ -335,8 +359,7 @@ static REFUSED: [Refused; 36] = [
 #[test]
 fn runs_that_are_refused(rt: HostRuntime) -> Result<(), Fail> {
     for (words, input, status, told) in &REFUSED {
-        let end = run_at_desk(&rt, words, input, 0, Broken::Neither)?;
-        let is_refused = end.status == *status && end.shown.is_empty() && end.told.contains(*told);
+        let is_refused = refuses(&rt, words, input, *status, told)?;
         check!(&rt; is_refused, told);
     }
     Ok(())
@@ -398,12 +421,17 @@ fn runs_that_end_well(rt: HostRuntime) -> Result<(), Fail> {
     Ok(())
 }
 
+/// Whether a command that is to be quiet shows what it does with the path, and tells nothing.
+fn is_quiet(rt: &HostRuntime, name: &str) -> Result<bool, Fail> {
+    let end = run_at_desk(rt, &[name, "-", "--quiet"], PATH, 2, Broken::Neither)?;
+    Ok(end.status == 0 && end.told.is_empty() && !end.shown.is_empty())
+}
+
 /// Nothing is told of a run that is to be quiet, but what is at fault.
 #[test]
 fn quiet_runs(rt: HostRuntime) -> Result<(), Fail> {
     for name in ["order", "analyze", "info"] {
-        let end = run_at_desk(&rt, &[name, "-", "--quiet"], PATH, 2, Broken::Neither)?;
-        check!(&rt; end.status == 0 && end.told.is_empty() && !end.shown.is_empty(), name);
+        check!(&rt; is_quiet(&rt, name)?, name);
         let bad = run_at_desk(&rt, &[name, "-", "--quiet"], BAD, 2, Broken::Neither)?;
         check!(&rt; bad.status == 2 && bad.told.contains("line 3: the row is out of range"), name);
     }
@@ -431,7 +459,7 @@ fn an_output_that_takes_nothing(rt: HostRuntime) -> Result<(), Fail> {
     Ok(())
 }
 
-/// Where the picture fails, the permutation and the figures are written, and a message behind them names the picture.
+/// Where the picture fails, the figures are written, and a message behind them names the picture.
 #[test]
 fn a_picture_that_fails(rt: HostRuntime) -> Result<(), Fail> {
     let words = ["order", "-", "--out", "/dev/null", "--picture", "/dev/full"];
@@ -439,13 +467,14 @@ fn a_picture_that_fails(rt: HostRuntime) -> Result<(), Fail> {
     check!(&rt; full.status == 3 && full.told.starts_with(PATH_FIGURES));
     check!(&rt; full.told
             .contains("rimopaku: /dev/full: the picture cannot be written: "));
-    let end = run_at_desk(
-        &rt,
-        &["order", "-", "--picture", "/dev/full"],
-        PATH,
-        0,
-        Broken::Neither,
-    )?;
+    Ok(())
+}
+
+/// Where the picture fails, the permutation is written.
+#[test]
+fn an_order_whose_picture_fails(rt: HostRuntime) -> Result<(), Fail> {
+    let words = ["order", "-", "--picture", "/dev/full"];
+    let end = run_at_desk(&rt, &words, PATH, 0, Broken::Neither)?;
     check!(&rt; end.status == 3 && end.shown.as_str() == PATH_ORDER);
     Ok(())
 }
@@ -472,17 +501,21 @@ const DRAWN_BARS: &str = concat!(
     "rimopaku: drawing up to 2 entries of L [####################]\n",
 );
 
+/// Whether what a run on the path tells begins with the bars of an ordering, and ends with a text. The run has to end
+/// well.
+fn has_bars(rt: &impl Abort, host: &HostRuntime, words: &[&str], last: &str) -> Result<bool, Fail> {
+    let end = run_at_desk(host, words, PATH, 0, Broken::Neither)?;
+    check!(rt; end.status == 0);
+    Ok(end.told.starts_with(BARS) && end.told.ends_with(last))
+}
+
 /// Each stage has a bar that fills, where that is asked for, unless nothing is to be told.
 #[test]
 fn bars_of_a_run(rt: HostRuntime) -> Result<(), Fail> {
     let words = ["order", "-", "--progress", "--picture", "/dev/null"];
-    let end = run_at_desk(&rt, &words, PATH, 0, Broken::Neither)?;
-    check!(&rt; end.status == 0 && end.told.starts_with(BARS) && end.told.ends_with(DRAWN_BARS));
-    for words in [["analyze", "-", "--progress"], ["info", "--progress", "-"]] {
-        let end = run_at_desk(&rt, &words, PATH, 0, Broken::Neither)?;
-        let is_ordered = words.first().copied().unwrap_or("") == "analyze";
-        check!(&rt; end.status == 0 && end.told.starts_with(BARS) == is_ordered);
-    }
+    check!(&rt; has_bars(&rt, &rt, &words, DRAWN_BARS)?);
+    check!(&rt; has_bars(&rt, &rt, &["analyze", "-", "--progress"], "")?);
+    check!(&rt; !has_bars(&rt, &rt, &["info", "--progress", "-"], "")?);
     let words = ["order", "-", "--progress", "--quiet"];
     let end = run_at_desk(&rt, &words, PATH, 2, Broken::Neither)?;
     check!(&rt; end.status == 0 && end.told.is_empty());
