@@ -6,6 +6,7 @@ use crate::tests::files::{make_folder, within};
 use crate::tests::runs::{Broken, run_at_desk};
 use amd_testing::check;
 use std::fs;
+use std::process::Abort;
 use std::test::Fail;
 
 /// The rows: row 14 has an edge with all others but row 11, and is dense by a threshold of 17.
@@ -141,20 +142,25 @@ fn lists_order(shown: &str, order: &str) -> bool {
     rows.next().is_none()
 }
 
+/// Whether a run on an input ends well and lists the rows in an order.
+fn lists(rt: &HostRuntime, words: &[&str], input: &str, order: &str) -> Result<bool, Fail> {
+    let end = run_at_desk(rt, words, input, 0, Broken::Neither)?;
+    Ok(end.status == 0 && lists_order(end.shown.as_str(), order))
+}
+
 /// Whether a command with these options lists the rows of a file in an order.
-fn hears_choice(
+fn hears_choice<'a>(
     rt: &HostRuntime,
-    name: &str,
-    file: &str,
-    options: &[&str],
+    name: &'a str,
+    file: &'a str,
+    options: &[&'a str],
     order: &str,
 ) -> Result<bool, Fail> {
     let mut words = Vec::new(rt.alloc());
     words.push(name)?;
     words.push(file)?;
     words.extend_from_slice(options)?;
-    let end = run_at_desk(rt, words.as_slice(), HELD, 0, Broken::Neither)?;
-    Ok(end.status == 0 && lists_order(end.shown.as_str(), order))
+    lists(rt, words.as_slice(), HELD, order)
 }
 
 /// Whether each choice has its order in a command.
@@ -184,12 +190,8 @@ fn choices_of_an_ordering(rt: HostRuntime) -> Result<(), Fail> {
 /// The place of each row in the first order, and the rows of it from 0 on.
 #[test]
 fn forms_of_an_order(rt: HostRuntime) -> Result<(), Fail> {
-    let words = ["order", "-", "--inverse"];
-    let end = run_at_desk(&rt, &words, TWENTY, 0, Broken::Neither)?;
-    check!(&rt; end.status == 0 && lists_order(end.shown.as_str(), PLACES));
-    let words = ["order", "-", "--zero-based"];
-    let end = run_at_desk(&rt, &words, TWENTY, 0, Broken::Neither)?;
-    check!(&rt; end.status == 0 && lists_order(end.shown.as_str(), ROWS));
+    check!(&rt; lists(&rt, &["order", "-", "--inverse"], TWENTY, PLACES)?);
+    check!(&rt; lists(&rt, &["order", "-", "--zero-based"], TWENTY, ROWS)?);
     let words = ["order", "-", "--zero-based", "--inverse"];
     let end = run_at_desk(&rt, &words, TWENTY, 0, Broken::Neither)?;
     check!(&rt; end.status == 0 && end.shown.starts_with("5\n8\n15\n"));
@@ -200,8 +202,7 @@ fn forms_of_an_order(rt: HostRuntime) -> Result<(), Fail> {
 #[test]
 fn postorders_of_a_tree(rt: HostRuntime) -> Result<(), Fail> {
     let words = ["order", "-", "--out", "/dev/null", "--postorder", "-"];
-    let end = run_at_desk(&rt, &words, TWENTY, 0, Broken::Neither)?;
-    check!(&rt; end.status == 0 && lists_order(end.shown.as_str(), POSTORDER));
+    check!(&rt; lists(&rt, &words, TWENTY, POSTORDER)?);
     let words = [
         "order",
         "-",
@@ -212,8 +213,7 @@ fn postorders_of_a_tree(rt: HostRuntime) -> Result<(), Fail> {
         "--zero-based",
         "--inverse",
     ];
-    let end = run_at_desk(&rt, &words, TWENTY, 0, Broken::Neither)?;
-    check!(&rt; end.status == 0 && lists_order(end.shown.as_str(), POSTORDER_FROM_0));
+    check!(&rt; lists(&rt, &words, TWENTY, POSTORDER_FROM_0)?);
     Ok(())
 }
 
@@ -236,26 +236,62 @@ fn lines_of(rt: &HostRuntime, numbers: &str, paired: bool) -> Result<String, Fai
     Ok(lines)
 }
 
+/// Writes an order to a file in a form.
+fn write_form(rt: &HostRuntime, with: &str, numbers: &str, paired: bool) -> Result<(), Fail> {
+    let lines = lines_of(rt, numbers, paired)?;
+    fs::write(rt, with, lines.as_str())?;
+    Ok(())
+}
+
+/// Whether the order of a file, read by an option, has the needs of the first of the orders.
+fn hears_form(rt: &HostRuntime, with: &str, option: &str) -> Result<bool, Fail> {
+    let wanted = format!(in rt.alloc(); "89 as it stands, 55 ordered, 55 by {option}\n")?;
+    let words = ["order", "-", "--compare", option, with];
+    let end = run_at_desk(rt, &words, TWENTY, 0, Broken::Neither)?;
+    Ok(end.status == 0 && end.told.contains(wanted.as_str()))
+}
+
+/// The options that read an order, an order for each, and whether its lines are pairs.
+static FORMS: [(&str, &str, bool); 4] = [
+    ("--with", ROWS, false),
+    ("--with-inverse", PLACES, false),
+    ("--with", PLACES, true),
+    ("--with-inverse", PLACES, true),
+];
+
+/// Asserts that each form of the order is heard from a file.
+fn check_forms(rt: &impl Abort, host: &HostRuntime, with: &str) -> Result<(), Fail> {
+    for &(option, numbers, paired) in &FORMS {
+        write_form(host, with, numbers, paired)?;
+        check!(rt; hears_form(host, with, option)?, option);
+    }
+    Ok(())
+}
+
 /// The first of the orders, read from 0 on, by its places, and as the vertices and their places: it has its own needs.
 #[test]
 fn orders_in_each_form(rt: HostRuntime) -> Result<(), Fail> {
     let folder = make_folder(&rt)?;
     let with = within(&rt, folder.as_str(), "form")?;
-    let with = with.as_str();
-    for (option, numbers, paired) in [
-        ("--with", ROWS, false),
-        ("--with-inverse", PLACES, false),
-        ("--with", PLACES, true),
-        ("--with-inverse", PLACES, true),
-    ] {
-        let lines = lines_of(&rt, numbers, paired)?;
-        fs::write(&rt, with, lines.as_str())?;
-        let words = ["order", "-", "--compare", option, with];
-        let end = run_at_desk(&rt, &words, TWENTY, 0, Broken::Neither)?;
-        let wanted = format!(in rt.alloc(); "89 as it stands, 55 ordered, 55 by {option}\n")?;
-        check!(&rt; end.status == 0 && end.told.contains(wanted.as_str()), option);
-    }
+    check_forms(&rt, &rt, with.as_str())?;
     fs::remove_dir_all(&rt, folder.as_str())?;
+    Ok(())
+}
+
+/// Whether a command with an option tells or shows the needs of the rows from the last to the first, which stand in a
+/// file.
+fn compares(rt: &HostRuntime, name: &str, option: &str, with: &str) -> Result<bool, Fail> {
+    let words = [name, "-", option, "--with", with];
+    let end = run_at_desk(rt, &words, TWENTY, 0, Broken::Neither)?;
+    let is_told = end.told.contains(COMPARED) || end.shown.contains(COMPARED);
+    Ok(end.status == 0 && is_told)
+}
+
+/// Asserts that both commands that count what a factor needs hear an order that stands in a file.
+fn check_needs(rt: &impl Abort, host: &HostRuntime, with: &str) -> Result<(), Fail> {
+    fs::write(host, with, BACKWARD)?;
+    check!(rt; compares(host, "order", "--compare", with)?);
+    check!(rt; compares(host, "info", "--exact", with)?);
     Ok(())
 }
 
@@ -264,14 +300,7 @@ fn orders_in_each_form(rt: HostRuntime) -> Result<(), Fail> {
 fn needs_of_three_orders(rt: HostRuntime) -> Result<(), Fail> {
     let folder = make_folder(&rt)?;
     let with = within(&rt, folder.as_str(), "backward")?;
-    let with = with.as_str();
-    fs::write(&rt, with, BACKWARD)?;
-    for (name, option) in [("order", "--compare"), ("info", "--exact")] {
-        let words = [name, "-", option, "--with", with];
-        let end = run_at_desk(&rt, &words, TWENTY, 0, Broken::Neither)?;
-        let is_told = end.told.contains(COMPARED) || end.shown.contains(COMPARED);
-        check!(&rt; end.status == 0 && is_told, name);
-    }
+    check_needs(&rt, &rt, with.as_str())?;
     fs::remove_dir_all(&rt, folder.as_str())?;
     Ok(())
 }
