@@ -13,6 +13,7 @@ use amd_report::tree_picture::write_tree_picture;
 use amd_symbolic::supernodes;
 use amd_testing::check;
 use std::alloc::{AllocError, Global};
+use std::process::Abort;
 use std::test::Fail;
 
 /// Numbers of 32 bits, none of them below 0, as sizes.
@@ -57,24 +58,41 @@ const DENSE_ROWS: [i32; 18] = [
 ];
 
 /// The order of these rows: the dense one is last.
-const DENSE_ORDER: [i32; 20] = [
+const DENSE_ORDER: [usize; 20] = [
     1, 2, 3, 4, 5, 6, 7, 8, 9, 10, 11, 12, 13, 14, 15, 16, 17, 18, 19, 0,
 ];
 
-/// The factor has the 18 edges alone, though the bound is 20 entries; what is no order of the rows is not drawn.
+/// The text of the picture of a matrix with so many edges in an order.
+fn picture_of(
+    rt: &impl Abort,
+    alloc: Global,
+    matrix: &Matrix<Global>,
+    p: &[usize],
+    edges: usize,
+) -> Result<String, Fail> {
+    let mut out = Vec::new(alloc);
+    check!(rt; write_picture(alloc, matrix, p, &source_of(edges), &mut out).is_ok());
+    Ok(String::from_utf8_lossy(alloc, &out)?)
+}
+
+/// The factor has the 18 edges alone, though the bound is 20 entries.
 #[test]
 fn no_fill_where_the_bound_has_some(rt: HostRuntime) -> Result<(), Fail> {
     let alloc = rt.alloc();
     let matrix = matrix_of(alloc, &DENSE_POINTERS, &DENSE_ROWS)?;
-    let p = sizes_of(alloc, &DENSE_ORDER)?;
-    let mut out = Vec::new(alloc);
-    let source = source_of(18);
-    check!(&rt; write_picture(alloc, &matrix, &p, &source, &mut out).is_ok());
-    let text = String::from_utf8_lossy(alloc, &out)?;
+    let text = picture_of(&rt, alloc, &matrix, &DENSE_ORDER, 18)?;
     check!(&rt; text.contains(">drawn: 20 rows, 18 entries, 18 edges<"));
     check!(&rt; text.contains(">before, fill: 136<") && text.contains(">after, fill: 0<"));
+    Ok(())
+}
+
+/// What is no order of the rows is not drawn.
+#[test]
+fn rows_in_no_order(rt: HostRuntime) -> Result<(), Fail> {
+    let alloc = rt.alloc();
+    let matrix = matrix_of(alloc, &DENSE_POINTERS, &DENSE_ROWS)?;
     let mut none = Vec::new(alloc);
-    let outcome = write_picture(alloc, &matrix, &[0; 20], &source, &mut none);
+    let outcome = write_picture(alloc, &matrix, &[0; 20], &source_of(18), &mut none);
     check!(&rt; matches!(outcome, Err(Cause::Form)) && none.is_empty());
     Ok(())
 }
@@ -113,18 +131,20 @@ fn count_cells(text: &str, sizes: &mut [usize]) {
     }
 }
 
+/// The text of the picture of the 24 rows in the order that they get.
+fn picture_of_can_24(rt: &impl Abort, alloc: Global) -> Result<String, Fail> {
+    let matrix = matrix_of(alloc, &POINTERS, &ROWS)?;
+    let Ok((p, _)) = order_matrix(alloc, &matrix, &Default::default(), None) else {
+        panic!(rt; "no ordering");
+    };
+    picture_of(rt, alloc, &matrix, &p, 68)
+}
+
 /// Entries and fill together are the columns of the exact factor: 68 edges and 28 entries of fill, and not the 29 of
 /// the bound.
 #[test]
 fn fill_of_can_24(rt: HostRuntime) -> Result<(), Fail> {
-    let alloc = rt.alloc();
-    let matrix = matrix_of(alloc, &POINTERS, &ROWS)?;
-    let Ok((p, _)) = order_matrix(alloc, &matrix, &Default::default(), None) else {
-        panic!(&rt; "no ordering");
-    };
-    let mut out = Vec::new(alloc);
-    check!(&rt; write_picture(alloc, &matrix, &p, &source_of(68), &mut out).is_ok());
-    let text = String::from_utf8_lossy(alloc, &out)?;
+    let text = picture_of_can_24(&rt, rt.alloc())?;
     check!(&rt; text.contains(">drawn: 24 rows, 160 entries, 68 edges<"));
     check!(&rt; text.contains(">before, fill: 78<") && text.contains(">after, fill: 28<"));
     let Some((_, after)) = text.as_str().split_once(">after, ") else {
@@ -152,21 +172,24 @@ fn cells_of_three_kinds(rt: HostRuntime) -> Result<(), Fail> {
     Ok(())
 }
 
+/// The text of the picture of the twenty rows where no more than 16 rows of a factor are drawn: its fill is not.
+fn picture_without_fill(rt: &impl Abort, alloc: Global) -> Result<String, Fail> {
+    let matrix = matrix_of(alloc, &DENSE_POINTERS, &DENSE_ROWS)?;
+    let mut source = source_of(18);
+    source.most = 16;
+    let mut out = Vec::new(alloc);
+    let Ok(drawn) = write_picture(alloc, &matrix, &DENSE_ORDER, &source, &mut out) else {
+        panic!(rt; "no picture");
+    };
+    check!(rt; drawn.before && !drawn.after);
+    Ok(String::from_utf8_lossy(alloc, &out)?)
+}
+
 /// Where a factor has more rows below the blocks of its supernodes than are drawn, its fill is left out, and its count
 /// stands.
 #[test]
 fn a_factor_that_is_too_large(rt: HostRuntime) -> Result<(), Fail> {
-    let alloc = rt.alloc();
-    let matrix = matrix_of(alloc, &DENSE_POINTERS, &DENSE_ROWS)?;
-    let p = sizes_of(alloc, &DENSE_ORDER)?;
-    let mut source = source_of(18);
-    source.most = 16;
-    let mut out = Vec::new(alloc);
-    let Ok(drawn) = write_picture(alloc, &matrix, &p, &source, &mut out) else {
-        panic!(&rt; "no picture");
-    };
-    check!(&rt; drawn.before && !drawn.after);
-    let text = String::from_utf8_lossy(alloc, &out)?;
+    let text = picture_without_fill(&rt, rt.alloc())?;
     let Some((before, after)) = text.as_str().split_once(">after, fill: 0<") else {
         panic!(&rt; "no panel");
     };
@@ -225,24 +248,38 @@ fn tree_of_can_24(rt: HostRuntime) -> Result<(), Fail> {
     Ok(())
 }
 
+/// The numbers from 0 up to a count, which is not among them.
+fn numbers_below(alloc: Global, count: usize) -> Result<Vec<usize>, AllocError> {
+    let mut numbers = Vec::new(alloc);
+    for number in 0..count {
+        numbers.push(number)?;
+    }
+    Ok(numbers)
+}
+
+/// The parents in a chain of 20,000 supernodes: the next one of each, and none of the last.
+fn parents_in_chain(alloc: Global) -> Result<Vec<Option<usize>>, AllocError> {
+    let mut parents = Vec::new(alloc);
+    for s in 1..20_000usize {
+        parents.push(Some(s))?;
+    }
+    parents.push(None)?;
+    Ok(parents)
+}
+
+/// The text of the picture of this chain, each with one row.
+fn chain_drawn(rt: &impl Abort, alloc: Global) -> Result<String, Fail> {
+    let first = numbers_below(alloc, 20_001)?;
+    let parents = parents_in_chain(alloc)?;
+    let mut out = Vec::new(alloc);
+    check!(rt; write_tree_picture(alloc, "chain", &first, &first, &parents, &mut out).is_ok());
+    Ok(String::from_utf8_lossy(alloc, &out)?)
+}
+
 /// A chain of 20,000 supernodes has 120 lines, and a cell is 25 columns on 167 levels.
 #[test]
 fn a_long_chain(rt: HostRuntime) -> Result<(), Fail> {
-    let alloc = rt.alloc();
-    let mut first = Vec::new(alloc);
-    let mut parents = Vec::new(alloc);
-    for s in 0..20_000usize {
-        first.push(s)?;
-        parents.push(if s < 19_999 {
-            Some(s.saturating_add(1))
-        } else {
-            None
-        })?;
-    }
-    first.push(20_000)?;
-    let mut out = Vec::new(alloc);
-    check!(&rt; write_tree_picture(alloc, "chain", &first, &first, &parents, &mut out).is_ok());
-    let text = String::from_utf8_lossy(alloc, &out)?;
+    let text = chain_drawn(&rt, rt.alloc())?;
     check!(&rt; text.contains(" viewBox=\"0 0 860 2270\"") && text.as_str().len() < 100_000);
     check!(&rt; text.contains(">A cell is 25 columns on 167 levels, and shows the largest front in it.<"));
     Ok(())
