@@ -6,14 +6,8 @@
 //! arrays, and a call returns the number of a status. The header `include/rimopaku.h` says what a caller must uphold.
 #![tactic(auto)]
 
-mod forests;
 pub mod int32;
 pub mod int64;
-mod laid;
-mod lent;
-mod narrow;
-mod patterns;
-mod supernodal;
 
 ghost use Rattle.std.specs.Prelude.{◌≡◌, pos, true};
 

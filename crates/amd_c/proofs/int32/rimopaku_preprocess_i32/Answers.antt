@@ -1,6 +1,6 @@
 use Rattle.std.proofs.Common.{w32}
 use Rattle.std.proofs.lemmas.Int.{to_z-of_z}
-use Rattle.amd_c.proofs.PatternsLeft.{row_form_into}
+use Rattle.amd_c_calls.proofs.PatternsLeft.{row_form_into}
 use Rattle.amd_c.proofs.int32.rimopaku_preprocess_i32.Goals as goal
 
 pub returns : goal.returns

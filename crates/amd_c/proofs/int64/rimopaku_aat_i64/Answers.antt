@@ -1,6 +1,6 @@
 use Rattle.std.proofs.Common.{w64}
 use Rattle.std.proofs.lemmas.Int.{to_z-of_z}
-use Rattle.amd_c.proofs.PatternsLeft.{degrees_into}
+use Rattle.amd_c_calls.proofs.PatternsLeft.{degrees_into}
 use Rattle.amd_c.proofs.int64.rimopaku_aat_i64.Goals as goal
 
 pub returns : goal.returns

@@ -1,5 +1,0 @@
-use Rattle.std.proofs.Common.{◌≡◌, take}
-use Rattle.amd_c.proofs.narrow.cells_from.Given as goal
-
-abbrev pub invariant-counts : goal.invariant-counts
-invariant-counts l = l.copy.items ≡ take l.count-index l.counts

@@ -1,4 +1,0 @@
-use Rattle.amd_c.proofs.supernodal.matrix_supernodes_into.Given as goal
-
-abbrev pub ghost-write_rows : goal.ghost-write_rows
-ghost-write_rows g a = g.m
