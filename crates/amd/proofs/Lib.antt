@@ -8,3 +8,5 @@ pub mod ValidCalls
 pub mod BytesGrow
 pub mod EarlyAnswers
 pub mod Calls
+pub mod Fewer
+pub mod KeptLists
