@@ -1,10 +1,88 @@
-use Rattle.std.proofs.Common.{map, length, arith, le_refl}
+-- A matrix that fits takes no more words than the lists have, its transpose no more than it; and the lists keep their room.
+use Rattle.std.proofs.Common.{ℕ, ℤ, List, ◌<◌, ◌≤◌, ◌+◌, ◌*◌, ◌/◌, ◌^◌, map, length, arith, le_refl, refl, Fits, w64}
+use Rattle.std.specs.Prelude.{slice_index}
 use Rattle.std.specs.Option.{option_copied}
+use Rattle.amd_types.specs.Naturals.{naturals}
 use Rattle.amd.specs.Within.{list_words}
+use Rattle.amd.proofs.Fewer.{lent_entries, less_wide, still_few}
 use Rattle.amd.proofs.Orderings.{orders_turned}
 use Rattle.amd.proofs.OrderedColumns.{lent_clean}
 use Rattle.amd.proofs.Rooms.{less_room}
 use Rattle.amd.proofs.widths.WorkspaceIn.order.Goals as goal
+
+twice_fits : (rows entries : ℕ) → 2 * entries + 2 * entries / 5 + rows < 2 ^ 63 → Fits w64 (2 * entries)
+twice_fits rows entries few = omega arith
+
+words_fit : (rows entries : ℕ) → 2 * entries + 2 * entries / 5 + rows < 2 ^ 63 → Fits w64 (2 * entries + rows)
+words_fit rows entries few = omega arith
+
+words_within : (rows entries n few : ℕ) → n ≤ rows → few ≤ entries → list_words n few ≤ list_words rows entries
+words_within rows entries n few less fewer = omega arith
+
+pub overflow_mul-words : goal.overflow_mul-words
+overflow_mul-words g c = let self = c.args.self.now in twice_fits self.rows self.entries self.sized.few
+
+pub overflow_add-words : goal.overflow_add-words
+overflow_add-words g c = let self = c.args.self.now in words_fit self.rows self.entries self.sized.few
+
+pub order_columns-requires-clause-given : goal.order_columns-requires-clause-given
+order_columns-requires-clause-given g c = rw c.if-not-matrix.true at c.requires.given
+
+pub order_columns-requires-clause-words : goal.order_columns-requires-clause-words
+order_columns-requires-clause-words g c =
+    let self = c.args.self.now in let n = length c.args.p.now in let inside = c.requires.inside in
+    let a_p : List ℤ = map g.I.Index.value c.args.matrix.now.a_p.now in
+    words_within self.rows self.entries n (slice_index (naturals a_p) n) inside.0 inside.1
+
+pub order_columns-requires-clause-few : goal.order_columns-requires-clause-few
+order_columns-requires-clause-few g c =
+    let self = c.args.self.now in let n = length c.args.p.now in let inside = c.requires.inside in
+    let a_p : List ℤ = map g.I.Index.value c.args.matrix.now.a_p.now in
+    still_few self.rows self.entries n (slice_index (naturals a_p) n) self.sized.few inside.0 inside.1
+
+pub order_columns-requires-clause-narrow : goal.order_columns-requires-clause-narrow
+order_columns-requires-clause-narrow g c =
+    let self = c.args.self.now in let words = list_words self.rows self.entries in
+    less_wide g.S.Signed.MOST g.P.Signed.MOST g.U.Unsigned.MOST self.rows words (length c.args.p.now) words self.sized.narrow
+    c.requires.inside.0 (le_refl words)
+
+pub returns-then-not-matrix-clause-orders : goal.returns-then-not-matrix-clause-orders
+returns-then-not-matrix-clause-orders g c = rw c.if-not-matrix.true c.order_columns.ensures.orders
+
+pub returns-then-not-matrix-clause-status : goal.returns-then-not-matrix-clause-status
+returns-then-not-matrix-clause-status g c = c.order_columns.ensures.status
+
+pub returns-then-not-matrix-clause-made : goal.returns-then-not-matrix-clause-made
+returns-then-not-matrix-clause-made g c = let self = c.args.self.now in (refl {a = self.rows}, refl {a = self.entries})
+
+pub transpose-requires-clause-inside : goal.transpose-requires-clause-inside
+transpose-requires-clause-inside g c = c.requires.inside
+
+pub transpose-requires-clause-form : goal.transpose-requires-clause-form
+transpose-requires-clause-form g c = c.requires.given.form
+
+pub transpose-requires-clause-names : goal.transpose-requires-clause-names
+transpose-requires-clause-names g c = c.requires.names
+
+pub order_columns-requires-2-clause-words : goal.order_columns-requires-2-clause-words
+order_columns-requires-2-clause-words g c =
+    let self = c.args.self.now in let n = length c.args.p.now in let made = c.transpose.ensures in let m = c.args.matrix.now in
+    let less = lent_entries g.J.Index.value n self.entries (map g.I.Index.value m.a_p.now) (map g.I.Index.value m.a_i.now) _ _
+    c.deref.result.now c.deref.ensures.value made.clean made.few in
+    words_within self.rows self.entries n _ c.requires.inside.0 less
+
+pub order_columns-requires-2-clause-few : goal.order_columns-requires-2-clause-few
+order_columns-requires-2-clause-few g c =
+    let self = c.args.self.now in let n = length c.args.p.now in let made = c.transpose.ensures in let m = c.args.matrix.now in
+    let less = lent_entries g.J.Index.value n self.entries (map g.I.Index.value m.a_p.now) (map g.I.Index.value m.a_i.now) _ _
+    c.deref.result.now c.deref.ensures.value made.clean made.few in
+    still_few self.rows self.entries n _ self.sized.few c.requires.inside.0 less
+
+pub order_columns-requires-2-clause-narrow : goal.order_columns-requires-2-clause-narrow
+order_columns-requires-2-clause-narrow g c =
+    let self = c.args.self.now in let words = list_words self.rows self.entries in
+    less_wide g.S.Signed.MOST g.P.Signed.MOST g.U.Unsigned.MOST self.rows words (length c.args.p.now) words self.sized.narrow
+    c.requires.inside.0 (le_refl words)
 
 pub invariant_of-self : goal.invariant_of-self
 invariant_of-self g c =
