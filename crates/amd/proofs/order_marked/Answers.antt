@@ -1,11 +1,17 @@
-use Rattle.std.proofs.Common.{ℤ, List, ◌≡◌, ap, drop, length, map, pos, refl, sym, arith, ◌∙◌}
+-- An input without rows has the empty answer; one whose status tells its columns is ordered by them, or refused memory; others are refused.
+use Rattle.std.proofs.Common.{ℤ, Bool, List, ◌≡◌, ap, drop, length, map, pos, refl, sym, arith, ◌∙◌}
+use Rattle.std.specs.Prelude.{Some}
 use Rattle.std.specs.Option.{option_copied}
 use Rattle.std.proofs.lemmas.Int.{ints}
 use Rattle.std.proofs.lemmas.List.{take_at}
+use Rattle.std.proofs.lemmas.Result.{IfOk-from_err, err_from_is_err_and}
 use Rattle.amd_types.proofs.Fitting.{fits_below}
-use Rattle.amd.specs.Within.{pairs_by}
-use Rattle.amd.proofs.EarlyAnswers.{ordering_nothing, refused_status}
-use Rattle.amd.proofs.OrderedColumns.{HasStatus, has_status, jumbled_valid, ordering}
+use Rattle.amd_types.specs.declared.amd.Status.{Status}
+use Rattle.amd_types.specs.declared.amd.Status.TheVariants.{OutOfMemory}
+use Rattle.amd.specs.Answers.{IsRefusalHolding}
+use Rattle.amd.specs.Within.{jumbled_by, pairs_by}
+use Rattle.amd.proofs.EarlyAnswers.{ordering_nothing, refused_count, refused_status}
+use Rattle.amd.proofs.OrderedColumns.{HasStatus, has_status, jumbled_valid, ordering, refused}
 use Rattle.amd.proofs.Orderings.{orders_still}
 use Rattle.amd.proofs.ValidCalls.{is_given}
 use Rattle.amd.proofs.order_marked.Given.{Over}
@@ -19,6 +25,15 @@ known g c =
     has_status (option_copied c.args.hold) c.in-Some.count (g.I.Number.value c.args.n) (map g.I.Number.value c.args.a_p.now)
     (map g.I.Number.value c.args.a_i.now) c.class_of-status.result c.in-Some.ensures.1 c.if-count-eq0.false c.class_of-status.ensures.marks
     c.class_of-status.ensures.status
+
+-- where it is a column form it is refused for want of memory alone
+no_memory : (g : Over) (c : After-class_of-status g) (jumbled : Bool) (e : Status) → jumbled_by c.class_of-status.result ≡ Some jumbled →
+    e ≡ OutOfMemory → IsRefusalHolding (option_copied c.args.hold) (g.I.Number.value c.args.n) (map g.I.Number.value c.args.a_p.now)
+    (map g.I.Number.value c.args.a_i.now) e
+no_memory g c jumbled e by is =
+    let status = c.class_of-status.result in
+    refused (option_copied c.args.hold) (g.I.Number.value c.args.n) (map g.I.Number.value c.args.a_p.now)
+    (map g.I.Number.value c.args.a_i.now) status e (known g c) (jumbled_valid status jumbled by) is
 
 -- there is a place for each row in the lent lists of the result
 long : (g : Over) (c : After-deref_mut g) → length c.deref_mut.result.now ≡ c.in-Some.count
@@ -79,3 +94,51 @@ returns-clause-ordering g c =
     rw (p_is, q_is) (ordering hold n z control jumbled a_p a_i p q (record info { status = status }) status c.in-Some.ensures.1
     (known g at.After-class_of-status) (sym c.jumbled_of.ensures ∙ c.in-Some-jumbled_of.is) refl
     (orders_still hold n control (pairs_by jumbled n a_p a_i) a_p a_i p q info status (rw same at c.in_ok-info.ensures.orders)))
+
+pub returns-in_default-clause-ordering : goal.returns-in_default-clause-ordering
+returns-in_default-clause-ordering g c = tt
+
+pub returns-in_default-clause-refusal : goal.returns-in_default-clause-refusal
+returns-in_default-clause-refusal g c =
+    let value = g.I.Number.value in
+    refused_count value (option_copied c.args.hold) (value c.args.n) c.args.a_p.now (map value c.args.a_i.now)
+    (omega (arith, c.well_formed)) c.in_default.ensures
+
+pub returns-then-count-eq0-clause-refusal : goal.returns-then-count-eq0-clause-refusal
+returns-then-count-eq0-clause-refusal g c = tt
+
+pub class_of-status-requires-clause-fits : goal.class_of-status-requires-clause-fits
+class_of-status-requires-clause-fits g c = c.requires.fits
+
+pub returns-in_default-jumbled_of-clause-ordering : goal.returns-in_default-jumbled_of-clause-ordering
+returns-in_default-jumbled_of-clause-ordering g c = tt
+
+pub returns-in_err-p-clause-ordering : goal.returns-in_err-p-clause-ordering
+returns-in_err-p-clause-ordering g c = IfOk-from_err c.from_residual.result _ c.from_residual.ensures.0
+
+pub returns-in_err-p-clause-refusal : goal.returns-in_err-p-clause-refusal
+returns-in_err-p-clause-refusal g c =
+    let p = err_from_is_err_and c.from_residual.result c.from_residual.ensures.1 in
+    rw p.1 (no_memory g (goal.at.returns-in_err-p-clause-refusal g c).After-class_of-status c.in-Some-jumbled_of.jumbled p.0
+    (sym c.jumbled_of.ensures ∙ c.in-Some-jumbled_of.is) p.2)
+
+pub returns-in_err-p_inv-clause-ordering : goal.returns-in_err-p_inv-clause-ordering
+returns-in_err-p_inv-clause-ordering g c = IfOk-from_err c.from_residual-in_err-p_inv.result _ c.from_residual-in_err-p_inv.ensures.0
+
+pub returns-in_err-p_inv-clause-refusal : goal.returns-in_err-p_inv-clause-refusal
+returns-in_err-p_inv-clause-refusal g c =
+    let p = err_from_is_err_and c.from_residual-in_err-p_inv.result c.from_residual-in_err-p_inv.ensures.1 in
+    rw p.1 (no_memory g (goal.at.returns-in_err-p_inv-clause-refusal g c).After-class_of-status c.in-Some-jumbled_of.jumbled p.0
+    (sym c.jumbled_of.ensures ∙ c.in-Some-jumbled_of.is) p.2)
+
+pub returns-in_err-info-clause-ordering : goal.returns-in_err-info-clause-ordering
+returns-in_err-info-clause-ordering g c = IfOk-from_err c.from_residual-in_err-info.result _ c.from_residual-in_err-info.ensures.0
+
+pub returns-in_err-info-clause-refusal : goal.returns-in_err-info-clause-refusal
+returns-in_err-info-clause-refusal g c =
+    let p = err_from_is_err_and c.from_residual-in_err-info.result c.from_residual-in_err-info.ensures.1 in
+    rw p.1 (no_memory g (goal.at.returns-in_err-info-clause-refusal g c).After-class_of-status c.in-Some-jumbled_of.jumbled p.0
+    (sym c.jumbled_of.ensures ∙ c.in-Some-jumbled_of.is) p.2)
+
+pub returns-clause-refusal : goal.returns-clause-refusal
+returns-clause-refusal g c = tt
