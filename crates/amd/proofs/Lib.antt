@@ -10,3 +10,5 @@ pub mod EarlyAnswers
 pub mod Calls
 pub mod Fewer
 pub mod KeptLists
+pub mod TestedCalls
+pub mod FittingMatrices

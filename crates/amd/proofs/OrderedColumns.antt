@@ -44,7 +44,7 @@ valid_form hold z a_p a_i OkButJumbled h valid = (h.is (h.marks valid)).0
 valid_form hold z a_p a_i OutOfMemory h valid = absurd (h.is (h.marks valid))
 
 -- a number that is a count other than 0 is not 0
-not_nothing : (count : ℕ) (z : ℤ) → pos count ≡ z → count ≢ 0 → z ≢ pos 0
+pub not_nothing : (count : ℕ) (z : ℤ) → pos count ≡ z → count ≢ 0 → z ≢ pos 0
 not_nothing count z is some e = let zero : count ≡ 0 = cc in some zero
 
 -- marks for a count are marks for the number
