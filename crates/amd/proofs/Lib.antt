@@ -12,3 +12,4 @@ pub mod Fewer
 pub mod KeptLists
 pub mod TestedCalls
 pub mod FittingMatrices
+pub mod SortedColumns
