@@ -108,6 +108,38 @@ fn check_columns(
     check_into(rt, alloc, n, a_p, a_i, p, &factor)
 }
 
+/// Asserts that the counts under an order are those of the slow factor.
+fn check_counted(
+    rt: &impl Abort,
+    alloc: Global,
+    n: i64,
+    a_p: &[i64],
+    a_i: &[i64],
+    p: &[i64],
+    slow: &SearchedFactor,
+) {
+    let Ok(counted) = counts(alloc, n, a_p, a_i, p) else {
+        panic!(rt; "no counts");
+    };
+    check_under(rt, are_counts(&counted, slow), p, a_p, a_i);
+}
+
+/// Asserts that the supernodes under an order are those of the slow factor.
+fn check_supernodes(
+    rt: &impl Abort,
+    alloc: Global,
+    n: i64,
+    a_p: &[i64],
+    a_i: &[i64],
+    p: &[i64],
+    slow: &SearchedFactor,
+) {
+    let Ok(made) = supernodes(alloc, n, a_p, a_i, p) else {
+        panic!(rt; "no supernodes");
+    };
+    check_under(rt, are_supernodes(&made, &slow.columns), p, a_p, a_i);
+}
+
 /// Asserts that under an order the columns, the counts and the supernodes are those of the slow factor.
 fn check_order(
     rt: &impl Abort,
@@ -119,14 +151,8 @@ fn check_order(
 ) -> Result<(), AllocError> {
     let slow = factor_of(alloc, a_p, a_i, p)?;
     check_columns(rt, alloc, n, a_p, a_i, p, &slow)?;
-    let (Ok(counted), Ok(made)) = (
-        counts(alloc, n, a_p, a_i, p),
-        supernodes(alloc, n, a_p, a_i, p),
-    ) else {
-        panic!(rt; "no counts, or no supernodes");
-    };
-    check_under(rt, are_counts(&counted, &slow), p, a_p, a_i);
-    check_under(rt, are_supernodes(&made, &slow.columns), p, a_p, a_i);
+    check_counted(rt, alloc, n, a_p, a_i, p, &slow);
+    check_supernodes(rt, alloc, n, a_p, a_i, p, &slow);
     Ok(())
 }
 

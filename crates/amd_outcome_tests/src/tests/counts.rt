@@ -1,9 +1,9 @@
 // The counts of the columns: on worked matrices, with each request refused in turn, and where the input or the order is
 // none. And whether counts are those of a factor that searches for paths find.
 
-use crate::tests::orders::NO_ORDERS;
-use crate::tests::refusals::NO_FORMS;
-use crate::tests::worked::{FOUR_CYCLE, FactorCase, WORKED};
+use crate::tests::orders::no_orders;
+use crate::tests::refusals::no_forms;
+use crate::tests::worked::{FactorCase, four_cycle, worked};
 use amd::Control;
 use amd_symbolic::{Counts, Fault, analyze_counts, counts};
 use amd_testing::check;
@@ -59,7 +59,7 @@ fn asks(rt: &impl Abort, heap: &Refusing<Global>, case: &FactorCase) -> bool {
 /// No rows need no memory; each other case makes some request.
 #[test]
 fn each_request_of_counts(rt: HostRuntime) {
-    for case in WORKED.iter().chain([&FOUR_CYCLE]) {
+    for case in worked() {
         match each_refused(rt.alloc(), |heap| asks(&rt, heap, case)) {
             Ok(count) => check!(&rt; (0 < count) == (0 < case.n), case.what),
             Err(_) => panic!(&rt; "{}", case.what),
@@ -84,7 +84,7 @@ fn analyzes(rt: &impl Abort, heap: &Refusing<Global>, case: &FactorCase) -> bool
 
 #[test]
 fn each_request_of_analyze_counts(rt: HostRuntime) {
-    match each_refused(rt.alloc(), |heap| analyzes(&rt, heap, &FOUR_CYCLE)) {
+    match each_refused(rt.alloc(), |heap| analyzes(&rt, heap, four_cycle())) {
         Ok(count) => check!(&rt; 0 < count),
         Err(_) => panic!(&rt; "a four-cycle"),
     }
@@ -94,7 +94,7 @@ fn each_request_of_analyze_counts(rt: HostRuntime) {
 #[test]
 fn inputs_that_have_no_counts(rt: HostRuntime) {
     let heap = Refusing::new(rt.alloc(), 1);
-    for &(n, a_p, a_i) in &NO_FORMS {
+    for &(n, a_p, a_i) in no_forms() {
         let fault = counts(&heap, n, a_p, a_i, &[0, 1]).err();
         check!(&rt; fault == Some(Fault::NotColumnForm));
         let fault = analyze_counts(&heap, n, a_p, a_i, &Control::default()).err();
@@ -108,8 +108,8 @@ fn inputs_that_have_no_counts(rt: HostRuntime) {
 /// Orders that do not list each row once are told as such.
 #[test]
 fn orders_that_have_no_counts(rt: HostRuntime) {
-    let case = &FOUR_CYCLE;
-    for &p in &NO_ORDERS {
+    let case = four_cycle();
+    for &p in no_orders() {
         let fault = counts(rt.alloc(), case.n, case.a_p, case.a_i, p).err();
         check!(&rt; fault == Some(Fault::NotPermutation));
     }

@@ -3,7 +3,7 @@
 // supernodes. The answers were worked by hand, or come from an independent program that follows the definitions, which
 // is no part of this repository.
 
-use crate::tests::worked::{FOUR_CYCLE, FactorCase, WORKED, check_factor};
+use crate::tests::worked::{FactorCase, check_factor, four_cycle, worked};
 use amd::{Control, order};
 use amd_symbolic::{Fault, expand, supernode_sizes, supernodes};
 use amd_testing::check;
@@ -11,8 +11,10 @@ use amd_testing::refusing::{Refusing, each_refused};
 use std::alloc::Global;
 use std::process::Abort;
 
-/// How many supernodes the cases of `WORKED` have, and how many rows below the blocks.
-const SIZES: [(usize, usize); 8] = [
+/// How many supernodes the worked matrices have, and how many rows below the blocks.
+const SIZES: [(usize, usize); 9] = [
+    // {0} with two rows, and {1, 2, 3}
+    (2, 2),
     // {0} with the row 4, {1} with 2, and {2, 3, 4}
     (3, 2),
     (0, 0),
@@ -45,7 +47,7 @@ fn asks(rt: &impl Abort, heap: &Refusing<Global>, case: &FactorCase) -> bool {
 
 #[test]
 fn each_request_of_an_expansion(rt: HostRuntime) {
-    for case in WORKED.iter().chain([&FOUR_CYCLE]) {
+    for case in worked() {
         match each_refused(rt.alloc(), |heap| asks(&rt, heap, case)) {
             Ok(count) => check!(&rt; 0 < count, case.what),
             Err(_) => panic!(&rt; "{}", case.what),
@@ -72,11 +74,10 @@ fn asks_sizes(
     }
 }
 
-/// A four-cycle has the supernodes {0}, with two rows, and {1, 2, 3}. No rows need no memory.
+/// No rows need no memory.
 #[test]
 fn each_request_of_sizes(rt: HostRuntime) {
-    let cases = WORKED.iter().zip(&SIZES).chain([(&FOUR_CYCLE, &(2, 2))]);
-    for (case, &wanted) in cases {
+    for (case, &wanted) in worked().iter().zip(&SIZES) {
         match each_refused(rt.alloc(), |heap| asks_sizes(&rt, heap, case, wanted)) {
             Ok(count) => check!(&rt; (0 < count) == (0 < case.n), case.what),
             Err(_) => panic!(&rt; "{}", case.what),
@@ -93,7 +94,7 @@ fn inputs_that_have_no_sizes(rt: HostRuntime) {
     check!(&rt; short == Some(Fault::NotColumnForm) && negative == Some(Fault::NotColumnForm));
     let order_of_none = supernode_sizes(&heap, 0i64, &[], &[], &[0]).err();
     check!(&rt; order_of_none == Some(Fault::NotPermutation) && heap.requests() == 0);
-    let case = &FOUR_CYCLE;
+    let case = four_cycle();
     for p in [[].as_slice(), &[0, 1, 1, 2], &[0, 1, 2], &[0, 1, 2, 4]] {
         let fault = supernode_sizes(rt.alloc(), case.n, case.a_p, case.a_i, p).err();
         check!(&rt; fault == Some(Fault::NotPermutation));

@@ -9,7 +9,8 @@ use amd_symbolic::{
 };
 use amd_testing::check;
 use amd_testing::inputs::path;
-use std::alloc::Global;
+use std::alloc::{AllocError, Global};
+use std::process::Abort;
 use std::test::Fail;
 
 /// The number of rows.
@@ -19,11 +20,20 @@ const ROWS: i64 = 131_074;
 const ENTRIES: usize = 131_073;
 
 /// A path, and the order of its rows.
-#[derive(Drop)]
 struct Rows {
     a_p: Vec<i64>,
     a_i: Vec<i64>,
     p: Vec<i64>,
+}
+
+impl Drop for Rows {
+    fn drop(self) {
+        let Rows {
+            a_p: _,
+            a_i: _,
+            p: _,
+        } = self;
+    }
 }
 
 /// The path.
@@ -44,53 +54,87 @@ fn are_parents(parent: &[Option<usize>]) -> bool {
     parent.len() == ENTRIES + 1
 }
 
+/// Asserts that the path has its columns, in the room that they need.
+fn check_columns(rt: &impl Abort, alloc: Global, path: &Rows) {
+    let Ok(factor) = columns(alloc, ROWS, &path.a_p, &path.a_i, &path.p, ENTRIES) else {
+        panic!(rt; "no columns");
+    };
+    check!(rt; factor.rows.len() == ENTRIES && are_parents(&factor.parent));
+}
+
+/// Asserts that the columns of the path are written into numbers.
+fn check_columns_into(rt: &impl Abort, alloc: Global, path: &Rows) -> Result<(), AllocError> {
+    let mut rows = vec![in alloc; 0i64; ENTRIES]?;
+    let Ok(frame) = columns_into(alloc, ROWS, &path.a_p, &path.a_i, &path.p, &mut rows) else {
+        panic!(rt; "no columns in numbers");
+    };
+    check!(rt; rows.last() == Some(&(ROWS - 1)) && are_parents(&frame.parent));
+    Ok(())
+}
+
 #[test]
 fn columns_of_many_rows(rt: HostRuntime) -> Result<(), Fail> {
-    let alloc = rt.alloc();
-    let Rows { a_p, a_i, p } = many_rows(alloc)?;
-    let Ok(factor) = columns(alloc, ROWS, &a_p, &a_i, &p, ENTRIES) else {
-        panic!(&rt; "no columns");
-    };
-    check!(&rt; factor.rows.len() == ENTRIES && are_parents(&factor.parent));
-    let mut rows = vec![in alloc; 0i64; ENTRIES]?;
-    let Ok(frame) = columns_into(alloc, ROWS, &a_p, &a_i, &p, &mut rows) else {
-        panic!(&rt; "no columns in numbers");
-    };
-    check!(&rt; rows.last() == Some(&(ROWS - 1)) && are_parents(&frame.parent));
+    let path = many_rows(rt.alloc())?;
+    check_columns(&rt, rt.alloc(), &path);
+    check_columns_into(&rt, rt.alloc(), &path)?;
     Ok(())
+}
+
+/// Asserts that the path has its counts.
+fn check_counts(rt: &impl Abort, alloc: Global, path: &Rows) {
+    let Ok(counted) = counts(alloc, ROWS, &path.a_p, &path.a_i, &path.p) else {
+        panic!(rt; "no counts");
+    };
+    check!(rt; counted.need.lnz == ENTRIES as u128 && are_parents(&counted.parent));
+}
+
+/// Asserts that the path has its supernodes.
+fn check_supernodes(rt: &impl Abort, alloc: Global, path: &Rows) {
+    let Ok(made) = supernodes(alloc, ROWS, &path.a_p, &path.a_i, &path.p) else {
+        panic!(rt; "no supernodes");
+    };
+    check!(rt; made.parent.len() == ENTRIES && made.rows.len() == ENTRIES - 1);
+}
+
+/// Asserts that the supernodes of the path have their sizes.
+fn check_sizes(rt: &impl Abort, alloc: Global, path: &Rows) {
+    let Ok(sizes) = supernode_sizes(alloc, ROWS, &path.a_p, &path.a_i, &path.p) else {
+        panic!(rt; "no sizes");
+    };
+    check!(rt; sizes.supernodes == ENTRIES && sizes.rows == ENTRIES - 1);
 }
 
 #[test]
 fn counts_of_many_rows(rt: HostRuntime) -> Result<(), Fail> {
-    let alloc = rt.alloc();
-    let Rows { a_p, a_i, p } = many_rows(alloc)?;
-    let Ok(counted) = counts(alloc, ROWS, &a_p, &a_i, &p) else {
-        panic!(&rt; "no counts");
-    };
-    check!(&rt; counted.need.lnz == ENTRIES as u128 && are_parents(&counted.parent));
-    let Ok(made) = supernodes(alloc, ROWS, &a_p, &a_i, &p) else {
-        panic!(&rt; "no supernodes");
-    };
-    check!(&rt; made.parent.len() == ENTRIES && made.rows.len() == ENTRIES - 1);
-    let Ok(sizes) = supernode_sizes(alloc, ROWS, &a_p, &a_i, &p) else {
-        panic!(&rt; "no sizes");
-    };
-    check!(&rt; sizes.supernodes == ENTRIES && sizes.rows == ENTRIES - 1);
+    let path = many_rows(rt.alloc())?;
+    check_counts(&rt, rt.alloc(), &path);
+    check_supernodes(&rt, rt.alloc(), &path);
+    check_sizes(&rt, rt.alloc(), &path);
     Ok(())
+}
+
+/// Asserts that the path is ordered, with its factor.
+fn check_analysis(rt: &impl Abort, alloc: Global, path: &Rows) {
+    let answer = analyze(alloc, ROWS, &path.a_p, &path.a_i, &Control::default());
+    let Ok((p, _, info, factor)) = answer else {
+        panic!(rt; "no factor");
+    };
+    check!(rt; p.len() == ENTRIES + 1 && info.lnz == ENTRIES && factor.rows.len() == ENTRIES);
+}
+
+/// Asserts that the path is ordered, with its counts.
+fn check_analyzed_counts(rt: &impl Abort, alloc: Global, path: &Rows) {
+    let answer = analyze_counts(alloc, ROWS, &path.a_p, &path.a_i, &Control::default());
+    let Ok((_, _, _, counted)) = answer else {
+        panic!(rt; "no counts");
+    };
+    check!(rt; counted.need.lnz == ENTRIES as u128);
 }
 
 #[test]
 fn analyses_of_many_rows(rt: HostRuntime) -> Result<(), Fail> {
-    let alloc = rt.alloc();
-    let Rows { a_p, a_i, .. } = many_rows(alloc)?;
-    let control = Control::default();
-    let Ok((p, _, info, factor)) = analyze(alloc, ROWS, &a_p, &a_i, &control) else {
-        panic!(&rt; "no factor");
-    };
-    check!(&rt; p.len() == ENTRIES + 1 && info.lnz == ENTRIES && factor.rows.len() == ENTRIES);
-    let Ok((_, _, _, counted)) = analyze_counts(alloc, ROWS, &a_p, &a_i, &control) else {
-        panic!(&rt; "no counts");
-    };
-    check!(&rt; counted.need.lnz == ENTRIES as u128);
+    let path = many_rows(rt.alloc())?;
+    check_analysis(&rt, rt.alloc(), &path);
+    check_analyzed_counts(&rt, rt.alloc(), &path);
     Ok(())
 }

@@ -3,7 +3,7 @@
 // back as were granted.
 
 use crate::tests::comparison::{UNTOUCHED, are_written};
-use crate::tests::worked::{FOUR_CYCLE, FactorCase, WORKED, check_factor};
+use crate::tests::worked::{FactorCase, check_factor, four_cycle, worked};
 use amd::Control;
 use amd_symbolic::{Factor, Fault, analyze, analyze_holding, columns, columns_into};
 use amd_testing::check;
@@ -41,12 +41,12 @@ const REQUESTS: u64 = 9;
 
 #[test]
 fn each_request_of_columns(rt: HostRuntime) {
-    for case in &WORKED {
+    for case in worked() {
         let refusals = each_refused(rt.alloc(), |heap| asks(&rt, heap, case));
         check!(&rt; matches!(refusals, Ok(1..)), case.what);
     }
-    let refusals = each_refused(rt.alloc(), |heap| asks(&rt, heap, &FOUR_CYCLE));
-    check!(&rt; refusals == Ok(REQUESTS), FOUR_CYCLE.what);
+    let refusals = each_refused(rt.alloc(), |heap| asks(&rt, heap, four_cycle()));
+    check!(&rt; refusals == Ok(REQUESTS), four_cycle().what);
 }
 
 /// Asks for the columns of a case in numbers, and says whether there was an answer.
@@ -69,12 +69,12 @@ fn asks_into(rt: &impl Abort, heap: &Refusing<Global>, case: &FactorCase) -> boo
 /// All requests of `columns` but that for the entries.
 #[test]
 fn each_request_of_columns_into(rt: HostRuntime) {
-    for case in &WORKED {
+    for case in worked() {
         let refusals = each_refused(rt.alloc(), |heap| asks_into(&rt, heap, case));
         check!(&rt; matches!(refusals, Ok(1..)), case.what);
     }
-    let refusals = each_refused(rt.alloc(), |heap| asks_into(&rt, heap, &FOUR_CYCLE));
-    check!(&rt; refusals == Ok(REQUESTS - 1), FOUR_CYCLE.what);
+    let refusals = each_refused(rt.alloc(), |heap| asks_into(&rt, heap, four_cycle()));
+    check!(&rt; refusals == Ok(REQUESTS - 1), four_cycle().what);
 }
 
 /// How many requests of each size in bytes there are for the four-cycle with room for seven entries, which one list
@@ -84,7 +84,7 @@ static SIZES: [(usize, u64); 4] = [(4 * 8, 4), (5 * 8, 2), (7 * 8, 1), (4 * 16, 
 
 #[test]
 fn sizes_of_the_requests_of_columns(rt: HostRuntime) {
-    let case = &FOUR_CYCLE;
+    let case = four_cycle();
     for (size, count) in &SIZES {
         let heap = Refusing::counting(rt.alloc(), 0, *size);
         let is_answered = columns(&heap, case.n, case.a_p, case.a_i, case.p, 7).is_ok();
@@ -104,7 +104,7 @@ fn meets_fault(
     room: usize,
     want: &Fault,
 ) -> bool {
-    let case = &FOUR_CYCLE;
+    let case = four_cycle();
     let Err(fault) = columns(heap, case.n, case.a_p, case.a_i, p, room) else {
         panic!(rt; "a factor");
     };
@@ -126,7 +126,7 @@ fn each_request_before_a_fault(rt: HostRuntime) {
 
 /// Analyzes a four-cycle, and says whether there was an answer.
 fn analyzes(rt: &impl Abort, heap: &Refusing<Global>) -> bool {
-    let case = &FOUR_CYCLE;
+    let case = four_cycle();
     match analyze(heap, case.n, case.a_p, case.a_i, &Control::default()) {
         Ok((p, _, info, factor)) => {
             check!(rt; p.as_slice() == case.p && info.lnz == 5);

@@ -86,19 +86,29 @@ static I128: Cycle<'static, i128> = cycle!();
 
 static ISIZE: Cycle<'static, isize> = cycle!();
 
-/// Analyzes the four-cycles of some types.
-macro_rules! assert_cycles {
+/// Asserts that a four-cycle is analyzed, and that it has its factor.
+fn check_cycle<I: PrimInt>(rt: &impl Abort, alloc: Global, cycle: &Cycle<I>)
+    requires { I.fits (I.value cycle.now.n) }
+{
+    check_analysis(rt, alloc, cycle);
+    check_columns(rt, alloc, cycle);
+}
+
+/// Asserts that the four-cycles of some types are analyzed, and that they have their factors.
+macro_rules! check_cycles {
     ($rt:ident; $($cycle:ident)*) => {
-        $(
-            check_analysis(&$rt, $rt.alloc(), &$cycle);
-            check_columns(&$rt, $rt.alloc(), &$cycle);
-        )*
+        $(check_cycle(&$rt, $rt.alloc(), &$cycle);)*
     };
 }
 
 #[test]
-fn a_four_cycle_in_each_type(rt: HostRuntime) {
-    assert_cycles!(rt; U8 U16 U32 U64 U128 USIZE I8 I16 I32 I64 I128 ISIZE);
+fn a_four_cycle_in_each_unsigned_type(rt: HostRuntime) {
+    check_cycles!(rt; U8 U16 U32 U64 U128 USIZE);
+}
+
+#[test]
+fn a_four_cycle_in_each_signed_type(rt: HostRuntime) {
+    check_cycles!(rt; I8 I16 I32 I64 I128 ISIZE);
 }
 
 /// A number past the greatest `usize` is no number of rows, no pointer, no row, and none that an order lists; behind

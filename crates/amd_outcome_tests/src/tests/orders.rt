@@ -4,7 +4,7 @@ use amd_testing::inputs::draw;
 use std::alloc::{AllocError, Global};
 
 /// Lists that are no order of four rows.
-pub static NO_ORDERS: [&[i64]; 6] = [
+static NO_ORDERS: [&[i64]; 6] = [
     &[],
     &[0, 1, 2],
     &[0, 1, 2, 2],
@@ -12,6 +12,11 @@ pub static NO_ORDERS: [&[i64]; 6] = [
     &[0, 1, 2, -1],
     &[0, 1, 2, 3, 0],
 ];
+
+/// The lists that are no order of four rows.
+pub fn no_orders() -> &'static [&'static [i64]] {
+    &NO_ORDERS
+}
 
 /// The rows as they stand.
 pub fn rows_of(alloc: Global, n: i64) -> Result<Vec<i64>, AllocError> {

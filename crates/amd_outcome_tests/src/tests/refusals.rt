@@ -2,7 +2,7 @@
 // definitions: the first of them, in that order. More orders that do not list each row once, and rooms that are too
 // small, are stored cases of `amd_replay`.
 
-use crate::tests::worked::FOUR_CYCLE;
+use crate::tests::worked::four_cycle;
 use amd::Control;
 use amd_symbolic::{Fault, analyze, analyze_holding, columns};
 use amd_testing::check;
@@ -10,8 +10,11 @@ use amd_testing::refusing::Refusing;
 use std::alloc::Global;
 use std::process::Abort;
 
-/// Inputs that are no column form: the number of rows, the pointers, and the row indices.
-pub static NO_FORMS: [(i64, &[i64], &[i64]); 9] = [
+/// An input that is no column form: the number of rows, the pointers, and the row indices.
+pub type NoForm = (i64, &'static [i64], &'static [i64]);
+
+/// Inputs that are no column form.
+static NO_FORMS: [NoForm; 9] = [
     (2, &[0, 2, 1], &[0, 1]),
     (1, &[1, 1], &[0]),
     (1, &[0, 1], &[1]),
@@ -22,6 +25,11 @@ pub static NO_FORMS: [(i64, &[i64], &[i64]); 9] = [
     (2, &[0, 1, 3], &[0, 1]),
     (2, &[0, 2, 3], &[1, 0, 5]),
 ];
+
+/// The inputs that are no column form. A proof of each function that names the list itself would hold all of it.
+pub fn no_forms() -> &'static [NoForm] {
+    &NO_FORMS
+}
 
 /// Asserts that the columns of a factor are refused as those of no column form, whatever the order and the room are.
 fn check_no_form(rt: &impl Abort, heap: &Refusing<Global>, n: i64, a_p: &[i64], a_i: &[i64]) {
@@ -40,7 +48,7 @@ fn check_no_form(rt: &impl Abort, heap: &Refusing<Global>, n: i64, a_p: &[i64], 
 #[test]
 fn inputs_that_are_no_column_form(rt: HostRuntime) {
     let heap = Refusing::new(rt.alloc(), 1);
-    for &(n, a_p, a_i) in &NO_FORMS {
+    for &(n, a_p, a_i) in no_forms() {
         check_no_form(&rt, &heap, n, a_p, a_i);
         let fault = analyze(&heap, n, a_p, a_i, &Control::default()).err();
         check!(&rt; fault == Some(Fault::NotColumnForm));
@@ -85,7 +93,7 @@ fn orders_of_no_rows(rt: HostRuntime) {
 /// A room that no memory holds is refused as memory is.
 #[test]
 fn rooms_that_no_memory_holds(rt: HostRuntime) {
-    let case = &FOUR_CYCLE;
+    let case = four_cycle();
     for room in [usize::MAX, 1 << 61] {
         let fault = columns(rt.alloc(), case.n, case.a_p, case.a_i, case.p, room).err();
         check!(&rt; fault == Some(Fault::OutOfMemory));

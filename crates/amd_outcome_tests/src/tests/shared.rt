@@ -17,12 +17,22 @@ const ROWS: i64 = 400;
 const HALF: i64 = 200;
 
 /// A matrix, the order of its rows as they stand, and the number of entries of each column under it.
-#[derive(Drop)]
 struct Sized {
     a_p: Vec<i64>,
     a_i: Vec<i64>,
     p: Vec<i64>,
     sizes: Vec<usize>,
+}
+
+impl Drop for Sized {
+    fn drop(self) {
+        let Sized {
+            a_p: _,
+            a_i: _,
+            p: _,
+            sizes: _,
+        } = self;
+    }
 }
 
 /// The rows before `j` that an entry joins with it, in a clique.
@@ -82,16 +92,21 @@ fn fan(alloc: Global) -> Result<Sized, AllocError> {
     Ok(Sized { a_p, a_i, p, sizes })
 }
 
+/// The sum of some sizes.
+fn sum_of(sizes: &[usize]) -> u128 {
+    let mut total = 0u128;
+    for &size in sizes {
+        total = total.saturating_add(size as u128);
+    }
+    total
+}
+
 /// Asks for the counts of a matrix, and says whether there was an answer.
 fn asks(rt: &impl Abort, heap: &Refusing<Global>, matrix: &Sized) -> bool {
     match counts(heap, ROWS, &matrix.a_p, &matrix.a_i, &matrix.p) {
         Ok(counted) => {
             check!(rt; counted.sizes.as_slice() == matrix.sizes.as_slice());
-            let mut total = 0u128;
-            for &size in &matrix.sizes {
-                total = total.saturating_add(size as u128);
-            }
-            check!(rt; counted.need.lnz == total);
+            check!(rt; counted.need.lnz == sum_of(&matrix.sizes));
             true
         }
         Err(fault) => {

@@ -1,9 +1,9 @@
 // The columns by supernodes: on worked matrices, with each request refused in turn, and where the input or the order is
 // none. And whether supernodes are those of columns that searches for paths find.
 
-use crate::tests::orders::NO_ORDERS;
-use crate::tests::refusals::NO_FORMS;
-use crate::tests::worked::{FOUR_CYCLE, FactorCase, WORKED};
+use crate::tests::orders::no_orders;
+use crate::tests::refusals::no_forms;
+use crate::tests::worked::{FactorCase, four_cycle, worked};
 use amd_symbolic::{Fault, Supernodes, supernodes};
 use amd_testing::check;
 use amd_testing::refusing::{Refusing, each_refused};
@@ -130,7 +130,7 @@ fn asks(rt: &impl Abort, alloc: Global, heap: &Refusing<Global>, case: &FactorCa
 
 #[test]
 fn each_request_of_supernodes(rt: HostRuntime) {
-    for case in WORKED.iter().chain([&FOUR_CYCLE]) {
+    for case in worked() {
         match each_refused(rt.alloc(), |heap| asks(&rt, rt.alloc(), heap, case)) {
             Ok(count) => check!(&rt; 0 < count, case.what),
             Err(_) => panic!(&rt; "{}", case.what),
@@ -142,7 +142,7 @@ fn each_request_of_supernodes(rt: HostRuntime) {
 #[test]
 fn inputs_that_have_no_supernodes(rt: HostRuntime) {
     let heap = Refusing::new(rt.alloc(), 1);
-    for &(n, a_p, a_i) in &NO_FORMS {
+    for &(n, a_p, a_i) in no_forms() {
         let fault = supernodes(&heap, n, a_p, a_i, &[0, 1]).err();
         check!(&rt; fault == Some(Fault::NotColumnForm));
     }
@@ -154,8 +154,8 @@ fn inputs_that_have_no_supernodes(rt: HostRuntime) {
 /// Orders that do not list each row once are told as such.
 #[test]
 fn orders_that_have_no_supernodes(rt: HostRuntime) {
-    let case = &FOUR_CYCLE;
-    for &p in &NO_ORDERS {
+    let case = four_cycle();
+    for &p in no_orders() {
         let fault = supernodes(rt.alloc(), case.n, case.a_p, case.a_i, p).err();
         check!(&rt; fault == Some(Fault::NotPermutation));
     }

@@ -4,7 +4,7 @@
 use amd::Control;
 use amd_symbolic::{Factor, analyze};
 use amd_testing::check;
-use std::alloc::Allocator;
+use std::alloc::{Allocator, Global};
 use std::process::Abort;
 
 /// A matrix, an order of its rows, a room, and the factor under that order.
@@ -21,21 +21,20 @@ pub struct FactorCase<'a> {
     pub parent: &'a [Option<usize>],
 }
 
-/// A four-cycle under the order that the ordering gives it.
-pub static FOUR_CYCLE: FactorCase<'static> = FactorCase {
-    what: "a four-cycle",
-    n: 4,
-    a_p: &[0, 2, 3, 4, 4],
-    a_i: &[1, 3, 2, 3],
-    p: &[3, 0, 1, 2],
-    room: 5,
-    ptr: &[0, 2, 4, 5, 5],
-    rows: &[1, 3, 2, 3, 3],
-    parent: &[Some(1), Some(2), Some(3), None],
-};
-
-/// Worked matrices. In some of them the room is more than is needed.
-pub static WORKED: [FactorCase<'static>; 8] = [
+/// Worked matrices. The first four are under the order that an ordering gives them. In some the room is more than is
+/// needed.
+static WORKED: [FactorCase<'static>; 9] = [
+    FactorCase {
+        what: "a four-cycle",
+        n: 4,
+        a_p: &[0, 2, 3, 4, 4],
+        a_i: &[1, 3, 2, 3],
+        p: &[3, 0, 1, 2],
+        room: 5,
+        ptr: &[0, 2, 4, 5, 5],
+        rows: &[1, 3, 2, 3, 3],
+        parent: &[Some(1), Some(2), Some(3), None],
+    },
     FactorCase {
         what: "five rows, one entry without its mirror",
         n: 5,
@@ -126,22 +125,36 @@ pub static WORKED: [FactorCase<'static>; 8] = [
     },
 ];
 
+/// The worked matrices. A proof of each function that names the list itself would hold all of it.
+pub fn worked() -> &'static [FactorCase<'static>] {
+    &WORKED
+}
+
+/// The four-cycle of the worked matrices.
+pub fn four_cycle() -> &'static FactorCase<'static> {
+    &WORKED[0]
+}
+
 /// Asserts that a factor is that of a case.
 pub fn check_factor<A: Allocator>(rt: &impl Abort, case: &FactorCase, factor: &Factor<A>) {
     let lists_are = factor.ptr.as_slice() == case.ptr && factor.rows.as_slice() == case.rows;
     check!(rt; lists_are && factor.parent.as_slice() == case.parent, case.what);
 }
 
+/// Asserts that an analysis of a case gives its order and its factor.
+fn check_analysis(rt: &impl Abort, alloc: Global, case: &FactorCase) {
+    let answer = analyze(alloc, case.n, case.a_p, case.a_i, &Control::default());
+    let Ok((p, p_inv, info, factor)) = answer else {
+        panic!(rt; "no answer for {}", case.what);
+    };
+    check!(rt; p.as_slice() == case.p && p_inv.len() == case.p.len());
+    check!(rt; info.lnz == case.rows.len());
+    check_factor(rt, case, &factor);
+}
+
 #[test]
 fn worked_analyses(rt: HostRuntime) {
-    let [_, no_rows, no_form, ..] = &WORKED;
-    for case in [&FOUR_CYCLE, no_rows, no_form] {
-        let answer = analyze(rt.alloc(), case.n, case.a_p, case.a_i, &Control::default());
-        let Ok((p, p_inv, info, factor)) = answer else {
-            panic!(rt; "no answer for {}", case.what);
-        };
-        check!(&rt; p.as_slice() == case.p && p_inv.len() == case.p.len());
-        check!(&rt; info.lnz == case.rows.len());
-        check_factor(&rt, case, &factor);
+    for case in worked().iter().take(4) {
+        check_analysis(&rt, rt.alloc(), case);
     }
 }

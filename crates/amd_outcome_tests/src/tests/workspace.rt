@@ -2,7 +2,7 @@
 // which input it refuses. The factor was worked by hand.
 
 use crate::tests::comparison::{UNTOUCHED, are_written};
-use crate::tests::worked::FOUR_CYCLE;
+use crate::tests::worked::four_cycle;
 use amd_symbolic::{FactorWorkspace, Refusal, factor_bytes};
 use amd_testing::check;
 use amd_testing::refusing::{Refusing, each_refused};
@@ -11,7 +11,7 @@ use std::process::Abort;
 
 /// Asserts that a workspace writes the columns of the four-cycle.
 fn check_columns<A: Allocator + Copy>(rt: &impl Abort, workspace: &mut FactorWorkspace<A>) {
-    let case = &FOUR_CYCLE;
+    let case = four_cycle();
     let mut ptr = [9; 5];
     let mut parent = [None; 4];
     let mut rows = [UNTOUCHED; 9];
@@ -30,7 +30,7 @@ fn check_columns<A: Allocator + Copy>(rt: &impl Abort, workspace: &mut FactorWor
 
 /// Asserts that a workspace writes the counts of the four-cycle.
 fn check_counts<A: Allocator + Copy>(rt: &impl Abort, workspace: &mut FactorWorkspace<A>) {
-    let case = &FOUR_CYCLE;
+    let case = four_cycle();
     let mut counts = [9; 4];
     let mut parent = [None; 4];
     let written = workspace.counts_within(
@@ -82,7 +82,7 @@ fn refusal_of(
         .columns_within(
             4i64,
             a_p,
-            FOUR_CYCLE.a_i,
+            four_cycle().a_i,
             p,
             &mut ptr,
             &mut parent,
@@ -93,7 +93,7 @@ fn refusal_of(
 
 /// The same for the four-cycle.
 fn refusal_of_cycle(alloc: Global, rows: usize, entries: usize, room: usize) -> Option<Refusal> {
-    refusal_of(alloc, rows, entries, FOUR_CYCLE.a_p, FOUR_CYCLE.p, room)
+    refusal_of(alloc, rows, entries, four_cycle().a_p, four_cycle().p, room)
 }
 
 #[test]
@@ -107,7 +107,7 @@ fn what_does_not_fit_in_a_workspace(rt: HostRuntime) {
 
 #[test]
 fn what_is_no_input_of_a_workspace(rt: HostRuntime) {
-    let case = &FOUR_CYCLE;
+    let case = four_cycle();
     let no_form = refusal_of(rt.alloc(), 4, 4, &[0, 2, 1, 4, 4], case.p, 5);
     check!(&rt; no_form == Some(Refusal::NotColumnForm));
     let no_order = refusal_of(rt.alloc(), 4, 4, case.a_p, &[3, 0, 1, 1], 5);
