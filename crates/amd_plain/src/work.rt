@@ -6,7 +6,6 @@ use std::alloc::Allocator;
 /// The lists of the quotient graph: for each class its elements and its variables, for each element its members. Rows,
 /// classes and elements are numbers below the size of the matrix: a class is named by its representative, and an
 /// element by its pivot row.
-#[derive(Drop)]
 pub struct PlainLists<A: Allocator> {
     /// The direct neighbours of each class. What is a class no longer may stand among them.
     pub variables: Vec<Vec<usize, A>, A>,
@@ -14,6 +13,17 @@ pub struct PlainLists<A: Allocator> {
     pub elements: Vec<Vec<usize, A>, A>,
     /// The classes that each standing element holds. What is a class no longer may stand among them.
     pub members: Vec<Vec<usize, A>, A>,
+}
+
+/// The lists are given back in one function, not anew wherever they end. So are those below.
+impl<A: Allocator> Drop for PlainLists<A> {
+    fn drop(self) {
+        let PlainLists {
+            variables: _,
+            elements: _,
+            members: _,
+        } = self;
+    }
 }
 
 /// How many rows the classes and the elements have, as a round reads it.
@@ -29,7 +39,6 @@ pub struct RowCounts<'a, 'b, 'c> {
 
 /// Room for a round: marks, which are clear between rounds, groups, which are empty then, and numbers that mean nothing
 /// then.
-#[derive(Drop)]
 pub struct Scratch<A: Allocator> {
     /// Marks of classes, and of the pivot.
     pub rows: Vec<bool, A>,
@@ -43,8 +52,19 @@ pub struct Scratch<A: Allocator> {
     pub into: Vec<usize, A>,
 }
 
+impl<A: Allocator> Drop for Scratch<A> {
+    fn drop(self) {
+        let Scratch {
+            rows: _,
+            elements: _,
+            groups: _,
+            beyond: _,
+            into: _,
+        } = self;
+    }
+}
+
 /// The state of an elimination.
-#[derive(Drop)]
 pub struct PlainWork<A: Allocator> {
     /// What asks for memory.
     pub alloc: A,
@@ -75,4 +95,25 @@ pub struct PlainWork<A: Allocator> {
     pub figures: Figures,
     /// Room for a round.
     pub scratch: Scratch<A>,
+}
+
+impl<A: Allocator> Drop for PlainWork<A> {
+    fn drop(self) {
+        let PlainWork {
+            alloc: _,
+            lists: _,
+            size: _,
+            bound: _,
+            placed: _,
+            least: _,
+            live: _,
+            link: _,
+            parent: _,
+            block: _,
+            front: _,
+            n_dense: _,
+            figures: _,
+            scratch: _,
+        } = self;
+    }
 }
