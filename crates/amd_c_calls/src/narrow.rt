@@ -64,7 +64,6 @@ fn cells_from(alloc: Global, counts: &[u32]) -> Result<Vec<Cell<u32>, Global>, A
 }
 
 /// What the engine answers in words of 32 bits.
-#[derive(Drop)]
 struct Answer {
     /// The parents and links.
     pe: Vec<Word<i32>, Global>,
@@ -76,6 +75,19 @@ struct Answer {
     p: Vec<i32, Global>,
     /// The number of rows of each front.
     e_len: Vec<Word<i32>, Global>,
+}
+
+/// The lists are given back in one function, not anew wherever an answer ends.
+impl Drop for Answer {
+    fn drop(self) {
+        let Answer {
+            pe: _,
+            nv: _,
+            p_inv: _,
+            p: _,
+            e_len: _,
+        } = self;
+    }
 }
 
 /// Copies lists that are laid, and eliminates their rows in the copies. These have room for a fifth of the words of the
