@@ -44,7 +44,6 @@ use std::io;
 use std::io::Write;
 
 /// What an ordering, or an analysis, writes beside the pictures.
-#[derive(Drop)]
 pub struct Texts {
     /// The permutation, or the columns of the factor.
     pub lines: Vec<u8>,
@@ -58,6 +57,20 @@ pub struct Texts {
     pub tree: Option<Vec<u8>>,
     /// A postorder of the elimination tree, where it is asked for.
     pub postorder: Option<Vec<u8>>,
+}
+
+/// The texts are given back in one function, not anew wherever they end.
+impl Drop for Texts {
+    fn drop(self) {
+        let Texts {
+            lines: _,
+            figures: _,
+            factor: _,
+            permuted: _,
+            tree: _,
+            postorder: _,
+        } = self;
+    }
 }
 
 /// An ordering, and what the factor needs under each order, where that is asked for.

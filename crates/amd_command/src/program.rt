@@ -162,7 +162,7 @@ fn put_texts<'a, R: Files + Print + AllocGlobal>(
 }
 
 /// Tells the figures on standard error, unless nothing is to be told.
-fn tell_figures<'a, R: Eprint>(rt: &R, quiet: bool, figures: String) -> Result<(), Complaint<'a>> {
+fn tell_figures<'a, R: Eprint>(rt: &R, quiet: bool, figures: &str) -> Result<(), Complaint<'a>> {
     if quiet {
         return Ok(());
     }
@@ -306,7 +306,7 @@ fn order_file<'a, R: Runtime + AllocGlobal>(
     let task = read_task(rt, options, work_of(options))?;
     let (ordered, texts) = order_made(rt, options, &task)?;
     put_texts(rt, options, &texts)?;
-    let told = tell_figures(rt, options.quiet, texts.figures);
+    let told = tell_figures(rt, options.quiet, &texts.figures);
     put_pictures(rt, options, &task, &ordered)?;
     told
 }
@@ -321,7 +321,7 @@ fn analyze_read<'a, R: Runtime + AllocGlobal>(
     tell_ordering(rt, &task.progress, Moment::End, &task.matrix);
     let texts = about(options.file, texts)?;
     put_texts(rt, options, &texts)?;
-    tell_figures(rt, options.quiet, texts.figures)
+    tell_figures(rt, options.quiet, &texts.figures)
 }
 
 /// Orders a file, and counts the columns of its factor. All memory is taken before an output is written.
