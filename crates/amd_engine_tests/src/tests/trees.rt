@@ -117,22 +117,21 @@ fn links_of<S: Signed, U: Unsigned>(
     requires forest { IsElementForest (length parent.now) parent.now nv.now f_size.now }
     requires numbers { length parent.now ≤ U.MOST }
 {
-    let nn = parent.len();
-    let mut child: Vec<Cell<U>> = cells_of(rt, alloc, nn);
-    let mut sibling: Vec<Cell<U>> = cells_of(rt, alloc, nn);
-    let mut order: Vec<Cell<U>> = cells_of(rt, alloc, nn);
-    let mut stack: Vec<Cell<U>> = cells_of(rt, alloc, nn);
+    let mut child: Vec<Cell<U>> = cells_of(rt, alloc, parent.len());
+    let mut sibling: Vec<Cell<U>> = cells_of(rt, alloc, parent.len());
+    let mut links: Vec<Cell<U>> = cells_of(rt, alloc, parent.len());
+    let mut stack: Vec<Cell<U>> = cells_of(rt, alloc, parent.len());
     postorder_in(
-        nn,
+        parent.len(),
         parent,
         nv,
         f_size,
         &mut child,
         &mut sibling,
-        &mut order,
+        &mut links,
         &mut stack,
     );
-    order
+    links
 }
 
 /// The place that a link names, or `EMPTY` where it names none.
