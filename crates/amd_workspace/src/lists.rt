@@ -11,7 +11,6 @@ use amd_words::{Cell, Signed, Unsigned, Word};
 use std::alloc::{AllocError, Allocator};
 
 /// The words of the lists of all rows, and a number of each row.
-#[derive(Drop)]
 pub struct Words<S: Signed, U: Unsigned, A: Allocator> {
     /// While the lists are laid, the place behind the last word of the list of each row. Then the bound of each class.
     pub next: Vec<Cell<U>, A>,
@@ -20,7 +19,6 @@ pub struct Words<S: Signed, U: Unsigned, A: Allocator> {
 }
 
 /// Lists of an elimination with a place for each row, but for those that a caller may lend; and that of the buckets.
-#[derive(Drop)]
 pub struct Lists<U: Unsigned, A: Allocator> {
     /// The counter of each row.
     pub w: Vec<Cell<U>, A>,
@@ -49,7 +47,25 @@ pub struct Memory<S: Signed, P: Signed, U: Unsigned, A: Allocator> {
     pub lists: Lists<U, A>,
 }
 
-/// The lists are given back in one function, not anew wherever a memory ends.
+// What each record of lists has is given back in one function, not anew wherever one ends.
+
+impl<S: Signed, U: Unsigned, A: Allocator> Drop for Words<S, U, A> {
+    fn drop(self) {
+        let Words { next: _, iw: _ } = self;
+    }
+}
+
+impl<U: Unsigned, A: Allocator> Drop for Lists<U, A> {
+    fn drop(self) {
+        let Lists {
+            w: _,
+            head: _,
+            sides: _,
+            hash: _,
+        } = self;
+    }
+}
+
 impl<S: Signed, P: Signed, U: Unsigned, A: Allocator> Drop for Memory<S, P, U, A> {
     fn drop(self) {
         let Memory {
