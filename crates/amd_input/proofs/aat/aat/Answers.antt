@@ -38,6 +38,10 @@ count_at-entries-requires g c =
           (pointer_fits n ap' ai form n (omega arith) (simp length-map (omega arith)));
     }
 
+-- nothing is written before the sum is refused
+pub returns-in_default-clause-unchanged : goal.returns-in_default-clause-unchanged
+returns-in_default-clause-unchanged g c = refl
+
 pub write_figures-requires : goal.write_figures-requires
 write_figures-requires g c =
     let n : ℕ = unsigned_abs (g.I.Number.value c.args.n) in
