@@ -31,14 +31,6 @@ refused_status hold z a_p a_i Invalid h is = refused_by hold z a_p a_i Invalid I
 refused_status hold z a_p a_i OkButJumbled h is = cc
 refused_status hold z a_p a_i OutOfMemory h is = refused_by hold z a_p a_i OutOfMemory OutOfMemory h refl
 
--- what is valid is a column form, and so jumbled or not
-pub valid_form_jumbled : (hold : Option (List Bool)) (z : ℤ) (a_p a_i : List ℤ) (status : Status) → HasStatus hold z a_p a_i status →
-    status ≢ Invalid → jumbled_by status ≡ None → ⊥
-valid_form_jumbled hold z a_p a_i OK h valid is = cc
-valid_form_jumbled hold z a_p a_i Invalid h valid is = valid refl
-valid_form_jumbled hold z a_p a_i OkButJumbled h valid is = cc
-valid_form_jumbled hold z a_p a_i OutOfMemory h valid is = h.is (h.marks (λ i. cc))
-
 -- a list with a place for each of no rows has no numbers
 pub nothing_listed : {T : Type 0} (value : T → ℤ) (count : ℕ) (p : List T) → length p ≡ count → count ≡ 0 → map value p ≡ []
 nothing_listed value count [] long none = refl

@@ -1,5 +1,5 @@
 -- What the test of a call tells where nothing is ordered: no rows, or a status that does not say whether the input is jumbled.
-use Rattle.std.proofs.Common.{ℕ, ℤ, Bool, true, false, is_some, List, [], ◌∷◌, pos, ◌≡◌, ◌≢◌, ◌∙◌, ap, arith, length, map, refl, sym}
+use Rattle.std.proofs.Common.{ℕ, ℤ, Bool, true, false, is_some, List, pos, ◌≡◌, ◌≢◌, ◌∙◌, ap, length, map, refl, sym}
 use Rattle.std.specs.Prelude.{Option, None}
 use Rattle.amd_types.specs.Records.{fresh_info}
 use Rattle.amd_types.specs.Statuses.{IsStatusOf}
@@ -8,21 +8,16 @@ use Rattle.amd_types.specs.declared.amd.Status.{Status}
 use Rattle.amd_types.specs.declared.amd.Status.TheVariants.{OK, Invalid, OkButJumbled, OutOfMemory}
 use Rattle.amd.specs.Answers.{IsInputHolding, IsOrderingHolding}
 use Rattle.amd.specs.Within.{jumbled_by}
-use Rattle.amd.proofs.EarlyAnswers.{ordering_nothing}
+use Rattle.amd.proofs.EarlyAnswers.{nothing_listed, ordering_nothing}
 use Rattle.amd.proofs.OrderedColumns.{HasStatus, refused, refused_by}
 
--- lists with no place for a row are empty
-emptied : {T : Type 0} (value : T → ℤ) (p : List T) → length p ≡ 0 → map value p ≡ []
-emptied value [] is = refl
-emptied value (x ∷ p) is = absurd (omega (arith, is))
-
--- so no rows have the empty answer in lists with a place for each row
+-- no rows have the empty answer in lists with a place for each row
 pub nothing_ordered : {T : Type 0} (value : T → ℤ) (hold : Option (List Bool)) (count : ℕ) (z t : ℤ) (aggressive : Bool) (a_p a_i : List ℤ)
     (p q : List T) (info : Info) → pos count ≡ z → count ≡ 0 → length p ≡ count → length q ≡ count → info ≡ fresh_info 0 →
     IsOrderingHolding hold z t aggressive a_p a_i (map value p) (map value q) info
 nothing_ordered value hold count z t aggressive a_p a_i p q info is none p_is q_is fresh =
-    ordering_nothing hold z t aggressive a_p a_i (map value p) (map value q) info (sym is ∙ ap pos none) (emptied value p (p_is ∙ none))
-    (emptied value q (q_is ∙ none)) fresh
+    ordering_nothing hold z t aggressive a_p a_i (map value p) (map value q) info (sym is ∙ ap pos none)
+    (nothing_listed value count p p_is none) (nothing_listed value count q q_is none) fresh
 
 -- a status of an input that is not `Invalid` says whether it is jumbled
 pub says_jumbled : (z : ℤ) (a_p a_i : List ℤ) (status : Status) → IsStatusOf z z a_p a_i status → status ≢ Invalid →

@@ -5,10 +5,10 @@ use Rattle.std.proofs.lemmas.Int.{ints}
 use Rattle.std.proofs.lemmas.Result.{IfOk-from_err, err_from_is_err_and}
 use Rattle.amd_types.proofs.Fitting.{fits_below}
 use Rattle.amd.specs.Within.{pairs_by}
-use Rattle.amd.proofs.EarlyAnswers.{nothing_listed, ordering_nothing, valid_form_jumbled}
 use Rattle.amd.proofs.KeptLists.{stay}
 use Rattle.amd.proofs.OrderedColumns.{ordering}
 use Rattle.amd.proofs.Orderings.{orders_still}
+use Rattle.amd.proofs.TestedCalls.{nothing_ordered, says_jumbled}
 use Rattle.amd.proofs.ValidCalls.{is_given, has_its_status}
 use Rattle.amd.proofs.into.order_into.Goals as goal
 
@@ -52,10 +52,9 @@ returns-in_default-clause-kept g c = stay c.args.p.now c.args.p_inv.now
 pub returns-then-size-eq0-clause-ordering : goal.returns-then-size-eq0-clause-ordering
 returns-then-size-eq0-clause-ordering g c =
     let value = g.I.Number.value in let control = c.args.control.now in let e = c.in-Some.ensures in let none = c.if-size-eq0.true in
-    ordering_nothing (option_copied c.args.hold) (value c.args.n) control.dense control.aggressive (map value c.args.a_p.now)
-    (map value c.args.a_i.now) (map value c.args.p.now) (map value c.args.p_inv.now) c.new.result (sym e.size ∙ ap pos none)
-    (nothing_listed value c.in-Some.size c.args.p.now e.places.0 none)
-    (nothing_listed value c.in-Some.size c.args.p_inv.now e.places.1 none) c.new.ensures
+    nothing_ordered value (option_copied c.args.hold) c.in-Some.size (value c.args.n) control.dense control.aggressive
+    (map value c.args.a_p.now) (map value c.args.a_i.now) c.args.p.now c.args.p_inv.now c.new.result e.size none e.places.0 e.places.1
+    c.new.ensures
 
 pub returns-then-size-eq0-clause-refusal : goal.returns-then-size-eq0-clause-refusal
 returns-then-size-eq0-clause-refusal g c = tt
@@ -68,8 +67,7 @@ unreachable-requires g c =
     let hold = option_copied c.args.hold in let z : ℤ = g.I.Number.value c.args.n in let e = c.in-Some.ensures in
     let a_p : List ℤ = map g.I.Number.value c.args.a_p.now in let a_i : List ℤ = map g.I.Number.value c.args.a_i.now in
     let status = c.in-Some.status in let some = c.if-size-eq0.false in
-    valid_form_jumbled hold z a_p a_i status (has_its_status hold c.in-Some.size z a_p a_i status e.size some e.marks e.status)
-    (e.valid some) (sym c.jumbled_of.ensures ∙ c.in_default-jumbled_of.is)
+    says_jumbled z a_p a_i status (e.status some) (e.valid some) (sym c.jumbled_of.ensures ∙ c.in_default-jumbled_of.is)
 
 pub returns-in_err-info-clause-ordering : goal.returns-in_err-info-clause-ordering
 returns-in_err-info-clause-ordering g c = IfOk-from_err c.from_residual.result _ c.from_residual.ensures.0
