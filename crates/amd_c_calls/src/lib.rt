@@ -1,5 +1,5 @@
-//! What the calls for C alone do: the degrees of a matrix and its row form, the postorder of a forest, the elimination of
-//! lists that are laid, and the supernodes of a factor, written into a caller's arrays.
+//! What the calls for C alone do: the degrees of a matrix and its row form, the postorder of a forest, the elimination
+//! of lists that are laid, and the supernodes of a factor, written into a caller's arrays.
 #![tactic(auto)]
 
 pub mod forests;

@@ -2,8 +2,8 @@
 // record are written last, so they stay as they were where there is a fault. Source: AMD user guide.
 
 ghost use Rattle.std.specs.Prelude.{◌↔◌, IsTrue, map};
-ghost use Rattle.amd_c_calls.specs.Patterns.{HasPointerPlaces, HasRowPlaces, IsSortedForm, LeavesDegrees, LeavesRowForm};
-ghost use Rattle.amd_c_calls.specs.Patterns.{counted, row_arrays};
+ghost use Rattle.amd_c_calls.specs.Patterns.{HasPointerPlaces, HasRowPlaces, IsSortedForm, LeavesDegrees};
+ghost use Rattle.amd_c_calls.specs.Patterns.{LeavesRowForm, counted, row_arrays};
 ghost use Rattle.amd_model.specs.Input.Columns.{IsInput};
 
 use amd_calls::factors::{has_numbers, write_numbers};
