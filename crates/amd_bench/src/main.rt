@@ -1,4 +1,4 @@
-//! Times `order` on a matrix file: `amd_bench FILE i32|i64|isize REPEATS`. A file whose name ends in `.mtx` is a text
+//! Times `order` on a matrix file: `amd_bench FILE i32|i64 REPEATS`. A file whose name ends in `.mtx` is a text
 //! of the Matrix Market, and any other one has the binary format of `amd_cases`. With a fourth word, `columns` or
 //! `analyze`, it times that call of `amd_symbolic`, `columns` under the order that `order` gives. With `within` it
 //! times orderings in a workspace that was made before, and with `stages` the stages of a call of `order`. With `peak`
@@ -213,7 +213,7 @@ fn request_of(words: &[String]) -> Option<Request<'_>> {
         _ => return None,
     };
     let repeats: usize = repeats.parse().ok()?;
-    let is_kind = matches!(kind, "i32" | "i64" | "isize");
+    let is_kind = matches!(kind, "i32" | "i64");
     let is_call = matches!(
         call,
         "order" | "within" | "columns" | "analyze" | "stages" | "peak"
@@ -264,8 +264,7 @@ fn time_file<R: Runtime + Alloc<A = Global>, I: PrimInt>(
 fn answer<R: Runtime + Alloc<A = Global>>(rt: &R, request: &Request<'_>) -> Result<()> {
     match request.kind {
         "i32" => time_file::<_, i32>(rt, request),
-        "i64" => time_file::<_, i64>(rt, request),
-        _ => time_file::<_, isize>(rt, request),
+        _ => time_file::<_, i64>(rt, request),
     }
 }
 
@@ -273,7 +272,7 @@ fn main(rt: HostRuntime) -> Result<ExitCode> {
     let words: Vec<String> = env::args(&rt)?.collect(rt.alloc())?;
     let Some(request) = request_of(&words) else {
         eprintln!(rt;
-            "usage: amd_bench FILE i32|i64|isize REPEATS [order|within|columns|analyze|stages|peak]"
+            "usage: amd_bench FILE i32|i64 REPEATS [order|within|columns|analyze|stages|peak]"
         )?;
         return Ok(ExitCode::from(2));
     };
