@@ -13,6 +13,7 @@ mod lengths;
 mod memory;
 mod numbers;
 mod orders;
+mod ranges;
 mod refusals;
 mod shared;
 mod supernodes;

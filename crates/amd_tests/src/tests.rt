@@ -6,7 +6,6 @@ mod factors;
 mod holding;
 mod input;
 mod memory;
-mod numbers;
 mod patterns;
 mod small_matrices;
 mod statuses;
