@@ -4,7 +4,7 @@ use Rattle.std.proofs.Common.{length, set, length-set, get_or-set_same, get_or-s
 use Rattle.std.proofs.lemmas.Bool.{cases_eq, true≢false}
 use Rattle.amd_words.specs.Words.{num, is_place, place, flip_of, word, start}
 use Rattle.amd_lists.specs.Layout.{has_list}
-use Rattle.amd_elements.specs.Compaction.{Spaced}
+use Rattle.amd_elements.specs.Compaction.{Spaced, Marked}
 use Rattle.amd_lists.proofs.Frames.{has_parts, has_from}
 
 pub same_start : {iw pe : List ℤ} {len : List ℕ} {free : ℕ} → Spaced iw pe len free → (i j : ℕ) → has_list pe len i ≡ true →
@@ -19,17 +19,6 @@ same_start {pe} {len} y i j h k e = elim (cases_eq i j) [
 pub start_below : {iw pe : List ℤ} {len : List ℕ} {free : ℕ} → Spaced iw pe len free → (j : ℕ) → has_list pe len j ≡ true →
     start pe j < free
 start_below {pe} {len} y j h = let a = (has_parts pe len j h).1 in let b = y.within j h in omega (arith, a, b)
-
--- the first m rows have put their mark in place of the first word of their list, which their start has now
-pub record Marked (iw pe : List ℤ) (len : List ℕ) (iw' pe' : List ℤ) (m : ℕ) : Type 0 where
-  pub long : length iw' ≡ length iw
-  pub rows : length pe' ≡ length pe
-  pub swapped : (j : ℕ) → j < m → has_list pe len j ≡ true → word iw' (start pe j) ≡ flip_of j
-  pub first : (j : ℕ) → j < m → has_list pe len j ≡ true → word pe' j ≡ word iw (start pe j)
-  pub others : (j : ℕ) → has_list pe len j ≡ false → word pe' j ≡ word pe j
-  pub later : (j : ℕ) → m ≤ j → word pe' j ≡ word pe j
-  pub words : (p : ℕ) → (word iw' p ≡ word iw p) ⊎ ((j : ℕ) × (j < m) × (has_list pe len j ≡ true) × (start pe j ≡ p)
-      × (word iw' p ≡ flip_of j))
 
 -- before the first row none is marked
 pub marked_none : (iw pe : List ℤ) (len : List ℕ) → Marked iw pe len iw pe 0

@@ -7,12 +7,12 @@ use Rattle.amd_model.specs.Below.{sum_below}
 use Rattle.amd_model.proofs.Counting.Below.{sum_same, sum_zero, sum_at}
 use Rattle.amd_words.specs.Words.{num, is_place, place, flip_of, word, start}
 use Rattle.amd_lists.specs.Layout.{Layout, ReadsSame, has_list, end_of, live_words}
-use Rattle.amd_elements.specs.Compaction.{Spaced, Compacts, Moves}
+use Rattle.amd_elements.specs.Compaction.{Spaced, Compacts, Moves, Marked}
 use Rattle.amd_lists.specs.Workspaces.{Workspace}
 use Rattle.amd_lists.proofs.Frames.{has_parts, has_from, has_same}
 use Rattle.amd_words.proofs.Signs.{mark_no_place, place_of, is_place_of}
 use Rattle.amd_elements.proofs.MoveSigns.{flip_same, flip_some}
-use Rattle.amd_elements.proofs.MarkedLists.{same_start, start_below, Marked}
+use Rattle.amd_elements.proofs.MarkedLists.{same_start, start_below}
 
 -- from the workspace p to v the lists moved so that no gap is between them, and each reads as before
 pub record Packs (n : ℕ) (p v : Workspace) : Type 0 where

@@ -1,6 +1,6 @@
 -- A compaction of the lists of a workspace.
 use Rattle.std.specs.Prelude.{ℕ, ℤ, true, false, List, ◌≡◌, ◌<◌, ◌≤◌, ◌+◌, ◌⊎◌, length}
-use Rattle.amd_words.specs.Words.{num, is_place, word, start}
+use Rattle.amd_words.specs.Words.{num, is_place, flip_of, word, start}
 use Rattle.amd_lists.specs.Layout.{has_list, end_of, live_words}
 
 -- lists lie below the free end and do not overlap, and no word below it is a mark
@@ -9,6 +9,17 @@ pub record Spaced (iw pe : List ℤ) (len : List ℕ) (free : ℕ) : Type 0 wher
   pub apart : (i j : ℕ) → has_list pe len i ≡ true → has_list pe len j ≡ true → (i ≡ j → ⊥) →
       (end_of pe len i ≤ start pe j) ⊎ (end_of pe len j ≤ start pe i)
   pub plain : (p : ℕ) → p < free → is_place (word iw p) ≡ true
+
+-- the first m rows have put their mark in place of the first word of their list, which their start has now
+pub record Marked (iw pe : List ℤ) (len : List ℕ) (iw' pe' : List ℤ) (m : ℕ) : Type 0 where
+  pub long : length iw' ≡ length iw
+  pub rows : length pe' ≡ length pe
+  pub swapped : (j : ℕ) → j < m → has_list pe len j ≡ true → word iw' (start pe j) ≡ flip_of j
+  pub first : (j : ℕ) → j < m → has_list pe len j ≡ true → word pe' j ≡ word iw (start pe j)
+  pub others : (j : ℕ) → has_list pe len j ≡ false → word pe' j ≡ word pe j
+  pub later : (j : ℕ) → m ≤ j → word pe' j ≡ word pe j
+  pub words : (p : ℕ) → (word iw' p ≡ word iw p) ⊎ ((j : ℕ) × (j < m) × (has_list pe len j ≡ true) × (start pe j ≡ p)
+      × (word iw' p ≡ flip_of j))
 
 -- the lists moved down, in the same order, with no gap
 pub record Compacts (iw pe : List ℤ) (len : List ℕ) (free : ℕ) (iw' pe' : List ℤ) (free' : ℕ) : Type 0 where

@@ -2,9 +2,9 @@
 // makes room for a mark of its row, so that one pass over the words meets the lists in the order of their places.
 // Source: Amestoy, Davis and Duff 1996 (garbage collection).
 
-ghost use Rattle.std.specs.Prelude.{◌+◌, ◌≡◌, ◌≤◌, pos, length, slice_set};
+ghost use Rattle.std.specs.Prelude.{◌+◌, ◌≡◌, ◌≤◌, ℕ, pos, length, slice_set};
 ghost use Rattle.amd_words.specs.Words.{flip_of, start, word};
-ghost use Rattle.amd_elements.specs.Compaction.{Compacts, Moves};
+ghost use Rattle.amd_elements.specs.Compaction.{Compacts, Marked, Moves};
 ghost use Rattle.amd_elements.specs.Premises.{CanCompact, CanMark, CanMove};
 
 use amd_words::words::{flipped, named, names_one, put_flip, put_row};
@@ -19,6 +19,23 @@ fn mark_row<S: Signed, P: Signed>(iw: &mut [Word<S>], pe: &mut [Word<P>], j: usi
     let at = named(pe, j);
     put_word(pe, j, word_at(iw, at));
     put_flip(iw, at, j);
+}
+
+/// Marks each row that has a list.
+#[cold]
+fn mark_rows<S: Signed, P: Signed, U: Unsigned>(
+    iw: &mut [Word<S>],
+    pe: &mut [Word<P>],
+    len: &[Cell<U>],
+)
+    requires can { (free : ℕ) × CanCompact S.MOST P.MOST iw.old pe.old len.now free }
+    ensures { Marked iw.old pe.old len.now iw.new pe.new (length len.now) }
+{
+    for j in 0..len.len() {
+        if cell_at(len, j) > 0 && names_one(pe, j) {
+            mark_row(iw, pe, j);
+        }
+    }
 }
 
 /// Moves words down.
@@ -62,11 +79,7 @@ pub fn pack_lists<S: Signed, P: Signed, U: Unsigned>(
     ensures compacts { Compacts iw.old pe.old len.old free iw.new pe.new result }
     ensures same { len.new ≡ len.old }
 {
-    for j in 0..len.len() {
-        if cell_at(len, j) > 0 && names_one(pe, j) {
-            mark_row(iw, pe, j);
-        }
-    }
+    mark_rows(iw, pe, len);
     let mut src = 0;
     let mut dst = 0;
     while src < free {

@@ -23,6 +23,15 @@ pub fn place_by_rank(rank: &[usize], order: &mut [usize])
     }
 }
 
+/// Links each place to itself.
+fn link_to_themselves(link: &mut [usize])
+    ensures { (k : ℕ) → k < length link.old → slice_index link.new k ≡ k }
+{
+    'links: for k in 0..link.len() {
+        link[k] = k;
+    }
+}
+
 /// Writes by ranks how much the arcs from each place add, and how much their meetings take.
 ///
 /// `order` holds the places by their ranks. `link` and `last` are for the work alone.
@@ -46,9 +55,7 @@ pub fn meet_arcs(
     last.fill(n);
     plus.fill(0);
     minus.fill(0);
-    'links: for k in 0..link.len() {
-        link[k] = k;
-    }
+    link_to_themselves(link);
     'ranks: for t in 0..order.len() {
         let j = order[t];
         let list = &later.places[later.starts[j]..later.starts[j + 1]];

@@ -13,9 +13,10 @@ ranks-init g c =
     let last : c.fill.new.self ≡ replicate (length c.args.last.now) (length c.args.tree.now.up.now) = c.fill.ensures.after (λ y e. e) in
     let plus : c.fill-2.new.self ≡ replicate (length c.args.plus.now) 0 = c.fill-2.ensures.after (λ y e. e) in
     let minus : c.fill-3.new.self ≡ replicate (length c.args.minus.now) 0 = c.fill-3.ensures.after (λ y e. e) in
-    let link-room = lists.link_room in let same = c.links.auto.link in let past = c.links-test.false in
+    let link-room = lists.link_room in let same = c.link_to_themselves.auto.link in
     let plus-room = lists.plus_room in let minus-room = lists.minus_room in record {
-      links = unlinked g.s c.links.link (same ∙ link-room) (λ x l. c.links.invariant x (omega (arith, l, past, link-room)));
+      links = unlinked g.s c.link_to_themselves.new.link (same ∙ link-room)
+          (λ x l. c.link_to_themselves.ensures x (omega (arith, l, link-room)));
       met = met-none g.s tree.scene c.fill.new.self c.fill-2.new.self c.fill-3.new.self (length c.args.plus.now) plus-room
           (rank-inside g.s tree.scene)
           (last ∙ ap (λ m. replicate m (length c.args.tree.now.up.now)) lists.last_room ∙ ap (λ m. replicate (length g.s.up) m)

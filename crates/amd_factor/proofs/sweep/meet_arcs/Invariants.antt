@@ -1,4 +1,4 @@
-use Rattle.std.proofs.Common.{ℕ, ◌≡◌, ◌+◌, ◌<◌, ◌≤◌, length}
+use Rattle.std.proofs.Common.{◌+◌, ◌≤◌, length}
 use Rattle.std.specs.Prelude.{slice_index}
 use Rattle.amd_factor.specs.Meetings.{Links, Met, Taken, sum_to}
 use Rattle.amd_factor.proofs.Meetings.Rounds.{remaining}
@@ -6,9 +6,6 @@ use Rattle.amd_factor.proofs.sweep.meet_arcs.Given as goal
 
 abbrev pub ghost-take_arcs : goal.ghost-take_arcs
 ghost-take_arcs g a = (g.s, slice_index g.s.rank a.j)
-
-abbrev pub invariant-links : goal.invariant-links
-invariant-links g l = (x : ℕ) → x < l.k → slice_index l.link x ≡ x
 
 abbrev pub invariant-ranks : goal.invariant-ranks
 invariant-ranks g l = record {
