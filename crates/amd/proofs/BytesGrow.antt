@@ -1,6 +1,6 @@
 -- The bytes of a workspace grow with its rows and entries.
-use Rattle.std.proofs.Common.{ℕ, ◌≡◌, ◌≤◌, ◌+◌, ◌*◌, Bool, true, false, nat_le, refl, arith}
-use Rattle.amd.specs.Blocks.{fours, is_narrow, workspace_bytes}
+use Rattle.std.proofs.Common.{ℕ, ◌≡◌, ◌≤◌, Bool, true, false, refl, arith}
+use Rattle.amd.specs.Blocks.{is_narrow, workspace_bytes}
 
 -- for each width of the lesser workspace and of the greater one
 by_widths : (n e m f : ℕ) → n ≤ m → e ≤ f → (one other : Bool) → is_narrow n e ≡ one → is_narrow m f ≡ other →

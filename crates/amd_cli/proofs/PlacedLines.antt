@@ -4,9 +4,9 @@ use Rattle.std.proofs.Common.{ap, append_assoc, append-nil, refl, subst, sym}
 use Rattle.std.proofs.lemmas.Grind.{flat_map-append}
 use Rattle.std.specs.Prelude.{IfSome, flat_map}
 use Rattle.std.specs.List.{AllZip}
-use Rattle.amd_lines.specs.Lines.{BeginsWith, TakesLine, TakesLines, TakesNotes, TakesTelling, line_of, percent, rest_of, telling}
+use Rattle.amd_lines.specs.Lines.{BeginsWith, TakesLines, TakesNotes, TakesTelling, percent, rest_of, telling}
 use Rattle.amd_lines.specs.declared.lines.LineReader.{LineReader}
-use Rattle.amd_lines.proofs.LineLemmas.{end-append, takes-append, takes-one, telling-both}
+use Rattle.amd_lines.proofs.LineLemmas.{end-append, takes-append, telling-both}
 use Rattle.amd_market.specs.Headers.{SpellsHeader, is_array}
 use Rattle.amd_market.specs.declared.headers.Header.{Header}
 use Rattle.amd_cli.specs.Valued.{PlacesText, SpellsValued, TakesListed, TakesPlaced, Valued, ended, placed_text}

@@ -1,6 +1,6 @@
 -- The lines of a Harwell-Boeing file, and the entries that its pointers and rows stand for.
 use Rattle.std.specs.Prelude.{◌≡◌, ◌<◌, ◌≤◌, ◌+◌, ◌-◌, ◌*◌, ◌^◌, ◌⊎◌, ◌==◌, ◌||◌, ◌&&◌, cond, nat_lt, ℕ, pos, zero, suc}
-use Rattle.std.specs.Prelude.{Bool, true, List, [], ◌∷◌, ◌++◌}
+use Rattle.std.specs.Prelude.{Bool, List, [], ◌∷◌, ◌++◌}
 use Rattle.std.specs.Prelude.{Option, Some, None, length, map, take, drop, min, slice_index, slice_range, flat_map}
 use Rattle.std.specs.Char.{to_ascii_lowercase}
 use Rattle.amd_lines.specs.Words.{words, SpellsNumber}

@@ -2,12 +2,12 @@
 use Rattle.std.proofs.Common.{◌≡◌, ◌≤◌, ◌&&◌, ◌∙◌, ℕ, ℤ, List, not, inl, inr, refl, sym, ap, subst}
 use Rattle.std.specs.Prelude.{◌==◌}
 use Rattle.std.proofs.Math.Bool.{and_comm}
-use Rattle.amd_model.specs.Below.{sum_below, count_below}
+use Rattle.amd_model.specs.Below.{count_below}
 use Rattle.amd_model.specs.Graph.{degree, degree_sum}
 use Rattle.amd_model.specs.Input.Pattern.{IsTranspose, graph_of, is_pair}
 use Rattle.amd_model.proofs.Counting.Below.{sum_same, count_same}
 use Rattle.amd_pattern_laws.proofs.SamePairs.{figures_turned, graph_turned, pairs_turned}
-use Rattle.amd_report.specs.Degrees.{HasShape, IsFacts}
+use Rattle.amd_report.specs.Degrees.{IsFacts}
 use Rattle.amd_report.specs.Shapes.{HasComponents, IsMost, IsProfile, above, below, mirrored_count}
 use Rattle.amd_report.specs.declared.facts.Facts.{Facts}
 use Rattle.amd_types.specs.declared.amd.Status.{Status}
