@@ -1,6 +1,6 @@
-// What `order` makes of the ends of the twelve integer types: of both ends of each range, as the number of columns, as a
-// pointer and as a row; of numbers of type `u128` past the greatest `usize`; and of as many rows and entries as a type
-// has. It stands beside `numbers`, so that the orderings of all types are compiled in one crate.
+// What `order` and `valid` make of the ends of the twelve integer types: of both ends of each range, as the number of
+// columns, as a pointer and as a row; of numbers of type `u128` past the greatest `usize`; and of as many rows and
+// entries as a type has. It stands beside `numbers`, so that the orderings of all types are compiled in one crate.
 
 use amd::valid::valid;
 use amd::{Control, Status, order};
