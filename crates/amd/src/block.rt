@@ -22,7 +22,6 @@ use amd_lent::{Lodged, Piece};
 use amd_types::amd::{Control, Info};
 use amd_types::index::Index;
 use amd_types::internal::count_at;
-use num_traits::PrimInt;
 
 /// The block, where it has the bytes of a workspace for so many rows and entries.
 fn enough(block: Piece, rows: usize, entries: usize) -> Option<Piece>
@@ -144,7 +143,7 @@ fn order_fitting_lent(
 /// No other refusal. After one, `p` and `p_inv` are as before.
 ///
 /// Source: AMD user guide; Amestoy, Davis and Duff 1996 and 2004.
-pub fn order_in_block<I: PrimInt>(
+pub fn order_in_block<I: Index>(
     block: Piece,
     n: I,
     a_p: &[I],

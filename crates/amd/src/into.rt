@@ -11,7 +11,7 @@ use crate::once::order_once;
 use crate::request::{Matrix, Request};
 use crate::workspace::valid_rows;
 use amd_types::amd::{Control, Info, Status};
-use num_traits::PrimInt;
+use amd_types::index::Index;
 use std::alloc::Allocator;
 
 /// Orders the rows of a square matrix, as [`crate::order_marked`] does, into lists of the caller: writes the
@@ -26,7 +26,7 @@ use std::alloc::Allocator;
 /// After an error `p` and `p_inv` are as before.
 ///
 /// Source: AMD user guide; Amestoy, Davis and Duff 1996 and 2004.
-pub fn order_into<I: PrimInt, A: Allocator + Copy>(
+pub fn order_into<I: Index, A: Allocator + Copy>(
     alloc: A,
     n: I,
     a_p: &[I],

@@ -38,6 +38,7 @@ pub use narrow::order_into_narrow;
 pub use refusal::Refusal;
 pub use workspace::Workspace;
 /// Internal: how the crates over this one read a caller's numbers. It is no part of what the ordering promises.
+use amd_types::index::Index;
 pub use amd_types::internal;
 use amd_types::internal::to_count;
 use num_traits::PrimInt;
@@ -50,7 +51,7 @@ use std::alloc::Allocator;
 /// Those of `order`, and with marks those of `order_holding`.
 ///
 /// Source: AMD user guide; Amestoy, Davis and Duff 1996 and 2004.
-pub fn order_marked<I: PrimInt, A: Allocator + Copy>(
+pub fn order_marked<I: Index, A: Allocator + Copy>(
     alloc: A,
     n: I,
     a_p: &[I],

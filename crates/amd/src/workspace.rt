@@ -257,7 +257,7 @@ impl<A: Allocator + Copy> Workspace<A> {
     }
 
     /// Orders as `order` and, where there are marks, as `order_holding`.
-    fn order_marked<I: PrimInt>(
+    fn order_marked<I: Index>(
         &mut self,
         n: I,
         a_p: &[I],

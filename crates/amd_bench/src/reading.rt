@@ -6,8 +6,8 @@ ghost use Rattle.std.specs.Prelude.{IfOk};
 use amd_cases::matrix::{BinaryMatrix, read_matrix};
 use amd_market::reader::{Matrix as Listed, read_matrix as read_listed};
 use amd_types::index::Index;
+use amd_types::signed::SignedIndex;
 use anyhow::{Context, Result};
-use num_traits::PrimInt;
 use std::alloc::Global;
 use std::fs;
 use std::io::BufReader;
@@ -24,13 +24,13 @@ fn converted<R: Alloc<A = Global>, I: Index>(rt: &R, numbers: &[usize]) -> Resul
 }
 
 /// A matrix of the Matrix Market in the type of numbers that was asked for.
-fn narrowed<R: Alloc<A = Global>, I: PrimInt>(
+fn narrowed<R: Alloc<A = Global>, I: Index>(
     rt: &R,
     matrix: &Listed<Global>,
 ) -> Result<BinaryMatrix<I, Global>>
     ensures { IfOk result (λ m. I.fits (I.value m.n)) }
 {
-    let n = num_traits::cast::<usize, I>(matrix.n);
+    let n = I::from_count(matrix.n);
     Ok(BinaryMatrix {
         n: n.context("a number does not fit")?,
         a_p: converted(rt, &matrix.a_p)?,
@@ -39,7 +39,7 @@ fn narrowed<R: Alloc<A = Global>, I: PrimInt>(
 }
 
 /// Reads the matrix of the file at a path.
-pub fn read_file<R: Files + Alloc<A = Global>, I: PrimInt>(
+pub fn read_file<R: Files + Alloc<A = Global>, I: SignedIndex>(
     rt: &R,
     path: &str,
 ) -> Result<BinaryMatrix<I, Global>>

@@ -12,10 +12,10 @@ ghost use Rattle.amd_c_calls.specs.Forests.{LeavesPostorder, MarksRise};
 ghost use Rattle.amd_c_calls.specs.Forests.{StaysInside, parent_in};
 
 use crate::patterns::has_row_places;
-use amd_calls::signed::SignedIndex;
 use amd_postorder::postorder::postorder;
 use amd_types::amd::Status;
 use amd_types::internal::value_at;
+use amd_types::signed::SignedIndex;
 use std::alloc::Global;
 
 /// The number at a place of a list of the caller's type, where an `isize` has it.

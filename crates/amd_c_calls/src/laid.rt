@@ -11,7 +11,7 @@ use crate::lent::{Lists, Places};
 use amd_calls::records::{Parameters, Statistics, control_of, statistics_of};
 use amd_engine::amd_2::amd_2;
 use amd_types::amd::{Info, Status};
-use num_traits::PrimInt;
+use amd_types::index::Index;
 use std::alloc::Global;
 
 /// Eliminates the rows of lists that are laid, as `amd_2` of the crate `amd_engine`, and returns the status, which is
@@ -26,7 +26,7 @@ use std::alloc::Global;
 /// `OutOfMemory` where a request was refused. All but `pe`, `iw` and `len` stays as it was.
 ///
 /// Source: Amestoy, Davis and Duff 1996 and 2004.
-pub fn eliminate_into<I: PrimInt>(
+pub fn eliminate_into<I: Index>(
     alloc: Global,
     n: I,
     lists: &mut Lists<'_>,

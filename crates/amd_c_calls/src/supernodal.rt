@@ -12,6 +12,7 @@ use amd_calls::matrix::Matrix;
 use amd_calls::records::SupernodeSizes;
 use amd_factor::{Fault, supernode_partition, supernode_sizes, write_rows};
 use amd_types::index::Index;
+use amd_types::signed::SignedIndex;
 use num_traits::PrimInt;
 use std::alloc::Global;
 
@@ -57,7 +58,7 @@ fn have_block_places<I: Index>(first: &[I], ptr: &[I], parent: &[I]) -> bool
 }
 
 /// Writes the supernodes of the matrix and the order `m`, and how much room they need.
-fn matrix_supernodes_into<I: PrimInt>(
+fn matrix_supernodes_into<I: SignedIndex>(
     alloc: Global,
     p: &[I],
     matrix: Matrix<'_, I>,
@@ -115,7 +116,7 @@ fn matrix_supernodes_into<I: PrimInt>(
 /// much room is needed; after any other it stays as it was.
 ///
 /// Source: Rose, Tarjan and Lueker 1976; Liu 1990; Liu, Ng and Peyton 1993.
-pub fn supernodes_and_sizes_into<I: PrimInt>(
+pub fn supernodes_and_sizes_into<I: SignedIndex>(
     alloc: Global,
     matrix: Matrix<'_, I>,
     p: &[I],

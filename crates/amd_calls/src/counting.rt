@@ -8,11 +8,11 @@ ghost use Rattle.amd_calls.specs.Counting.{LeavesCounts, saturated_need, tallies
 use crate::factors::{write_numbers, write_parents};
 use crate::matrix::Matrix;
 use crate::records::SaturatedNeed;
-use crate::signed::SignedIndex;
 use crate::writing::have_places;
+use amd_factor::Fault;
+use amd_factor::counting::matrix_counts;
 use amd_factor::needs::Need;
-use amd_factor::{Fault, counts};
-use num_traits::PrimInt;
+use amd_types::signed::SignedIndex;
 use std::alloc::Allocator;
 
 /// A figure, or the greatest count where the figure exceeds it.
@@ -47,7 +47,7 @@ pub fn saturated_need(need: &Need) -> SaturatedNeed
 /// `OutOfMemory` also where the type has no -1.
 ///
 /// Source: Rose, Tarjan and Lueker 1976; Liu 1986; Gilbert, Ng and Peyton 1994.
-pub fn counts_into<I: PrimInt, A: Allocator + Copy>(
+pub fn counts_into<I: SignedIndex, A: Allocator + Copy>(
     alloc: A,
     matrix: Matrix<'_, I>,
     p: &[I],
@@ -66,7 +66,7 @@ pub fn counts_into<I: PrimInt, A: Allocator + Copy>(
     if !have_places(n, sizes, parent) {
         return Err(Fault::NotColumnForm);
     }
-    let counted = counts(alloc, n, a_p, a_i, p)?;
+    let counted = matrix_counts(alloc, n, a_p, a_i, p)?;
     let Some(_) = I::from_signed(-1) else {
         return Err(Fault::OutOfMemory);
     };

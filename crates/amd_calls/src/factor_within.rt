@@ -28,7 +28,7 @@ use amd_factor::places::place_rows;
 use amd_lent::Piece;
 use amd_types::index::Index;
 use amd_types::internal::count_at;
-use num_traits::PrimInt;
+use amd_types::signed::SignedIndex;
 
 /// Writes how many entries each column of the factor of a matrix has, as [`crate::counting::counts_into`], in a block
 /// that the caller lends. The type has -1.
@@ -44,7 +44,7 @@ use num_traits::PrimInt;
 /// * `NotPermutation` exactly where `p` does not list each number below `n`, once.
 ///
 /// Source: Rose, Tarjan and Lueker 1976; Liu 1986; Gilbert, Ng and Peyton 1994.
-pub fn counts_within<I: PrimInt>(
+pub fn counts_within<I: SignedIndex>(
     block: Piece,
     matrix: Matrix<'_, I>,
     p: &[I],
@@ -148,7 +148,7 @@ fn columns_inside<I: Index>(
 /// After `RoomTooSmall` some of the entries may stand in `rows`; all else stays as it was.
 ///
 /// Source: Rose, Tarjan and Lueker 1976; Liu 1990; Davis 2005.
-pub fn columns_within<I: PrimInt>(
+pub fn columns_within<I: SignedIndex>(
     block: Piece,
     most: usize,
     matrix: Matrix<'_, I>,

@@ -7,10 +7,10 @@ ghost use Rattle.num_traits.specs.Laws.{Checks};
 ghost use Rattle.amd_calls.specs.Columns.{HasColumnPlaces, LeavesColumns, arrays, number_of_end, parent_number};
 
 use crate::matrix::Matrix;
-use crate::signed::SignedIndex;
 use amd_factor::Fault;
 use amd_types::index::Index;
 use amd_types::internal::{from_count, to_count};
+use amd_types::signed::SignedIndex;
 use num_traits::PrimInt;
 use std::alloc::Allocator;
 

@@ -9,6 +9,5 @@ pub mod factor_within;
 pub mod factors;
 pub mod matrix;
 pub mod records;
-pub mod signed;
 pub mod within;
 pub mod writing;

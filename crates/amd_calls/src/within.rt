@@ -10,7 +10,7 @@ ghost use Rattle.amd_engine.specs.InPlace.{values};
 use crate::matrix::Matrix;
 use crate::records::{Parameters, Statistics, control_of, number_of, tell};
 use amd::{Piece, Refusal, Status, order_in_block, order_in_block_narrow, workspace_bytes};
-use num_traits::PrimInt;
+use amd_types::index::Index;
 
 /// The bytes of a workspace in a block for so many rows and entries, or the greatest count where they are more.
 pub fn bytes_or_most(rows: usize, entries: usize) -> usize
@@ -29,7 +29,7 @@ pub fn bytes_or_most(rows: usize, entries: usize) -> usize
 /// 0, and the block has fewer bytes than `workspace_bytes` of the crate `amd` tells for `n` rows and `a_p[n]` entries.
 ///
 /// Source: AMD user guide; Amestoy, Davis and Duff 1996 and 2004.
-pub fn order_within<I: PrimInt>(
+pub fn order_within<I: Index>(
     matrix: Matrix<'_, I>,
     parameters: &Parameters,
     hold: Option<&[bool]>,

@@ -10,7 +10,6 @@ use crate::matrix::Matrix;
 use crate::records::{Parameters, Statistics, control_of, number_of, tell};
 use amd_types::index::Index;
 use amd_types::internal::to_count;
-use num_traits::PrimInt;
 use std::alloc::Allocator;
 
 /// Whether each of two arrays has `n` places.
@@ -37,7 +36,7 @@ pub fn have_places<I: Index>(n: I, p: &[I], p_inv: &[I]) -> bool
 /// `order`, with marks `order_holding`, returns it. `OutOfMemory` as they do.
 ///
 /// Source: AMD user guide; Amestoy, Davis and Duff 1996 and 2004.
-pub fn order_into<I: PrimInt, A: Allocator + Copy>(
+pub fn order_into<I: Index, A: Allocator + Copy>(
     alloc: A,
     matrix: Matrix<'_, I>,
     parameters: &Parameters,

@@ -6,7 +6,7 @@ ghost use Rattle.std.specs.Io.KnownBytes.{IsAtEnd};
 ghost use Rattle.amd_cases.specs.Matrices.{wide_of, narrow_of, ReadsNumbers, EndsWith, HoldsMatrix};
 ghost use Rattle.amd_cases.specs.declared.matrix.MatrixError.TheVariants.{OutOfMemory, TooLarge};
 
-use num_traits::PrimInt;
+use amd_types::signed::SignedIndex;
 use std::alloc::{AllocFailed, Allocator};
 use std::io;
 use std::io::{ErrorKind, Read};
@@ -14,7 +14,7 @@ use thiserror::Error;
 
 /// A square matrix in column form.
 #[derive(Drop)]
-pub struct BinaryMatrix<I: PrimInt, A: Allocator> {
+pub struct BinaryMatrix<I, A: Allocator> {
     /// The number of rows and columns.
     pub n: I,
     /// Where each column begins, and where the last one ends.
@@ -86,15 +86,15 @@ fn narrow_number<R: Read>(input: &mut R) -> Result<i32, MatrixError>
 }
 
 /// A number in the type that was asked for.
-fn converted<I: PrimInt>(number: i64) -> Result<I, MatrixError>
+fn converted<I: SignedIndex>(number: i64) -> Result<I, MatrixError>
     ensures { MatchResult result (λ x. I.fits number × (I.value x ≡ number))
         (λ e. (e ≡ TooLarge) × (I.fits number → ⊥)) }
 {
-    num_traits::cast::<i64, I>(number).ok_or(MatrixError::TooLarge)
+    I::from_signed(number as isize).ok_or(MatrixError::TooLarge)
 }
 
 /// The next number of 64 bits, in the type that was asked for.
-fn next_wide<I: PrimInt, R: Read>(input: &mut R) -> Result<I, MatrixError>
+fn next_wide<I: SignedIndex, R: Read>(input: &mut R) -> Result<I, MatrixError>
     ensures { IfOk result (λ x. ReadsNumbers 8 wide_of (R.remaining input.old) (R.remaining input.new)
         (I.value x ∷ [])) }
 {
@@ -102,7 +102,7 @@ fn next_wide<I: PrimInt, R: Read>(input: &mut R) -> Result<I, MatrixError>
 }
 
 /// The next number of 32 bits, in the type that was asked for.
-fn next_narrow<I: PrimInt, R: Read>(input: &mut R) -> Result<I, MatrixError>
+fn next_narrow<I: SignedIndex, R: Read>(input: &mut R) -> Result<I, MatrixError>
     ensures { IfOk result (λ x. ReadsNumbers 4 narrow_of (R.remaining input.old) (R.remaining input.new)
         (I.value x ∷ [])) }
 {
@@ -110,7 +110,7 @@ fn next_narrow<I: PrimInt, R: Read>(input: &mut R) -> Result<I, MatrixError>
 }
 
 /// The next numbers of 64 bits, as many as asked for.
-fn wide_numbers<I: PrimInt, R: Read, A: Allocator>(
+fn wide_numbers<I: SignedIndex, R: Read, A: Allocator>(
     alloc: A,
     input: &mut R,
     count: usize,
@@ -127,7 +127,7 @@ fn wide_numbers<I: PrimInt, R: Read, A: Allocator>(
 }
 
 /// The next numbers of 32 bits, as many as asked for.
-fn narrow_numbers<I: PrimInt, R: Read, A: Allocator>(
+fn narrow_numbers<I: SignedIndex, R: Read, A: Allocator>(
     alloc: A,
     input: &mut R,
     count: usize,
@@ -144,7 +144,7 @@ fn narrow_numbers<I: PrimInt, R: Read, A: Allocator>(
 }
 
 /// The last pointer, which has to be the number of entries.
-fn last_pointer<I: PrimInt, R: Read>(input: &mut R, entries: i64) -> Result<I, MatrixError>
+fn last_pointer<I: SignedIndex, R: Read>(input: &mut R, entries: i64) -> Result<I, MatrixError>
     ensures { IfOk result (λ x. (I.value x ≡ entries) × ReadsNumbers 8 wide_of (R.remaining input.old)
         (R.remaining input.new) (I.value x ∷ [])) }
 {
@@ -156,7 +156,7 @@ fn last_pointer<I: PrimInt, R: Read>(input: &mut R, entries: i64) -> Result<I, M
 }
 
 /// The pointers of `n` columns, of which the last has to be the number of entries.
-fn pointers<I: PrimInt, R: Read, A: Allocator>(
+fn pointers<I: SignedIndex, R: Read, A: Allocator>(
     alloc: A,
     input: &mut R,
     n: usize,
@@ -202,7 +202,7 @@ fn expect_end<R: Read>(input: &mut R) -> Result<(), MatrixError>
 ///
 /// A `MatrixError` where the file cannot be read or is no matrix, a number does not fit, or memory is refused. The
 /// contract says nothing of errors.
-pub fn read_matrix<I: PrimInt, R: Read, A: Allocator + Copy>(
+pub fn read_matrix<I: SignedIndex, R: Read, A: Allocator + Copy>(
     alloc: A,
     input: &mut R,
 ) -> Result<BinaryMatrix<I, A>, MatrixError>

@@ -32,7 +32,6 @@ use amd_workspace::filling::fill_words;
 use amd_workspace::laying::lay;
 use amd_workspace::lists::Memory;
 use amd_workspace::rows::RowLists;
-use num_traits::PrimInt;
 use std::alloc::{AllocError, Allocator};
 use std::mem::replace;
 
@@ -393,7 +392,7 @@ pub fn order_in<I: Index, S: Signed, P: Signed, U: Unsigned, A: Allocator + Copy
 /// `n + 2` exceeds `isize::MAX`: no memory holds the degrees of so many rows. What `info` then holds is not said.
 ///
 /// Source: Amestoy, Davis and Duff 1996 and 2004.
-pub fn amd_1<I: PrimInt, A: Allocator + Copy>(
+pub fn amd_1<I: Index, A: Allocator + Copy>(
     alloc: A,
     n: I,
     a_p: &[I],

@@ -25,7 +25,6 @@ use amd_words::{Cell, Signed, Unsigned, Word, put_word, row_at, word_at};
 use amd_workspace::filling::words;
 use amd_workspace::lists::Lists;
 use amd_workspace::rows::RowLists;
-use num_traits::PrimInt;
 use std::alloc::{AllocError, Allocator};
 
 /// Runs in lists that are laid, with words in a slice, and lists the rows: `head` then has the permutation, and `w` its
@@ -208,7 +207,7 @@ fn write_counts<I: Index>(words: &[Word<isize>], numbers: &mut [I])
 /// `OutOfMemory` where a request was refused. What `info` then holds is not said.
 ///
 /// Source: Amestoy, Davis and Duff 1996 and 2004.
-pub fn amd_2<I: PrimInt, A: Allocator + Copy>(
+pub fn amd_2<I: Index, A: Allocator + Copy>(
     alloc: A,
     n: I,
     pe: &mut [isize],

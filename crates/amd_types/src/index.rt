@@ -1,6 +1,6 @@
 // What the ordering and the factor need of a caller's integers: their values, and a few calls. Each primitive integer
 // type has it, by the traits of `num_traits`. A function over it is proved with these few laws in sight, and not with
-// those of all traits of `PrimInt`. The calls that users see ask for `PrimInt`.
+// those of all traits of `PrimInt`. What hands a caller's numbers on at once may ask for `PrimInt`, as `order` does.
 
 ghost use Rattle.std.specs.Prelude.{ℤ, pos, ◌≡◌, ◌↔◌, ◌<ℤ◌, ◌≤ℤ◌, IsTrue, unsigned_abs};
 ghost use Rattle.std.specs.Int.{FitsUnsignedBits};

@@ -10,3 +10,4 @@ pub mod held;
 pub mod index;
 pub mod internal;
 pub mod permutations;
+pub mod signed;

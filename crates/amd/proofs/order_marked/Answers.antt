@@ -19,21 +19,21 @@ use Rattle.amd.proofs.order_marked.Goals.{After-class_of-status, After-deref_mut
 use Rattle.amd.proofs.order_marked.Goals as goal
 
 -- what is known of the input by its status
-known : (g : Over) (c : After-class_of-status g) → HasStatus (option_copied c.args.hold) (g.I.Number.value c.args.n)
-    (map g.I.Number.value c.args.a_p.now) (map g.I.Number.value c.args.a_i.now) c.class_of-status.result
+known : (g : Over) (c : After-class_of-status g) → HasStatus (option_copied c.args.hold) (g.I.Index.value c.args.n)
+    (map g.I.Index.value c.args.a_p.now) (map g.I.Index.value c.args.a_i.now) c.class_of-status.result
 known g c =
-    has_status (option_copied c.args.hold) c.in-Some.count (g.I.Number.value c.args.n) (map g.I.Number.value c.args.a_p.now)
-    (map g.I.Number.value c.args.a_i.now) c.class_of-status.result c.in-Some.ensures.1 c.if-count-eq0.false c.class_of-status.ensures.marks
+    has_status (option_copied c.args.hold) c.in-Some.count (g.I.Index.value c.args.n) (map g.I.Index.value c.args.a_p.now)
+    (map g.I.Index.value c.args.a_i.now) c.class_of-status.result c.in-Some.ensures.1 c.if-count-eq0.false c.class_of-status.ensures.marks
     c.class_of-status.ensures.status
 
 -- where it is a column form it is refused for want of memory alone
 no_memory : (g : Over) (c : After-class_of-status g) (jumbled : Bool) (e : Status) → jumbled_by c.class_of-status.result ≡ Some jumbled →
-    e ≡ OutOfMemory → IsRefusalHolding (option_copied c.args.hold) (g.I.Number.value c.args.n) (map g.I.Number.value c.args.a_p.now)
-    (map g.I.Number.value c.args.a_i.now) e
+    e ≡ OutOfMemory → IsRefusalHolding (option_copied c.args.hold) (g.I.Index.value c.args.n) (map g.I.Index.value c.args.a_p.now)
+    (map g.I.Index.value c.args.a_i.now) e
 no_memory g c jumbled e by is =
     let status = c.class_of-status.result in
-    refused (option_copied c.args.hold) (g.I.Number.value c.args.n) (map g.I.Number.value c.args.a_p.now)
-    (map g.I.Number.value c.args.a_i.now) status e (known g c) (jumbled_valid status jumbled by) is
+    refused (option_copied c.args.hold) (g.I.Index.value c.args.n) (map g.I.Index.value c.args.a_p.now)
+    (map g.I.Index.value c.args.a_i.now) status e (known g c) (jumbled_valid status jumbled by) is
 
 -- there is a place for each row in the lent lists of the result
 long : (g : Over) (c : After-deref_mut g) → length c.deref_mut.result.now ≡ c.in-Some.count
@@ -44,7 +44,7 @@ long_inverse g c = ap length c.deref_mut-2.ensures.value ∙ c.in_ok-p_inv.ensur
 
 pub returns-then-count-eq0-clause-ordering : goal.returns-then-count-eq0-clause-ordering
 returns-then-count-eq0-clause-ordering g c =
-    let value = g.I.Number.value in let control = c.args.control.now in
+    let value = g.I.Index.value in let control = c.args.control.now in
     ordering_nothing (option_copied c.args.hold) (value c.args.n) control.dense control.aggressive (map value c.args.a_p.now)
     (map value c.args.a_i.now) (map value c.new.result.items) (map value c.new-then-count-eq0.result.items)
     c.new-then-count-eq0-2.result (sym c.in-Some.ensures.1 ∙ ap pos c.if-count-eq0.true) (ap (map value) c.new.ensures.items)
@@ -55,7 +55,7 @@ class_of-status-requires-clause-count g c = sym c.in-Some.ensures.1
 
 pub returns-in_default-jumbled_of-clause-refusal : goal.returns-in_default-jumbled_of-clause-refusal
 returns-in_default-jumbled_of-clause-refusal g c =
-    let value = g.I.Number.value in
+    let value = g.I.Index.value in
     refused_status (option_copied c.args.hold) (value c.args.n) (map value c.args.a_p.now) (map value c.args.a_i.now)
     c.class_of-status.result (known g (goal.at.returns-in_default-jumbled_of-clause-refusal g c).After-class_of-status)
     (sym c.jumbled_of.ensures ∙ c.in_default-jumbled_of.is)
@@ -65,25 +65,25 @@ order_once-requires-clause-given g c =
     let at = goal.at.order_once-requires-clause-given g c in let valid = c.class_of-status.ensures in
     let by = sym c.jumbled_of.ensures ∙ c.in-Some-jumbled_of.is in let jumbled = c.in-Some-jumbled_of.jumbled in
     let not_invalid = jumbled_valid c.class_of-status.result jumbled by in
-    is_given (option_copied c.args.hold) c.in-Some.count (g.I.Number.value c.args.n) (map g.I.Number.value c.args.a_p.now)
-    (map g.I.Number.value c.args.a_i.now) c.class_of-status.result c.in-Some.ensures.1 c.if-count-eq0.false (λ some. valid.marks
+    is_given (option_copied c.args.hold) c.in-Some.count (g.I.Index.value c.args.n) (map g.I.Index.value c.args.a_p.now)
+    (map g.I.Index.value c.args.a_i.now) c.class_of-status.result c.in-Some.ensures.1 c.if-count-eq0.false (λ some. valid.marks
     not_invalid)
     (λ some. valid.status (valid.marks not_invalid)) (λ some. not_invalid) jumbled by (length c.deref_mut.result.now)
     (length c.deref_mut-2.result.now) (long g at.After-deref_mut) (long_inverse g at.After-deref_mut-2)
 
 pub order_once-requires-clause-fits : goal.order_once-requires-clause-fits
 order_once-requires-clause-fits g c = λ k l.
-    let exact = g.met.I.Integral.exact_law in let size = c.in-Some.ensures.1 in
+    let size = c.in-Some.ensures.1 in
     let same = long g (goal.at.order_once-requires-clause-fits g c).After-deref_mut in
-    fits_below g.I.Number.fits (g.met.I.Zero.zero_fits_law exact) (λ x y w low high. g.I.Number.between_law x y w exact low high) k
-    (g.I.Number.value c.args.n) c.requires.fits (omega (arith, ints, l, same, size))
+    fits_below g.I.Index.fits g.met.I.Index.zero_fits g.met.I.Index.between k
+    (g.I.Index.value c.args.n) c.requires.fits (omega (arith, ints, l, same, size))
 
 pub returns-clause-ordering : goal.returns-clause-ordering
 returns-clause-ordering g c =
     let at = goal.at.returns-clause-ordering g c in let new = c.order_once.new in
-    let hold = option_copied c.args.hold in let z : ℤ = g.I.Number.value c.args.n in
-    let a_p : List ℤ = map g.I.Number.value c.args.a_p.now in let a_i : List ℤ = map g.I.Number.value c.args.a_i.now in
-    let p : List ℤ = map g.I.Number.value new.p in let q : List ℤ = map g.I.Number.value new.p_inv in
+    let hold = option_copied c.args.hold in let z : ℤ = g.I.Index.value c.args.n in
+    let a_p : List ℤ = map g.I.Index.value c.args.a_p.now in let a_i : List ℤ = map g.I.Index.value c.args.a_i.now in
+    let p : List ℤ = map g.I.Index.value new.p in let q : List ℤ = map g.I.Index.value new.p_inv in
     let n = c.in-Some.count in let control = c.args.control.now in
     let jumbled = c.in-Some-jumbled_of.jumbled in let status = c.class_of-status.result in let info = c.in_ok-info.info in
     let same = long g at.After-deref_mut in
@@ -100,7 +100,7 @@ returns-in_default-clause-ordering g c = tt
 
 pub returns-in_default-clause-refusal : goal.returns-in_default-clause-refusal
 returns-in_default-clause-refusal g c =
-    let value = g.I.Number.value in
+    let value = g.I.Index.value in
     refused_count value (option_copied c.args.hold) (value c.args.n) c.args.a_p.now (map value c.args.a_i.now)
     (omega (arith, c.well_formed)) c.in_default.ensures
 

@@ -7,7 +7,7 @@ use amd_cases::matrix::{MatrixError, read_matrix};
 use amd_cases::reader::CaseReader;
 use amd_testing::check;
 use amd_testing::refusing::{Refusing, each_refused};
-use num_traits::PrimInt;
+use amd_types::signed::SignedIndex;
 use std::alloc::{AllocError, Allocator, Global};
 use std::io;
 use std::io::{BufReader, ErrorKind, Read};
@@ -244,7 +244,7 @@ fn file_of(alloc: Global, wide: &[i64], narrow: &[i32]) -> Result<Vec<u8>, Alloc
 }
 
 /// The fault of a matrix file with rows of this type, where it has one.
-fn fault_of<I: PrimInt, R: Read>(alloc: Global, input: &mut R) -> Option<MatrixError> {
+fn fault_of<I: SignedIndex, R: Read>(alloc: Global, input: &mut R) -> Option<MatrixError> {
     read_matrix::<I, _, _>(alloc, input).err()
 }
 

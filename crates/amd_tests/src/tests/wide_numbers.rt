@@ -110,7 +110,7 @@ fn are_refused<I: PrimInt>(alloc: Global, n: I, matrix: &mut WideMatrix<I>, numb
 }
 
 /// Appends numbers to the pointers and to the rows.
-fn append<I: PrimInt>(matrix: &mut WideMatrix<I>, numbers: &[I]) -> Result<(), AllocError> {
+fn append<I: Copy>(matrix: &mut WideMatrix<I>, numbers: &[I]) -> Result<(), AllocError> {
     for &number in numbers {
         matrix.a_p.push(number)?;
         matrix.a_i.push(number)?;

@@ -32,7 +32,7 @@ new-info-requires g c = tt
 
 pub returns-then-size-eq0-clause-ordering : goal.returns-then-size-eq0-clause-ordering
 returns-then-size-eq0-clause-ordering g c =
-    let value = g.I.Number.value in let e = c.in-Some.ensures in let control = c.args.control.now in
+    let value = g.I.Index.value in let e = c.in-Some.ensures in let control = c.args.control.now in
     nothing_ordered value (option_copied c.args.hold) c.in-Some.size (value c.args.n) control.dense control.aggressive
     (map value c.args.a_p.now) (map value c.args.a_i.now) c.args.p.now c.args.p_inv.now c.new-info.result e.size c.if-size-eq0.true
     e.places.0 e.places.1 (c.new-info.ensures ∙ ap fresh_info c.if-size-eq0.true)
@@ -52,23 +52,23 @@ jumbled_of-requires g c = tt
 
 pub unreachable-requires : goal.unreachable-requires
 unreachable-requires g c =
-    let value = g.I.Number.value in let e = c.in-Some.ensures in let some = c.if-size-eq0.false in
+    let value = g.I.Index.value in let e = c.in-Some.ensures in let some = c.if-size-eq0.false in
     says_jumbled (value c.args.n) (map value c.args.a_p.now) (map value c.args.a_i.now) c.in-Some.status (e.status some) (e.valid some)
     (sym c.jumbled_of.ensures ∙ c.in_default-jumbled_of.is)
 
 pub count_at-requires-clause-within : goal.count_at-requires-clause-within
 count_at-requires-clause-within g c =
-    let z : ℤ = g.I.Number.value c.args.n in let e = c.in-Some.ensures in
-    let a_p : List ℤ = map g.I.Number.value c.args.a_p.now in let a_i : List ℤ = map g.I.Number.value c.args.a_i.now in
-    (pointer_read g.I.Number.value c.args.a_p.now c.args.a_i.now c.in-Some.size
+    let z : ℤ = g.I.Index.value c.args.n in let e = c.in-Some.ensures in
+    let a_p : List ℤ = map g.I.Index.value c.args.a_p.now in let a_i : List ℤ = map g.I.Index.value c.args.a_i.now in
+    (pointer_read g.I.Index.value c.args.a_p.now c.args.a_i.now c.in-Some.size
     (has_form (option_copied c.args.hold) c.in-Some.size z a_p a_i c.in-Some.status e.size c.if-size-eq0.false e.marks e.status e.valid)
     c.in-Some.size (omega arith) (omega (arith, c.well_formed))).0
 
 pub count_at-requires-clause-fits : goal.count_at-requires-clause-fits
 count_at-requires-clause-fits g c =
-    let z : ℤ = g.I.Number.value c.args.n in let e = c.in-Some.ensures in
-    let a_p : List ℤ = map g.I.Number.value c.args.a_p.now in let a_i : List ℤ = map g.I.Number.value c.args.a_i.now in
-    (pointer_read g.I.Number.value c.args.a_p.now c.args.a_i.now c.in-Some.size
+    let z : ℤ = g.I.Index.value c.args.n in let e = c.in-Some.ensures in
+    let a_p : List ℤ = map g.I.Index.value c.args.a_p.now in let a_i : List ℤ = map g.I.Index.value c.args.a_i.now in
+    (pointer_read g.I.Index.value c.args.a_p.now c.args.a_i.now c.in-Some.size
     (has_form (option_copied c.args.hold) c.in-Some.size z a_p a_i c.in-Some.status e.size c.if-size-eq0.false e.marks e.status e.valid)
     c.in-Some.size (omega arith) (omega (arith, c.well_formed))).1
 
@@ -83,7 +83,7 @@ returns-in_default-enough-clause-inside g c = tt
 
 pub returns-in_default-enough-clause-refusal : goal.returns-in_default-enough-clause-refusal
 returns-in_default-enough-clause-refusal g c =
-    let value = g.I.Number.value in let e = c.in-Some.ensures in (
+    let value = g.I.Index.value in let e = c.in-Some.ensures in (
       e.call.0 refl,
       block_small c.in-Some.size (value c.args.n) (map value c.args.a_p.now) c.count_at.result c.args.block.size e.size
           c.if-size-eq0.false c.count_at.ensures.count c.in_default-enough.ensures,
@@ -94,28 +94,28 @@ returns-in_default-enough-clause-kept g c = (refl {a = c.args.p.now}, refl {a = 
 
 pub order_fitting-requires-clause-bytes : goal.order_fitting-requires-clause-bytes
 order_fitting-requires-clause-bytes g c =
-    let value = g.I.Number.value in let e = c.in-Some.ensures in
+    let value = g.I.Index.value in let e = c.in-Some.ensures in
     block_bytes c.in-Some.size (value c.args.n) (map value c.args.a_p.now) c.count_at.result c.in-Some-enough.block.size e.size
     c.if-size-eq0.false c.count_at.ensures.count (length c.args.p.now) e.places.0 c.in-Some-enough.ensures.0
 
 pub order_fitting-requires-clause-given : goal.order_fitting-requires-clause-given
 order_fitting-requires-clause-given g c =
     let e = c.in-Some.ensures in
-    is_given (option_copied c.args.hold) c.in-Some.size (g.I.Number.value c.args.n) (map g.I.Number.value c.args.a_p.now)
-    (map g.I.Number.value c.args.a_i.now) c.in-Some.status e.size c.if-size-eq0.false e.marks e.status e.valid c.in-Some-jumbled_of.jumbled
+    is_given (option_copied c.args.hold) c.in-Some.size (g.I.Index.value c.args.n) (map g.I.Index.value c.args.a_p.now)
+    (map g.I.Index.value c.args.a_i.now) c.in-Some.status e.size c.if-size-eq0.false e.marks e.status e.valid c.in-Some-jumbled_of.jumbled
     (sym c.jumbled_of.ensures ∙ c.in-Some-jumbled_of.is) (length c.args.p.now) (length c.args.p_inv.now) e.places.0 e.places.1
 
 pub order_fitting-requires-clause-fits : goal.order_fitting-requires-clause-fits
 order_fitting-requires-clause-fits g c = λ k l.
-    let exact = g.met.I.Integral.exact_law in let e = c.in-Some.ensures in let same = e.size in let places = e.places in
-    fits_below g.I.Number.fits (g.met.I.Zero.zero_fits_law exact) (λ x y w low high. g.I.Number.between_law x y w exact low high) k
-    (g.I.Number.value c.args.n) c.requires.fits (omega (arith, ints, l, same, places))
+    let e = c.in-Some.ensures in let same = e.size in let places = e.places in
+    fits_below g.I.Index.fits g.met.I.Index.zero_fits g.met.I.Index.between k
+    (g.I.Index.value c.args.n) c.requires.fits (omega (arith, ints, l, same, places))
 
 pub returns-clause-ordering : goal.returns-clause-ordering
 returns-clause-ordering g c =
-    let hold = option_copied c.args.hold in let z : ℤ = g.I.Number.value c.args.n in let e = c.in-Some.ensures in
-    let a_p : List ℤ = map g.I.Number.value c.args.a_p.now in let a_i : List ℤ = map g.I.Number.value c.args.a_i.now in
-    let p : List ℤ = map g.I.Number.value c.order_fitting.new.p in let q : List ℤ = map g.I.Number.value c.order_fitting.new.p_inv in
+    let hold = option_copied c.args.hold in let z : ℤ = g.I.Index.value c.args.n in let e = c.in-Some.ensures in
+    let a_p : List ℤ = map g.I.Index.value c.args.a_p.now in let a_i : List ℤ = map g.I.Index.value c.args.a_i.now in
+    let p : List ℤ = map g.I.Index.value c.order_fitting.new.p in let q : List ℤ = map g.I.Index.value c.order_fitting.new.p_inv in
     ordering hold c.in-Some.size z c.args.control.now c.in-Some-jumbled_of.jumbled a_p a_i p q
     c.order_fitting.new.info c.in-Some.status e.size
     (has_its_status hold c.in-Some.size z a_p a_i c.in-Some.status e.size c.if-size-eq0.false e.marks e.status)
@@ -123,7 +123,7 @@ returns-clause-ordering g c =
 
 pub returns-clause-inside : goal.returns-clause-inside
 returns-clause-inside g c =
-    let value = g.I.Number.value in let e = c.in-Some.ensures in let room = c.in-Some-enough.ensures in
+    let value = g.I.Index.value in let e = c.in-Some.ensures in let room = c.in-Some-enough.ensures in
     fits_block c.in-Some.size (value c.args.n) (map value c.args.a_p.now) c.count_at.result c.args.block.size e.size
     c.if-size-eq0.false c.count_at.ensures.count (subst (λ s. workspace_bytes c.in-Some.size c.count_at.result ≤ s) room.1 room.0)
 

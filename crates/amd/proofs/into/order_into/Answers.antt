@@ -1,5 +1,5 @@
 -- A call that is valid has a status that tells its columns, and orders them or is refused memory; any other is refused.
-use Rattle.std.proofs.Common.{ℤ, List, ap, length, map, pos, refl, sym, arith, ◌∙◌}
+use Rattle.std.proofs.Common.{ℤ, List, length, map, refl, sym, arith, ◌∙◌}
 use Rattle.std.specs.Option.{option_copied}
 use Rattle.std.proofs.lemmas.Int.{ints}
 use Rattle.std.proofs.lemmas.Result.{IfOk-from_err, err_from_is_err_and}
@@ -15,21 +15,21 @@ use Rattle.amd.proofs.into.order_into.Goals as goal
 pub order_once-requires-clause-given : goal.order_once-requires-clause-given
 order_once-requires-clause-given g c =
     let e = c.in-Some.ensures in
-    is_given (option_copied c.args.hold) c.in-Some.size (g.I.Number.value c.args.n) (map g.I.Number.value c.args.a_p.now)
-    (map g.I.Number.value c.args.a_i.now) c.in-Some.status e.size c.if-size-eq0.false e.marks e.status e.valid c.in-Some-jumbled_of.jumbled
+    is_given (option_copied c.args.hold) c.in-Some.size (g.I.Index.value c.args.n) (map g.I.Index.value c.args.a_p.now)
+    (map g.I.Index.value c.args.a_i.now) c.in-Some.status e.size c.if-size-eq0.false e.marks e.status e.valid c.in-Some-jumbled_of.jumbled
     (sym c.jumbled_of.ensures ∙ c.in-Some-jumbled_of.is) (length c.args.p.now) (length c.args.p_inv.now) e.places.0 e.places.1
 
 pub order_once-requires-clause-fits : goal.order_once-requires-clause-fits
 order_once-requires-clause-fits g c = λ k l.
-    let exact = g.met.I.Integral.exact_law in let e = c.in-Some.ensures in let same = e.size in let places = e.places in
-    fits_below g.I.Number.fits (g.met.I.Zero.zero_fits_law exact) (λ x y w low high. g.I.Number.between_law x y w exact low high) k
-    (g.I.Number.value c.args.n) c.requires.fits (omega (arith, ints, l, same, places))
+    let e = c.in-Some.ensures in let same = e.size in let places = e.places in
+    fits_below g.I.Index.fits g.met.I.Index.zero_fits g.met.I.Index.between k
+    (g.I.Index.value c.args.n) c.requires.fits (omega (arith, ints, l, same, places))
 
 pub returns-clause-ordering : goal.returns-clause-ordering
 returns-clause-ordering g c =
-    let hold = option_copied c.args.hold in let z : ℤ = g.I.Number.value c.args.n in let e = c.in-Some.ensures in
-    let a_p : List ℤ = map g.I.Number.value c.args.a_p.now in let a_i : List ℤ = map g.I.Number.value c.args.a_i.now in
-    let p : List ℤ = map g.I.Number.value c.order_once.new.p in let q : List ℤ = map g.I.Number.value c.order_once.new.p_inv in
+    let hold = option_copied c.args.hold in let z : ℤ = g.I.Index.value c.args.n in let e = c.in-Some.ensures in
+    let a_p : List ℤ = map g.I.Index.value c.args.a_p.now in let a_i : List ℤ = map g.I.Index.value c.args.a_i.now in
+    let p : List ℤ = map g.I.Index.value c.order_once.new.p in let q : List ℤ = map g.I.Index.value c.order_once.new.p_inv in
     let n = c.in-Some.size in let control = c.args.control.now in
     let jumbled = c.in-Some-jumbled_of.jumbled in let status = c.in-Some.status in let info = c.in_ok-info.info in
     ordering hold n z control jumbled a_p a_i p q (record info { status = status }) status e.size
@@ -51,7 +51,7 @@ returns-in_default-clause-kept g c = stay c.args.p.now c.args.p_inv.now
 
 pub returns-then-size-eq0-clause-ordering : goal.returns-then-size-eq0-clause-ordering
 returns-then-size-eq0-clause-ordering g c =
-    let value = g.I.Number.value in let control = c.args.control.now in let e = c.in-Some.ensures in let none = c.if-size-eq0.true in
+    let value = g.I.Index.value in let control = c.args.control.now in let e = c.in-Some.ensures in let none = c.if-size-eq0.true in
     nothing_ordered value (option_copied c.args.hold) c.in-Some.size (value c.args.n) control.dense control.aggressive
     (map value c.args.a_p.now) (map value c.args.a_i.now) c.args.p.now c.args.p_inv.now c.new.result e.size none e.places.0 e.places.1
     c.new.ensures
@@ -64,8 +64,8 @@ returns-then-size-eq0-clause-kept g c = tt
 
 pub unreachable-requires : goal.unreachable-requires
 unreachable-requires g c =
-    let hold = option_copied c.args.hold in let z : ℤ = g.I.Number.value c.args.n in let e = c.in-Some.ensures in
-    let a_p : List ℤ = map g.I.Number.value c.args.a_p.now in let a_i : List ℤ = map g.I.Number.value c.args.a_i.now in
+    let hold = option_copied c.args.hold in let z : ℤ = g.I.Index.value c.args.n in let e = c.in-Some.ensures in
+    let a_p : List ℤ = map g.I.Index.value c.args.a_p.now in let a_i : List ℤ = map g.I.Index.value c.args.a_i.now in
     let status = c.in-Some.status in let some = c.if-size-eq0.false in
     says_jumbled z a_p a_i status (e.status some) (e.valid some) (sym c.jumbled_of.ensures ∙ c.in_default-jumbled_of.is)
 
@@ -74,8 +74,8 @@ returns-in_err-info-clause-ordering g c = IfOk-from_err c.from_residual.result _
 
 pub returns-in_err-info-clause-refusal : goal.returns-in_err-info-clause-refusal
 returns-in_err-info-clause-refusal g c =
-    let hold = option_copied c.args.hold in let z : ℤ = g.I.Number.value c.args.n in let e = c.in-Some.ensures in
-    let a_p : List ℤ = map g.I.Number.value c.args.a_p.now in let a_i : List ℤ = map g.I.Number.value c.args.a_i.now in
+    let hold = option_copied c.args.hold in let z : ℤ = g.I.Index.value c.args.n in let e = c.in-Some.ensures in
+    let a_p : List ℤ = map g.I.Index.value c.args.a_p.now in let a_i : List ℤ = map g.I.Index.value c.args.a_i.now in
     let has = has_its_status hold c.in-Some.size z a_p a_i c.in-Some.status e.size c.if-size-eq0.false e.marks e.status in
     let p = err_from_is_err_and c.from_residual.result c.from_residual.ensures.1 in rw (p.1, p.2) (has.some, e.call.0 refl)
 

@@ -6,7 +6,7 @@ use Rattle.amd_c_calls.proofs.laid.eliminate_into.Goals as goal
 
 pub copy_from_slice-requires : goal.copy_from_slice-requires
 copy_from_slice-requires g c =
-    let value = g.I.Number.value in let w = c.requires.graph in let lists = c.args.lists.now in let places = c.args.places.now in
+    let value = g.I.Index.value in let w = c.requires.graph in let lists = c.args.lists.now in let places = c.args.places.now in
     let long = answers_long c.args.parameters.now _ _ _ _ _ _ _ c.in-Ok.ensures.orders w.0 w.1 w.2 in
     let here : length places.nv.now ≡ length lists.len.now = sym (length-map places.nv.now value) ∙ c.requires.places.0 in
     let there : length lists.len.now ≡ length c.deref.result.now = sym long.0 ∙ length-map _ value
@@ -15,7 +15,7 @@ copy_from_slice-requires g c =
 
 pub copy_from_slice-requires-2 : goal.copy_from_slice-requires-2
 copy_from_slice-requires-2 g c =
-    let value = g.I.Number.value in let w = c.requires.graph in let lists = c.args.lists.now in let places = c.args.places.now in
+    let value = g.I.Index.value in let w = c.requires.graph in let lists = c.args.lists.now in let places = c.args.places.now in
     let long = answers_long c.args.parameters.now _ _ _ _ _ _ _ c.in-Ok.ensures.orders w.0 w.1 w.2 in
     let here : length places.p_inv.now ≡ length lists.len.now = sym (length-map places.p_inv.now value) ∙ c.requires.places.2 in
     let there : length lists.len.now ≡ length c.deref-2.result.now = sym long.2 ∙ length-map _ value
@@ -24,7 +24,7 @@ copy_from_slice-requires-2 g c =
 
 pub copy_from_slice-requires-3 : goal.copy_from_slice-requires-3
 copy_from_slice-requires-3 g c =
-    let value = g.I.Number.value in let w = c.requires.graph in let lists = c.args.lists.now in let places = c.args.places.now in
+    let value = g.I.Index.value in let w = c.requires.graph in let lists = c.args.lists.now in let places = c.args.places.now in
     let long = answers_long c.args.parameters.now _ _ _ _ _ _ _ c.in-Ok.ensures.orders w.0 w.1 w.2 in
     let here : length places.p.now ≡ length lists.len.now = sym (length-map places.p.now value) ∙ c.requires.places.1 in
     let there : length lists.len.now ≡ length c.deref-3.result.now = sym long.1 ∙ length-map _ value
@@ -40,7 +40,7 @@ copy_from_slice-requires-4 g c =
 
 pub returns-clause-leaves : goal.returns-clause-leaves
 returns-clause-leaves g c =
-    let value = g.I.Number.value in
+    let value = g.I.Index.value in
     let choice = c.args.parameters.now in let info = c.amd_2.new.info in let chosen = c.control_of-control.ensures in
     holds_copies choice _ _ _ _ _ _ _ c.in-Ok.ensures.orders c.in-Ok.ensures.compactions
     chosen.dense chosen.aggressive c.new-info.ensures _ _

@@ -16,9 +16,9 @@ use Rattle.amd_c_calls.proofs.supernodal.matrix_supernodes_into.Goals.{then-len-
 
 pub write_rows-cut-requires : goal.write_rows-cut-requires
 write_rows-cut-requires g c κs within =
-    let p = partition_of c.requires.1.1.matrix c.in_ok-found.ensures.partition in
+    let p = partition_of c.requires.1.matrix c.in_ok-found.ensures.partition in
     let ends = rows_end p c.len.result c.index-below.result.now (omega arith) c.index-below.ensures in
-    let fits : g.I.Number.fits g.m.size = subst (λ x. g.I.Number.fits x.size) (sym c.requires.1.1.matrix) c.requires.1.1.fit in
+    let fits : g.I.Index.fits g.m.size = subst (λ x. g.I.Index.fits x.size) (sym c.requires.1.matrix) c.requires.1.fit in
     let long : length (take c.index-below.result.now c.args.rows.now) ≡ c.index-below.result.now = search rules in (
       within,
       (
@@ -35,9 +35,9 @@ write_rows-cut-requires g c κs within =
 
 pub returns-then-len-parent-clause-left : goal.returns-then-len-parent-clause-left
 returns-then-len-parent-clause-left g c =
-    let value = g.I.Number.value in
+    let value = g.I.Index.value in
     let cut = c.in_ok-found.found.cut in
-    let p = partition_of c.requires.1.1.matrix c.in_ok-found.ensures.partition in
+    let p = partition_of c.requires.1.matrix c.in_ok-found.ensures.partition in
     let ends = rows_end p c.len.result c.index-below.result.now (omega arith) c.index-below.ensures in
     let places : HasBlockPlaces (map value c.args.first.now) (map value c.args.ptr.now) (map value c.args.parent.now) = search rules in
     let wide = length-map c.args.parent.now value in let long = length-map c.args.rows.now value in
@@ -58,7 +58,7 @@ returns-then-len-parent-clause-left g c =
 pub returns-then-len-parent-clause-told : goal.returns-then-len-parent-clause-told
 returns-then-len-parent-clause-told g c =
     let cut = c.in_ok-found.found.cut in let lists = c.in_ok-found.found.lists in
-    let p = partition_of c.requires.1.1.matrix c.in_ok-found.ensures.partition in
+    let p = partition_of c.requires.1.matrix c.in_ok-found.ensures.partition in
     let ends = rows_end p c.len.result c.index-below.result.now (omega arith) c.index-below.ensures in
     let told = c.sizes_of.ensures in
     let all : c.len-then-len-parent.result ≡ length cut.parent.items = omega arith in
@@ -68,7 +68,7 @@ returns-then-len-parent-clause-told g c =
 pub returns-clause-told : goal.returns-clause-told
 returns-clause-told g c =
     let cut = c.in_ok-found.found.cut in let lists = c.in_ok-found.found.lists in
-    let p = partition_of c.requires.1.1.matrix c.in_ok-found.ensures.partition in
+    let p = partition_of c.requires.1.matrix c.in_ok-found.ensures.partition in
     let ends = rows_end p c.len.result c.index-below.result.now (omega arith) c.index-below.ensures in
     let told = c.sizes_of-2.ensures in
     let all : c.len-3.result ≡ length c.write_rows-cut.result.parent.items = omega arith in
@@ -77,7 +77,7 @@ returns-clause-told g c =
 
 pub returns-clause-left : goal.returns-clause-left
 returns-clause-left g c =
-    let value = g.I.Number.value in
+    let value = g.I.Index.value in
     let e = c.write_rows-cut.ensures in
     let cut = c.write_rows-cut.result in
     let rows = c.write_rows-cut.new.rows in

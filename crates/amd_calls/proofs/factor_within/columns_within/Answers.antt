@@ -10,7 +10,7 @@ use Rattle.amd_calls.proofs.WithinLeft.{no-columns, not-written, too-many}
 use Rattle.amd_calls.proofs.factor_within.columns_within.Goals as goal
 
 pub returns-then-size-eq0-clause-left : goal.returns-then-size-eq0-clause-left
-returns-then-size-eq0-clause-left g c = no-columns (g.I.Number.value c.args.matrix.n) _ _ _ _ _ _ _
+returns-then-size-eq0-clause-left g c = no-columns (g.I.Index.value c.args.matrix.n) _ _ _ _ _ _ _
     (sym (ap pos c.if-size-eq0.true) ∙ c.in-Ok.ensures.size) (c.in-Ok.ensures.none c.if-size-eq0.true)
     (c.have_column_places.ensures.0 c.if-not-have_column_places.false) c.write_numbers.ensures
 
@@ -20,7 +20,7 @@ count_at-requires-clause-fits g c = pointer_fits _ _ _ (c.in-Ok.ensures.form c.i
 
 pub columns_inside-requires : goal.columns_inside-requires
 columns_inside-requires g c κs within =
-    let value = g.I.Number.value in let exact = g.met.I.Integral.exact_law in
+    let value = g.I.Index.value in
     let a_p : List ℤ = map value c.args.matrix.a_p.now in let a_i : List ℤ = map value c.args.matrix.a_i.now in
     let size = c.in-Ok.ensures.size in let front = c.split_at_mut-parents.ensures.front_len in (
       within,
@@ -31,8 +31,8 @@ columns_inside-requires g c κs within =
           rows = refl;
         },
         (
-          (λ j l. fits_below g.I.Number.fits (g.met.I.Zero.zero_fits_law exact)
-              (λ x y z low high. g.I.Number.between_law x y z exact low high) j (value c.args.matrix.n) c.requires.fits
+          (λ j l. fits_below g.I.Index.fits g.met.I.Index.zero_fits
+              g.met.I.Index.between j (value c.args.matrix.n) c.requires.fits
               (omega (arith, ints, l, size, front))),
           (search rules, search rules),
         ),
@@ -41,7 +41,7 @@ columns_inside-requires g c κs within =
 
 pub returns-in-Err-columns_inside-clause-left : goal.returns-in-Err-columns_inside-clause-left
 returns-in-Err-columns_inside-clause-left g c =
-    let value = g.I.Number.value in let matrix = c.args.matrix in
+    let value = g.I.Index.value in let matrix = c.args.matrix in
     let a_p : List ℤ = map value matrix.a_p.now in let a_i : List ℤ = map value matrix.a_i.now in
     let p : List ℤ = map value c.args.p.now in let e = c.in-Err-columns_inside.ensures in
     not-written c.args.most c.in-Ok.size (value c.args.matrix.n) a_p a_i p _ (map value c.args.rows.now) _ c.in-Ok.ensures.size
@@ -53,7 +53,7 @@ returns-in-Err-columns_inside-clause-left g c =
 
 pub returns-then-total-most-clause-left : goal.returns-then-total-most-clause-left
 returns-then-total-most-clause-left g c =
-    let value = g.I.Number.value in let matrix = c.args.matrix in
+    let value = g.I.Index.value in let matrix = c.args.matrix in
     let a_p : List ℤ = map value matrix.a_p.now in let a_i : List ℤ = map value matrix.a_i.now in
     let p : List ℤ = map value c.args.p.now in
     let f = subst (λ n. (w : WritesFactor (pos n) a_p a_i p (map value c.args.rows.now) (map value c.columns_inside.new.rows)
@@ -66,16 +66,16 @@ returns-then-total-most-clause-left g c =
 
 pub write_numbers-requires-2-clause-fits : goal.write_numbers-requires-2-clause-fits
 write_numbers-requires-2-clause-fits g c =
-    let exact = g.met.I.Integral.exact_law in let f = c.in-Ok-columns_inside.ensures.factor in let is = f.1 in let h = f.0.factor.holds in
-    pointers-fit h.columns c.columns_inside.new.pointers f.0.entries c.columns_inside.new.parents h.holds g.I.Number.fits
-    (λ x y z low high. g.I.Number.between_law x y z exact low high) (g.met.I.Zero.zero_fits_law exact) c.args.most c.requires.most
+    let f = c.in-Ok-columns_inside.ensures.factor in let is = f.1 in let h = f.0.factor.holds in
+    pointers-fit h.columns c.columns_inside.new.pointers f.0.entries c.columns_inside.new.parents h.holds g.I.Index.fits
+    g.met.I.Index.between g.met.I.Index.zero_fits c.args.most c.requires.most
     (omega (arith, is))
 
 pub write_parents-requires-clause-fits : goal.write_parents-requires-clause-fits
 write_parents-requires-clause-fits g c =
-    let exact = g.met.I.Integral.exact_law in let f = c.in-Ok-columns_inside.ensures.factor in let h = f.0.factor.holds in
+    let f = c.in-Ok-columns_inside.ensures.factor in let h = f.0.factor.holds in
     let size = c.in-Ok.ensures.size in let front = c.split_at_mut-parents.ensures.front_len in
     let places = f.0.factor.permutes.each.places in
-    parents-fit g.I.Number.fits (λ x y z low high. g.I.Number.between_law x y z exact low high) (g.met.I.Zero.zero_fits_law exact) _ _
-    (g.I.Number.value c.args.matrix.n) c.requires.fits (omega (arith, ints, size, front, places)) h.columns h.factor c.requires.signed
+    parents-fit g.I.Index.fits g.met.I.Index.between g.met.I.Index.zero_fits _ _
+    (g.I.Index.value c.args.matrix.n) c.requires.fits (omega (arith, ints, size, front, places)) h.columns h.factor c.requires.signed
     c.columns_inside.new.parents h.holds.parents

@@ -10,7 +10,7 @@ use Rattle.amd_calls.proofs.within.order_within.Goals as goal
 
 pub returns-in-Ok : goal.returns-in-Ok
 returns-in-Ok g c =
-    let value = g.I.Number.value in let a = c.args in let matrix = a.matrix in let new = c.order_in_block.new in
+    let value = g.I.Index.value in let a = c.args in let matrix = a.matrix in let new = c.order_in_block.new in
     let info = c.in-Ok.info in let hold = option_copied a.hold in
     let chosen = c.control_of-control in let tell = c.tell in let e = c.in-Ok.ensures in record {
       status = info.status;
@@ -25,7 +25,7 @@ returns-in-Ok g c =
 
 pub returns-in-Err-Invalid : goal.returns-in-Err-Invalid
 returns-in-Err-Invalid g c =
-    let value = g.I.Number.value in let matrix = c.args.matrix in let told = c.args.statistics.now in
+    let value = g.I.Index.value in let matrix = c.args.matrix in let told = c.args.statistics.now in
     let hold = option_copied c.args.hold in
     let z : ℤ = value matrix.n in let a_p : List ℤ = map value matrix.a_p.now in let a_i : List ℤ = map value matrix.a_i.now in
     let p : List ℤ = map value c.args.p.now in let q : List ℤ = map value c.args.p_inv.now in
@@ -43,7 +43,7 @@ returns-in-Err-Invalid g c =
 
 pub returns-in-Err-TooLarge : goal.returns-in-Err-TooLarge
 returns-in-Err-TooLarge g c =
-    let value = g.I.Number.value in let matrix = c.args.matrix in let told = c.args.statistics.now in
+    let value = g.I.Index.value in let matrix = c.args.matrix in let told = c.args.statistics.now in
     let hold = option_copied c.args.hold in
     let z : ℤ = value matrix.n in let a_p : List ℤ = map value matrix.a_p.now in let a_i : List ℤ = map value matrix.a_i.now in
     let p : List ℤ = map value c.args.p.now in let q : List ℤ = map value c.args.p_inv.now in

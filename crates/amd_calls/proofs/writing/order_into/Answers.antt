@@ -8,7 +8,7 @@ use Rattle.amd_calls.proofs.writing.order_into.Goals as goal
 
 pub returns-in-Ok : goal.returns-in-Ok
 returns-in-Ok g c =
-    let value = g.I.Number.value in let a = c.args in let new = c.order_into.new in let info = c.in-Ok.info in
+    let value = g.I.Index.value in let a = c.args in let new = c.order_into.new in let info = c.in-Ok.info in
     let chosen = c.control_of-control in let tell = c.tell in
     record {
       status = info.status;
@@ -22,7 +22,7 @@ returns-in-Ok g c =
 
 pub returns-in-Err : goal.returns-in-Err
 returns-in-Err g c =
-    let value = g.I.Number.value in let matrix = c.args.matrix in let told = c.args.statistics.now in
+    let value = g.I.Index.value in let matrix = c.args.matrix in let told = c.args.statistics.now in
     let hold = option_copied c.args.hold in
     let z : ℤ = value matrix.n in let a_p : List ℤ = map value matrix.a_p.now in let a_i : List ℤ = map value matrix.a_i.now in
     let old = memory (map value c.args.p.now) (map value c.args.p_inv.now) told in

@@ -5,4 +5,4 @@ use Rattle.amd_cases.proofs.matrix.narrow_numbers.Given as goal
 
 abbrev pub invariant-numbers : goal.invariant-numbers
 invariant-numbers g l = ReadsNumbers 4 narrow_of (g.R.Read.remaining l.fn.input) (g.R.Read.remaining l.input)
-    (map g.I.Number.value l.numbers.items) × (length l.numbers.items ≡ l._done)
+    (map g.I.Index.value l.numbers.items) × (length l.numbers.items ≡ l._done)

@@ -16,8 +16,8 @@ returns-clause-holds g c =
     let rows = c.in_ok-a_i.a_i.items in
     let sizes = c.in_ok-columns.ensures in
     holds-all (g.R.Read.remaining c.args.input.now) (g.R.Read.remaining c.sizes.new.input) (g.R.Read.remaining c.pointers.new.input)
-    (g.R.Read.remaining c.narrow_numbers.new.input) (g.I.Number.value c.in_ok-n.n) _ c.in_ok-columns.columns c.in_ok-columns.entries
-    (map g.I.Number.value c.in_ok-a_p.a_p.items) (map g.I.Number.value rows)
+    (g.R.Read.remaining c.narrow_numbers.new.input) (g.I.Index.value c.in_ok-n.n) _ c.in_ok-columns.columns c.in_ok-columns.entries
+    (map g.I.Index.value c.in_ok-a_p.a_p.items) (map g.I.Index.value rows)
     (c.in_ok-n.ensures.1 ∙ to_z_pos w64 c.in_ok-columns.columns sizes.0) (to_z_pos w64 c.in_ok-columns.entries sizes.1)
-    (length-map rows g.I.Number.value ∙ c.in_ok-a_i.ensures.1) sizes.2 c.in_ok-a_p.ensures.0 c.in_ok-a_p.ensures.1 c.in_ok-a_i.ensures.0
+    (length-map rows g.I.Index.value ∙ c.in_ok-a_i.ensures.1) sizes.2 c.in_ok-a_p.ensures.0 c.in_ok-a_p.ensures.1 c.in_ok-a_i.ensures.0
     c.in_ok-expect_end.ensures

@@ -93,9 +93,8 @@ write_counts-requires-clause-fits g c = λ k small.
     let is = c.deref.ensures.value in let all = told.long.0 in let here = ap length is in
     let m = count_told w.0 _ _ _ told k (omega (arith, small, here, all)) in
     let size = c.requires.size in let rows = w.2.neighbours.size in let few = m.2 in
-    let exact = g.met.I.Integral.exact_law in
-    subst g.I.Number.fits (sym (ap (λ xs. word xs k) is ∙ m.1))
-    (g.I.Number.between_law (pos 0) (pos m.0) (g.I.Number.value c.args.n) exact (g.met.I.Zero.zero_fits_law exact) c.requires.fits
+    subst g.I.Index.fits (sym (ap (λ xs. word xs k) is ∙ m.1))
+    (g.met.I.Index.between (pos 0) (pos m.0) (g.I.Index.value c.args.n) g.met.I.Index.zero_fits c.requires.fits
     (omega (arith, ints)) (omega (arith, ints, few, size, rows)))
 
 pub write_words-requires : goal.write_words-requires
@@ -132,7 +131,7 @@ write_words-requires-2 g c =
 pub returns-clause-orders : goal.returns-clause-orders
 returns-clause-orders g c = λ graph lists lays.
     let at = goal.at.returns-clause-orders g c in
-    let value = g.I.Number.value in
+    let value = g.I.Index.value in
     let counts = c.write_counts.new.numbers in let words = c.write_words.new.numbers in
     let nv = c.in_ok-nv.nv in let e_len = c.in_ok-e_len.e_len in
     let answer = c.in_ok-blocks.ensures.orders graph lists (laid_words g at.After-lend_cells graph lists lays) in

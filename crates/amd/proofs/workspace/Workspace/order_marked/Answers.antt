@@ -40,7 +40,7 @@ new-info-requires g c = tt
 
 pub returns-then-size-eq0-clause-ordering : goal.returns-then-size-eq0-clause-ordering
 returns-then-size-eq0-clause-ordering g c =
-    let value = g.I.Number.value in let e = c.in_ok-size.ensures in let control = c.args.request.now.control.now in
+    let value = g.I.Index.value in let e = c.in_ok-size.ensures in let control = c.args.request.now.control.now in
     nothing_ordered value (option_copied c.args.request.now.hold) c.in_ok-size.size (value c.args.n) control.dense control.aggressive
     (map value c.args.a_p.now) (map value c.args.a_i.now) c.args.p.now c.args.p_inv.now c.new-info.result e.size c.if-size-eq0.true
     e.places.0 e.places.1 (c.new-info.ensures ∙ ap fresh_info c.if-size-eq0.true)
@@ -62,29 +62,29 @@ jumbled_of-requires g c = tt
 
 pub unreachable-requires : goal.unreachable-requires
 unreachable-requires g c =
-    let value = g.I.Number.value in let e = c.in_ok-size.ensures in let some = c.if-size-eq0.false in
+    let value = g.I.Index.value in let e = c.in_ok-size.ensures in let some = c.if-size-eq0.false in
     says_jumbled (value c.args.n) (map value c.args.a_p.now) (map value c.args.a_i.now) c.in_ok-size.status (e.status some)
     (e.valid some) (sym c.jumbled_of.ensures ∙ c.in_default.is)
 
 pub order-requires-clause-inside : goal.order-requires-clause-inside
 order-requires-clause-inside g c =
-    let value = g.I.Number.value in let e = c.in_ok-size.ensures in let self = c.args.self.now in
+    let value = g.I.Index.value in let e = c.in_ok-size.ensures in let self = c.args.self.now in
     fits_lists c.in_ok-size.size (value c.args.n) (map value c.args.a_p.now) self.rows self.entries (rows_of self.widths)
     (entries_of self.widths) (length c.args.p.now) e.size c.if-size-eq0.false self.made.0 self.made.1 e.places.0 e.inside
 
 pub order-requires-clause-given : goal.order-requires-clause-given
 order-requires-clause-given g c =
     let e = c.in_ok-size.ensures in
-    is_given (option_copied c.args.request.now.hold) c.in_ok-size.size (g.I.Number.value c.args.n)
-    (map g.I.Number.value c.args.a_p.now) (map g.I.Number.value c.args.a_i.now) c.in_ok-size.status e.size c.if-size-eq0.false e.marks
+    is_given (option_copied c.args.request.now.hold) c.in_ok-size.size (g.I.Index.value c.args.n)
+    (map g.I.Index.value c.args.a_p.now) (map g.I.Index.value c.args.a_i.now) c.in_ok-size.status e.size c.if-size-eq0.false e.marks
     e.status e.valid c.in-Some.jumbled (sym c.jumbled_of.ensures ∙ c.in-Some.is) (length c.args.p.now) (length c.args.p_inv.now)
     e.places.0 e.places.1
 
 pub order-requires-clause-fits : goal.order-requires-clause-fits
 order-requires-clause-fits g c = λ k l.
-    let exact = g.met.I.Integral.exact_law in let e = c.in_ok-size.ensures in let same = e.size in let places = e.places in
-    fits_below g.I.Number.fits (g.met.I.Zero.zero_fits_law exact) (λ x y w low high. g.I.Number.between_law x y w exact low high) k
-    (g.I.Number.value c.args.n) c.requires.fits (omega (arith, ints, l, same, places))
+    let e = c.in_ok-size.ensures in let same = e.size in let places = e.places in
+    fits_below g.I.Index.fits g.met.I.Index.zero_fits g.met.I.Index.between k
+    (g.I.Index.value c.args.n) c.requires.fits (omega (arith, ints, l, same, places))
 
 pub invariant_of-self : goal.invariant_of-self
 invariant_of-self g c =
@@ -95,9 +95,9 @@ returns-clause-inside g c = c.in_ok-size.ensures.inside
 
 pub returns-clause-ordering : goal.returns-clause-ordering
 returns-clause-ordering g c =
-    let hold = option_copied c.args.request.now.hold in let z : ℤ = g.I.Number.value c.args.n in
-    let a_p : List ℤ = map g.I.Number.value c.args.a_p.now in let a_i : List ℤ = map g.I.Number.value c.args.a_i.now in
-    let p : List ℤ = map g.I.Number.value c.order.new.p in let q : List ℤ = map g.I.Number.value c.order.new.p_inv in
+    let hold = option_copied c.args.request.now.hold in let z : ℤ = g.I.Index.value c.args.n in
+    let a_p : List ℤ = map g.I.Index.value c.args.a_p.now in let a_i : List ℤ = map g.I.Index.value c.args.a_i.now in
+    let p : List ℤ = map g.I.Index.value c.order.new.p in let q : List ℤ = map g.I.Index.value c.order.new.p_inv in
     let size : ℕ = c.in_ok-size.size in let status = c.in_ok-size.status in
     let e = c.in_ok-size.ensures in let some : size ≢ 0 = c.if-size-eq0.false in
     ordering hold size z c.args.request.now.control.now c.in-Some.jumbled a_p a_i p q c.order.new.info status e.size

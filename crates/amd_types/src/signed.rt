@@ -1,9 +1,9 @@
-// The signed numbers of a caller's type: -1 stands for no parent.
+// The signed numbers of a caller's integers: those of a file, and -1 where there is no parent.
 
 ghost use Rattle.std.specs.Prelude.{◌≡◌, IfSome};
 ghost use Rattle.num_traits.specs.Laws.{Checks};
 
-use amd_types::index::Index;
+use crate::index::Index;
 use num_traits::PrimInt;
 
 /// An integer type whose numbers name rows and places, or none where they are negative.
